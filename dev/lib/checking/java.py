@@ -36,7 +36,7 @@ RELEASE = "17"
 VERSION = "2.0"
 TESTS = {
     "unit": ("JobTest", "ScriptedTest", "LostRunTest"),
-    "queues": ("JdkDelayQueueTest", "RemoteDelayQueueTest", "AcknowledgedByCallTest"),
+    "queues": ("DelayQueueTest", "SharedQueueTest"),
     "served": ("ServedTest", "TurnsTest", "TlsTest"),
     "day": ("HostileDayTest",),
 }

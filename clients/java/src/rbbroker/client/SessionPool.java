@@ -246,7 +246,7 @@ final class SessionPool {
         return sessions.stream().anyMatch(Session::isServed);
     }
 
-    /** Opens a session. Gives whether it is served: if not, others are. */
+    /** Opens a session. Gives whether it is served: if not, others are, or the queue was closed meanwhile. */
     private boolean open(Session session) throws InterruptedException {
         long begun = System.nanoTime();
         try {
@@ -258,7 +258,10 @@ final class SessionPool {
         } finally {
             endOpening(session);
         }
-        return session.isServed();
+        if (isClosed) {
+            giveBack(session);
+        }
+        return !session.isClosed;
     }
 
     /** Whether a session that was begun at this time is waited for: not for long, if there are others. */

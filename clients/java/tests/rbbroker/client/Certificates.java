@@ -1,16 +1,15 @@
 package rbbroker.client;
 
 import static java.nio.charset.StandardCharsets.US_ASCII;
-import static org.junit.Assert.assertEquals;
 
 import java.io.IOException;
 import java.nio.file.Files;
 import java.nio.file.Path;
 import java.security.GeneralSecurityException;
 import java.security.KeyStore;
-import java.util.ArrayList;
 import java.util.Base64;
 import java.util.List;
+import java.util.stream.Stream;
 import javax.net.ssl.KeyManager;
 import javax.net.ssl.KeyManagerFactory;
 import javax.net.ssl.SSLContext;
@@ -80,12 +79,9 @@ final class Certificates {
 
     private void make(String name, String... options) throws Exception {
         String keytool = Path.of(System.getProperty("java.home"), "bin", "keytool").toString();
-        List<String> words = new ArrayList<>(List.of(keytool, "-genkeypair", "-alias", name, "-dname", "CN=" + name,
-            "-keyalg", "EC", "-keystore", path().toString(), "-storetype", "PKCS12", "-storepass", "changeit"));
-        words.addAll(List.of(options));
-        Process process = new ProcessBuilder(words).redirectErrorStream(true).start();
-        String said = new String(process.getInputStream().readAllBytes());
-        assertEquals(said, 0, process.waitFor());
+        List<String> words = List.of(keytool, "-genkeypair", "-alias", name, "-dname", "CN=" + name, "-keyalg", "EC",
+            "-keystore", path().toString(), "-storetype", "PKCS12", "-storepass", "changeit");
+        Server.said(Stream.concat(words.stream(), Stream.of(options)));
     }
 
     private Path path() {

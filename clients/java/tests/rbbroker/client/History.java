@@ -28,12 +28,8 @@ final class History {
         for (Path path : paths) {
             List<String> lines = Files.readAllLines(path);
             assertEquals("history 3", lines.get(0));
-            for (String line : lines.subList(2, lines.size() - 1)) {
-                String[] words = line.split(" ");
-                if (!words[0].equals("keep")) {
-                    note(Arrays.copyOfRange(words, 3, words.length));
-                }
-            }
+            lines.subList(2, lines.size() - 1).stream().map(it -> it.split(" ")).filter(it -> !it[0].equals("keep"))
+                .forEach(it -> note(Arrays.copyOfRange(it, 3, it.length)));
         }
     }
 

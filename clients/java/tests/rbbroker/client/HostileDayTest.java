@@ -1,7 +1,5 @@
 package rbbroker.client;
 
-import static java.util.concurrent.TimeUnit.MILLISECONDS;
-import static java.util.concurrent.TimeUnit.MINUTES;
 import static org.junit.Assert.assertEquals;
 import static org.junit.Assert.assertFalse;
 import static org.junit.Assert.assertTrue;
@@ -16,16 +14,15 @@ import java.util.List;
 import java.util.Map;
 import java.util.Set;
 import java.util.TreeSet;
+import java.util.concurrent.Callable;
 import java.util.concurrent.ConcurrentSkipListSet;
 import java.util.concurrent.CopyOnWriteArrayList;
 import java.util.concurrent.ThreadLocalRandom;
 import java.util.concurrent.atomic.AtomicInteger;
 import java.util.stream.IntStream;
+import java.util.stream.Stream;
 import org.junit.After;
-import org.junit.Rule;
 import org.junit.Test;
-import org.junit.rules.TemporaryFolder;
-import org.junit.rules.Timeout;
 
 /**
  * A day on which all goes wrong: workers are killed while they hold jobs, other clients are silent or lie, one server
@@ -36,21 +33,16 @@ import org.junit.rules.Timeout;
  * noted so twice; or the job is named, since a worker that had it was killed before it could note that, or the full run
  * took no failed job back. The property {@code rbbroker.jobs} is the number of jobs.
  */
-public class HostileDayTest {
+public class HostileDayTest extends QueueTest {
     private static final int JOBS = Integer.getInteger("rbbroker.jobs", 2_000);
     private static final int WORKERS = 3;
     /** Those of a server. More than a run uses on a busy machine, and no more, as it takes time to use up the rest. */
     private static final int SESSIONS = 1_500 + JOBS / 4;
     private static final Object[] POLICY = {"--delay", 2_000_000, "--attempts", 1_000};
 
-    @Rule
-    public final Timeout timeout = new Timeout(20 + JOBS / 500, MINUTES);
-    @Rule
-    public final TemporaryFolder folder = new TemporaryFolder();
-
     private final List<Path> histories = new ArrayList<>();
     private final List<Path> records = new ArrayList<>();
-    private final List<WorkerProcess> workers = new CopyOnWriteArrayList<>();
+    private final List<HostileWorker.Beside> workers = new CopyOnWriteArrayList<>();
     private final List<Path> logs = new CopyOnWriteArrayList<>();
     private final List<Path> killed = new CopyOnWriteArrayList<>();
     private final Set<String> doubted = new ConcurrentSkipListSet<>();
@@ -60,43 +52,40 @@ public class HostileDayTest {
     private Server server;
     private RecordingProxy proxy;
 
+    @Override
+    int longestMinutes() {
+        return 20 + JOBS / 500;
+    }
+
     @After
     public void killAll() throws Exception {
         isOver = true;
-        for (WorkerProcess it : workers) {
+        for (HostileWorker.Beside it : workers) {
             it.kill();
-        }
-        if (server != null) {
-            server.kill();
-        }
-        if (proxy != null) {
-            proxy.close();
         }
     }
 
     @Test
     public void eachJobIsDoneOnceOrNamed() throws Exception {
         begin(1_000_000);
-        List<Nuisance> nuisances = List.of(new Nuisance(proxy.port(), true), new Nuisance(proxy.port(), true),
-            new Nuisance(proxy.port(), false), new Nuisance(proxy.port(), false));
+        List<Nuisance> nuisances = Stream.of(true, true, false, false)
+            .map(isSilent -> new Nuisance(proxy.port(), isSilent)).toList();
         nuisances.forEach(Nuisance::start);
         for (int it = 0; it < WORKERS; it++) {
             startWorker();
         }
-        Thread producer = new Thread(this::produce);
-        producer.start();
-        Thread killer = new Thread(this::killNowAndThen);
-        killer.start();
-        waitForOffers(JOBS / 3);
+        Work<Void> producer = start(this::produce);
+        Work<Void> killer = start(this::killNowAndThen);
+        waitUntil(() -> offered.get() >= JOBS / 3);
         replace(JOBS); // calls, which are fewer than the jobs that follow need
-        waitUntilFull();
+        waitUntil(() -> ask("SIZE").equals("ERR 6 full"));
         replace(1_000_000);
-        producer.join();
+        producer.get();
         assertEquals(JOBS, offered.get() + doubted.size());
-        waitUntilEmpty();
+        waitUntil(this::isEmpty);
         isOver = true;
-        killer.join();
-        for (WorkerProcess it : List.copyOf(workers)) {
+        killer.get();
+        for (HostileWorker.Beside it : List.copyOf(workers)) {
             workers.remove(it);
             it.finish();
         }
@@ -110,21 +99,22 @@ public class HostileDayTest {
 
     /** Starts the first server or the next, with room for this many calls. */
     private void begin(int calls) throws Exception {
-        Path history = folder.getRoot().toPath().resolve("history-" + histories.size());
-        records.add(folder.getRoot().toPath().resolve("record-" + histories.size()));
+        Path history = path("history-" + histories.size());
+        Path record = path("record-" + histories.size());
         List<Object> options = new ArrayList<>(List.of(POLICY));
         options.addAll(List.of("--workers", 16, "--sessions", SESSIONS, "--calls", calls, "--turns", 50));
         options.addAll(List.of("--history", history));
         if (histories.isEmpty()) {
-            server = Server.start(options.toArray());
-            proxy = new RecordingProxy(server.port());
-            proxy.recordTo(records.get(0));
+            server = opened(Server.start(options.toArray()));
+            proxy = opened(new RecordingProxy(server.port()));
+            proxy.recordTo(record);
         } else {
             options.addAll(List.of("--from", histories.get(histories.size() - 1)));
-            proxy.recordTo(records.get(records.size() - 1)); // before a session can begin
-            server = Server.startAt(server.port(), options.toArray());
+            proxy.recordTo(record); // before a session can begin
+            server = opened(Server.startAt(server.port(), options.toArray()));
         }
         histories.add(history);
+        records.add(record);
     }
 
     /** Lets the server end, while clients go on, and checks its history. */
@@ -142,36 +132,31 @@ public class HostileDayTest {
     }
 
     private void startWorker() throws Exception {
-        Path log = folder.getRoot().toPath().resolve("worker-" + logs.size());
-        Files.createFile(log);
-        logs.add(log);
-        workers.add(new WorkerProcess(proxy.port(), log));
+        logs.add(Files.createFile(path("worker-" + logs.size())));
+        workers.add(new HostileWorker.Beside(proxy.port(), logs.get(logs.size() - 1)));
     }
 
     /** Kills one worker after the other, each once it has work. */
-    private void killNowAndThen() {
-        try {
-            while (!isOver && killed.size() < JOBS / 50) {
-                Thread.sleep(ThreadLocalRandom.current().nextInt(200, 600));
-                int it = ThreadLocalRandom.current().nextInt(WORKERS);
-                if (workers.get(it).hasWorked()) {
-                    killed.add(workers.remove(it).kill());
-                    startWorker();
-                }
+    private Void killNowAndThen() throws Exception {
+        while (!isOver && killed.size() < JOBS / 50) {
+            Thread.sleep(ThreadLocalRandom.current().nextInt(200, 600));
+            int it = ThreadLocalRandom.current().nextInt(WORKERS);
+            if (workers.get(it).hasWorked()) {
+                killed.add(workers.remove(it).kill());
+                startWorker();
             }
-        } catch (Exception fault) {
-            throw new IllegalStateException(fault);
         }
+        return null;
     }
 
     /** Offers all jobs, at about 400 a second. One that is in doubt is not offered again. */
-    private void produce() {
+    private Void produce() throws InterruptedException {
         try (RemoteDelayQueue queue = RemoteDelayQueue.builder(proxy.port(), Acknowledge.BY_CALL).waiters(1)
                 .longestSession(Duration.ofSeconds(1)).patience(Duration.ofMinutes(2)).build()) {
             for (int number = 0; number < JOBS; number++) {
                 String payload = String.valueOf(number);
                 try {
-                    queue.offer(new Job(payload, ThreadLocalRandom.current().nextInt(-5, 500), MILLISECONDS));
+                    queue.offer(in(ThreadLocalRandom.current().nextInt(-5, 500), payload));
                     offered.incrementAndGet();
                 } catch (ServerLostException fault) {
                     assertTrue(fault.getMessage(), fault.isInDoubt());
@@ -179,31 +164,24 @@ public class HostileDayTest {
                 }
                 Thread.sleep(number % 2 * 5);
             }
-        } catch (InterruptedException interrupt) {
-            throw new IllegalStateException(interrupt);
         }
+        return null;
     }
 
-    private void waitForOffers(int count) throws InterruptedException {
-        while (offered.get() < count) {
-            Thread.sleep(20);
-        }
-    }
-
-    private void waitUntilFull() throws Exception {
-        while (!ask("SIZE").equals("ERR 6 full")) {
+    private static void waitUntil(Callable<Boolean> condition) throws Exception {
+        while (!condition.call()) {
             Thread.sleep(500);
         }
     }
 
-    private void waitUntilEmpty() throws Exception {
-        // A job that is held is not in the queue, but comes back at once if its worker is killed.
-        for (int times = 0; times < 10; times++) {
-            if (!ask("SIZE").equals("SIZE 0")) {
-                times = -1;
-            }
+    /** Whether the queue is empty for a second: a held job is not in it, but comes back if its worker is killed. */
+    private boolean isEmpty() throws Exception {
+        boolean isEmpty = true;
+        for (int times = 0; isEmpty && times < 10; times++) {
+            isEmpty = ask("SIZE").equals("SIZE 0");
             Thread.sleep(100);
         }
+        return isEmpty;
     }
 
     private String ask(String request) throws Exception {
@@ -258,12 +236,8 @@ public class HostileDayTest {
     private static Map<String, List<Integer>> noted(String what, List<Path> notes) throws Exception {
         Map<String, List<Integer>> attempts = new HashMap<>();
         for (Path log : notes) {
-            for (String line : Files.readAllLines(log)) {
-                String[] words = line.split(" ");
-                if (words[0].equals(what)) {
-                    attempts.computeIfAbsent(words[1], it -> new ArrayList<>()).add(Integer.valueOf(words[2]));
-                }
-            }
+            Files.lines(log).map(it -> it.split(" ")).filter(it -> it[0].equals(what)).forEach(
+                it -> attempts.computeIfAbsent(it[1], job -> new ArrayList<>()).add(Integer.valueOf(it[2])));
         }
         return attempts;
     }

@@ -1,9 +1,18 @@
 package rbbroker.client;
 
+import static org.junit.Assert.assertEquals;
+import static org.junit.Assert.assertTrue;
+
 import java.io.FileOutputStream;
 import java.io.IOException;
+import java.lang.ProcessBuilder.Redirect;
 import java.nio.charset.StandardCharsets;
+import java.nio.file.Files;
+import java.nio.file.Path;
 import java.time.Duration;
+import java.util.List;
+import java.util.concurrent.TimeUnit;
+import java.util.stream.Stream;
 
 /**
  * A worker in a process of its own, which is killed at any moment. The words are a port and a file, to which it adds a
@@ -23,6 +32,39 @@ public final class HostileWorker {
         this.log = new FileOutputStream(log, true);
     }
 
+    /** This program, in a process that does not outlive the tests. */
+    static final class Beside {
+        private final Process process;
+        private final Path log;
+
+        Beside(int port, Path log) throws IOException {
+            this.log = log;
+            Path java = Path.of(System.getProperty("java.home"), "bin", "java");
+            process = Server.run(Redirect.INHERIT, Stream.of(java, "-Xmx64m", "-XX:TieredStopAtLevel=1",
+                "-XX:+UseSerialGC", "-cp", System.getProperty("java.class.path"), HostileWorker.class.getName(), port,
+                log));
+        }
+
+        /** Whether it has taken a job. */
+        boolean hasWorked() throws IOException {
+            return Files.size(log) > 0;
+        }
+
+        /** Kills it by a signal that it can't mind. Gives its notes. */
+        Path kill() throws InterruptedException {
+            process.destroyForcibly();
+            assertEquals(128 + 9, process.waitFor());
+            return log;
+        }
+
+        /** Lets it end in good order. */
+        void finish() throws Exception {
+            process.getOutputStream().close();
+            assertTrue("a worker goes on", process.waitFor(Server.PATIENCE, TimeUnit.SECONDS));
+            assertEquals(0, process.exitValue());
+        }
+    }
+
     /** Whether an attempt of a job is to fail. */
     static boolean isToFail(String payload, int attempt) {
         return attempt == 1 && Integer.parseInt(payload) % 10 == 0;
@@ -36,17 +78,12 @@ public final class HostileWorker {
      */
     public static void main(String[] words) throws Exception {
         HostileWorker worker = new HostileWorker(Integer.parseInt(words[0]), words[1]);
-        Thread[] threads = new Thread[THREADS];
-        for (int it = 0; it < THREADS; it++) {
-            threads[it] = new Thread(worker::work);
-            threads[it].start();
-        }
+        List<Thread> threads = Stream.generate(() -> new Thread(worker::work)).limit(THREADS).toList();
+        threads.forEach(Thread::start);
         while (System.in.read() >= 0) {
             continue;
         }
-        for (Thread it : threads) {
-            it.interrupt();
-        }
+        threads.forEach(Thread::interrupt);
         for (Thread it : threads) {
             it.join();
         }

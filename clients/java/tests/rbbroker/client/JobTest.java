@@ -14,7 +14,8 @@ import java.time.Duration;
 import java.util.List;
 import java.util.Map;
 import java.util.concurrent.Delayed;
-import java.util.concurrent.TimeUnit;
+import java.util.concurrent.Executors;
+import java.util.concurrent.ScheduledExecutorService;
 import org.junit.Test;
 import rbbroker.client.Request.Element;
 
@@ -77,17 +78,9 @@ public class JobTest {
 
     @Test
     public void jobsCompareWithOtherDelayedElements() {
-        Delayed other = new Delayed() {
-            @Override
-            public long getDelay(TimeUnit unit) {
-                return unit.convert(50, SECONDS);
-            }
-
-            @Override
-            public int compareTo(Delayed it) {
-                return Long.compare(getDelay(NANOSECONDS), it.getDelay(NANOSECONDS));
-            }
-        };
+        ScheduledExecutorService timer = Executors.newSingleThreadScheduledExecutor();
+        Delayed other = timer.schedule(() -> { }, 50, SECONDS);
+        timer.shutdownNow();
         assertTrue(new Job("a", 10, SECONDS).compareTo(other) < 0);
         assertTrue(new Job("a", 90, SECONDS).compareTo(other) > 0);
         assertTrue(new Job("a", 10, SECONDS).compareTo(shown(0, SECONDS.toNanos(60), 1, new ServerClock())) < 0);

@@ -2,19 +2,18 @@ package rbbroker.client;
 
 import java.util.List;
 import java.util.concurrent.CopyOnWriteArrayList;
-import java.util.logging.Handler;
 import java.util.logging.Level;
 import java.util.logging.LogRecord;
 import java.util.logging.Logger;
 import java.util.logging.SimpleFormatter;
 
 /** What the package logs, until this is closed. */
-final class Log extends Handler implements AutoCloseable {
+final class Log implements AutoCloseable {
     private final Logger logger = Logger.getLogger("rbbroker.client");
     private final List<LogRecord> records = new CopyOnWriteArrayList<>();
 
     Log() {
-        logger.addHandler(this);
+        logger.setFilter(records::add);
     }
 
     /** The lines of a level. */
@@ -24,15 +23,7 @@ final class Log extends Handler implements AutoCloseable {
     }
 
     @Override
-    public void publish(LogRecord line) {
-        records.add(line);
-    }
-
-    @Override
-    public void flush() { }
-
-    @Override
     public void close() {
-        logger.removeHandler(this);
+        logger.setFilter(null);
     }
 }

@@ -3,7 +3,6 @@ package rbbroker.client;
 import static java.util.concurrent.TimeUnit.HOURS;
 import static java.util.concurrent.TimeUnit.MILLISECONDS;
 import static java.util.concurrent.TimeUnit.MINUTES;
-import static java.util.concurrent.TimeUnit.SECONDS;
 import static org.junit.Assert.assertEquals;
 import static org.junit.Assert.assertFalse;
 import static org.junit.Assert.assertTrue;
@@ -12,17 +11,12 @@ import java.util.List;
 import java.util.Map;
 import java.util.function.LongSupplier;
 import java.util.logging.Level;
-import org.junit.Rule;
 import org.junit.Test;
-import org.junit.rules.Timeout;
 
 /** Ids of a run that may be lost: which server they are used at. */
-public class LostRunTest {
+public class LostRunTest extends QueueTest {
     /** How far the first server's clock is ahead of this machine's. */
     private static final long AHEAD = HOURS.toNanos(1) - System.nanoTime();
-
-    @Rule
-    public final Timeout timeout = Timeout.seconds(60);
 
     /** For how long the first server was there, as far as its client knows. */
     private volatile long lasted;
@@ -45,21 +39,18 @@ public class LostRunTest {
             rest.play(talk);
         };
         try (ScriptedServer server = new ScriptedServer(this::playFirst, second)) {
-            boolean isRemoved = isRemoved(server.port());
+            boolean isRemoved;
+            try (RemoteDelayQueue queue = RemoteDelayQueue.builder(server.port(), Acknowledge.BY_CALL).build()) {
+                Job job = in(600_000, "a");
+                queue.offer(job);
+                assertEquals(5, job.id());
+                Thread.sleep(400); // so long the server was there, as far as the queue knows
+                assertEquals(1, queue.size());
+                Thread.sleep(800);
+                isRemoved = queue.remove(job);
+            }
             server.finish();
             return isRemoved;
-        }
-    }
-
-    private static boolean isRemoved(int port) throws Exception {
-        try (RemoteDelayQueue queue = RemoteDelayQueue.builder(port, Acknowledge.BY_CALL).build()) {
-            Job job = new Job("a", 600, SECONDS);
-            queue.offer(job);
-            assertEquals(5, job.id());
-            Thread.sleep(400); // so long the server was there, as far as the queue knows
-            assertEquals(1, queue.size());
-            Thread.sleep(800);
-            return queue.remove(job);
         }
     }
 

@@ -1,6 +1,7 @@
 package rbbroker.client;
 
 import static java.nio.charset.StandardCharsets.US_ASCII;
+import static java.util.concurrent.TimeUnit.MILLISECONDS;
 import static org.junit.Assert.assertTrue;
 
 import java.io.BufferedReader;
@@ -10,6 +11,7 @@ import java.net.Socket;
 import java.util.List;
 import java.util.concurrent.ThreadLocalRandom;
 import java.util.concurrent.atomic.AtomicInteger;
+import java.util.concurrent.locks.LockSupport;
 
 /** A client that is silent or lies, in one session after the other. What it claims must be refused. */
 final class Nuisance extends Thread {
@@ -65,23 +67,14 @@ final class Nuisance extends Thread {
             return;
         }
         BufferedReader lines = new BufferedReader(new InputStreamReader(socket.getInputStream(), US_ASCII));
-        for (int it = 0; it < 20; it++) {
-            lie(socket, lines);
+        for (int it = 0; it < 20; it++) { // what is not so, or means nothing
+            int kind = random(3);
+            String lie = kind == 0 ? NOISE.get(random(NOISE.size())) : (kind == 1 ? "DONE " : "FAIL ") + random(30_000);
+            String reply = ask(socket, lines, lie);
+            assertTrue(lie + " is answered " + reply, reply.startsWith("ERR "));
+            pause(random(10));
         }
-        seize(socket, lines);
-    }
-
-    /** Says something that is not so, or means nothing. */
-    private void lie(Socket socket, BufferedReader lines) throws IOException {
-        int kind = random(3);
-        String lie = kind == 0 ? NOISE.get(random(NOISE.size())) : (kind == 1 ? "DONE " : "FAIL ") + random(30_000);
-        String reply = ask(socket, lines, lie);
-        assertTrue(lie + " is answered " + reply, reply.startsWith("ERR "));
-        pause(random(10));
-    }
-
-    /** Takes a job if there is one, and leaves with it, in good order or not. */
-    private void seize(Socket socket, BufferedReader lines) throws IOException {
+        // It takes a job if there is one, and leaves with it, in good order or not.
         String reply = ask(socket, lines, "POLLFOR 1000000");
         assertTrue(reply, List.of("ITEM", "NONE", "STOPPED", "ERR").contains(reply.split(" ")[0]));
         if (random(2) == 0) {
@@ -103,10 +96,6 @@ final class Nuisance extends Thread {
     }
 
     private static void pause(int millis) {
-        try {
-            Thread.sleep(millis);
-        } catch (InterruptedException interrupt) {
-            Thread.currentThread().interrupt();
-        }
+        LockSupport.parkNanos(MILLISECONDS.toNanos(millis));
     }
 }

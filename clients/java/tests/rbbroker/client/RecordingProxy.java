@@ -6,8 +6,6 @@ import java.io.BufferedReader;
 import java.io.IOException;
 import java.io.InputStreamReader;
 import java.io.Writer;
-import java.net.InetAddress;
-import java.net.ServerSocket;
 import java.net.Socket;
 import java.nio.file.Files;
 import java.nio.file.Path;
@@ -15,29 +13,22 @@ import java.util.ArrayList;
 import java.util.List;
 import java.util.Queue;
 import java.util.concurrent.ConcurrentLinkedQueue;
-import java.util.concurrent.ThreadLocalRandom;
 import java.util.concurrent.atomic.AtomicInteger;
+import java.util.stream.Collectors;
+import javax.net.ServerSocketFactory;
 
 /**
  * Passes requests on to a server and replies back, and records them as {@code tools/verify} reads them. To the server
  * this is the client, so the record is whole even if a client behind it is killed. docs/HISTORY.md describes a record.
  */
-final class RecordingProxy implements AutoCloseable {
-    private final ServerSocket door;
-    private final int target;
+final class RecordingProxy extends Proxy {
     private final AtomicInteger sessions = new AtomicInteger();
-    private volatile Writer record;
+    private volatile Writer record = Writer.nullWriter();
 
     /** A proxy for the server at this port. It records nothing yet. */
     RecordingProxy(int target) throws IOException {
-        this.target = target;
-        door = new ServerSocket(ThreadLocalRandom.current().nextInt(22_000, 23_000), 200,
-            InetAddress.getLoopbackAddress());
-        start(this::accept);
-    }
-
-    int port() {
-        return door.getLocalPort();
+        super(ServerSocketFactory.getDefault(), target);
+        begin();
     }
 
     /** How many sessions began. */
@@ -51,39 +42,8 @@ final class RecordingProxy implements AutoCloseable {
     }
 
     @Override
-    public void close() throws IOException {
-        door.close();
-    }
-
-    private void accept() {
-        while (!door.isClosed()) {
-            try {
-                Socket client = door.accept();
-                start(() -> serve(client));
-            } catch (IOException closed) {
-                continue;
-            }
-        }
-    }
-
-    private void serve(Socket client) {
-        try (client; Socket server = new Socket(InetAddress.getLoopbackAddress(), target)) {
-            if (server.getLocalPort() == target) {
-                return; // nobody listens, and it found itself
-            }
-            client.setTcpNoDelay(true);
-            server.setTcpNoDelay(true);
-            new Dialogue("s" + sessions.incrementAndGet(), record, client, server).follow();
-        } catch (IOException | InterruptedException lost) {
-            // both are closed
-        }
-    }
-
-    private static Thread start(Runnable work) {
-        Thread thread = new Thread(work);
-        thread.setDaemon(true);
-        thread.start();
-        return thread;
+    void pass(Socket client, Socket server) throws Exception {
+        new Dialogue("s" + sessions.incrementAndGet(), record, client, server, new ConcurrentLinkedQueue<>()).follow();
     }
 
     /** A request that was sent. */
@@ -91,23 +51,17 @@ final class RecordingProxy implements AutoCloseable {
 
     /** One session. */
     private record Dialogue(String name, Writer record, Socket client, Socket server, Queue<Asked> asked) {
-        Dialogue(String name, Writer record, Socket client, Socket server) {
-            this(name, record, client, server, new ConcurrentLinkedQueue<>());
-        }
-
         /** Passes requests on, and replies back until the server ends the session, even if the client is gone. */
-        void follow() throws IOException, InterruptedException {
-            Thread requests = start(this::passRequests);
-            try {
+        void follow() throws Exception {
+            QueueTest.Work<?> requests = QueueTest.start(this::passRequests);
+            try (client; server) {
                 BufferedReader lines = reader(server);
                 for (List<String> reply = nextReply(lines); reply != null; reply = nextReply(lines)) {
                     note(asked.remove(), System.nanoTime(), reply);
                     passReply(String.join("\n", reply) + "\n");
                 }
             } finally {
-                client.close();
-                server.close();
-                requests.join();
+                requests.thread.join();
                 for (Asked it : asked) {
                     note(it, 0, List.of());
                 }
@@ -116,13 +70,12 @@ final class RecordingProxy implements AutoCloseable {
 
         private static List<String> nextReply(BufferedReader lines) throws IOException {
             List<String> reply = new ArrayList<>();
-            int count = 1;
-            while (reply.size() < count) {
+            for (int left = 1; left > 0; left--) {
                 String line = lines.readLine();
                 if (line == null) {
                     return null;
                 }
-                count += line.startsWith("DRAINED ") ? Integer.parseInt(line.substring(8)) : 0;
+                left += line.startsWith("DRAINED ") ? Integer.parseInt(line.substring(8)) : 0;
                 reply.add(line);
             }
             return reply;
@@ -136,50 +89,35 @@ final class RecordingProxy implements AutoCloseable {
             }
         }
 
-        /** Passes requests on until the client ends, and then ends the server's input. */
-        private void passRequests() {
+        /** Passes requests on until the client ends, and then ends the server's input. A truncated line is one too. */
+        private Void passRequests() throws IOException {
             try {
-                BufferedReader lines = reader(client);
+                BufferedReader requests = reader(client);
                 StringBuilder line = new StringBuilder();
-                for (int it = lines.read(); it >= 0; it = lines.read()) {
-                    line.append((char) it);
-                    if (it == '\n') {
-                        pass(line.toString());
+                int it;
+                do {
+                    it = requests.read();
+                    line.append(it < 0 ? "" : (char) it);
+                    if (it == '\n' || it < 0 && line.length() > 0) {
+                        asked.add(new Asked(line.toString().replaceFirst("\n$", ""), System.nanoTime()));
+                        server.getOutputStream().write(line.toString().getBytes(ISO_8859_1));
                         line.setLength(0);
                     }
-                }
-                if (line.length() > 0) {
-                    pass(line.toString()); // a truncated line is answered too
-                }
+                } while (it >= 0);
                 server.shutdownOutput();
             } catch (IOException lost) {
-                hangUp();
-            }
-        }
-
-        private void pass(String line) throws IOException {
-            asked.add(new Asked(line.replaceFirst("\n$", ""), System.nanoTime()));
-            server.getOutputStream().write(line.getBytes(ISO_8859_1));
-        }
-
-        private void hangUp() {
-            try (server) {
                 server.setSoLinger(true, 0);
-            } catch (IOException ignored) {
-                // it is closed
+                server.close();
             }
+            return null;
         }
 
         private void note(Asked it, long received, List<String> reply) throws IOException {
-            if (record == null) {
-                return;
-            }
-            String lines = String.join(", ", reply.stream().map(Dialogue::quoted).toList());
-            String text = "{\"session\": \"" + name + "\", \"sent\": " + it.sent + ", \"received\": "
-                + (reply.isEmpty() ? "null" : received) + ", \"request\": " + quoted(it.request) + ", \"reply\": ["
-                + lines + "]}\n";
+            String lines = reply.stream().map(Dialogue::quoted).collect(Collectors.joining(", "));
             synchronized (record) {
-                record.write(text);
+                record.write(String.format(
+                    "{\"session\": \"%s\", \"sent\": %d, \"received\": %s, \"request\": %s, \"reply\": [%s]}\n", name,
+                    it.sent, reply.isEmpty() ? "null" : received, quoted(it.request), lines));
                 record.flush();
             }
         }
@@ -189,12 +127,8 @@ final class RecordingProxy implements AutoCloseable {
         }
 
         private static String quoted(String text) {
-            StringBuilder quoted = new StringBuilder("\"");
-            for (char it : text.toCharArray()) {
-                boolean isPlain = it >= ' ' && it <= '~' && it != '"' && it != '\\';
-                quoted.append(isPlain ? String.valueOf(it) : String.format("\\u%04x", (int) it));
-            }
-            return quoted.append('"').toString();
+            return text.chars().mapToObj(it -> it >= ' ' && it <= '~' && it != '"' && it != '\\'
+                ? String.valueOf((char) it) : String.format("\\u%04x", it)).collect(Collectors.joining("", "\"", "\""));
         }
     }
 }

@@ -3,14 +3,13 @@ package rbbroker.client;
 import java.io.BufferedReader;
 import java.io.IOException;
 import java.io.InputStreamReader;
-import java.net.InetAddress;
 import java.net.ServerSocket;
 import java.net.Socket;
 import java.nio.charset.StandardCharsets;
-import java.util.ArrayList;
-import java.util.Collections;
 import java.util.List;
-import java.util.concurrent.ThreadLocalRandom;
+import java.util.concurrent.CopyOnWriteArrayList;
+import java.util.concurrent.TimeUnit;
+import javax.net.ServerSocketFactory;
 
 /** A server that plays a script for each connection, in the order in which they come, and hangs up at its end. */
 final class ScriptedServer implements AutoCloseable {
@@ -19,15 +18,20 @@ final class ScriptedServer implements AutoCloseable {
         void play(Talk talk) throws Exception;
     }
 
-    private final ServerSocket door;
-    private final List<Throwable> faults = Collections.synchronizedList(new ArrayList<>());
-    private final List<Socket> sockets = Collections.synchronizedList(new ArrayList<>());
-    private final Thread thread;
+    private final ServerSocket door = Proxy.openDoor(ServerSocketFactory.getDefault());
+    private final List<Socket> sockets = new CopyOnWriteArrayList<>();
+    private final QueueTest.Work<Void> playing;
 
     ScriptedServer(Script... scripts) throws IOException {
-        door = openDoor();
-        thread = new Thread(() -> playAll(scripts));
-        thread.start();
+        playing = QueueTest.start(() -> {
+            for (Script script : scripts) {
+                try (Socket socket = door.accept()) {
+                    sockets.add(socket);
+                    script.play(new Talk(socket));
+                }
+            }
+            return null;
+        });
     }
 
     int port() {
@@ -36,10 +40,7 @@ final class ScriptedServer implements AutoCloseable {
 
     /** Waits until all scripts were played to their ends, and throws what went wrong in them. */
     void finish() throws Exception {
-        thread.join(Server.PATIENCE * 1_000L);
-        if (thread.isAlive() || !faults.isEmpty()) {
-            throw new AssertionError("the scripts were not played: " + faults, faults.isEmpty() ? null : faults.get(0));
-        }
+        playing.get(Server.PATIENCE, TimeUnit.SECONDS);
     }
 
     @Override
@@ -47,31 +48,6 @@ final class ScriptedServer implements AutoCloseable {
         door.close();
         for (Socket it : sockets) {
             it.close();
-        }
-    }
-
-    private static ServerSocket openDoor() throws IOException {
-        for (int tries = 0; ; tries++) {
-            try {
-                int port = ThreadLocalRandom.current().nextInt(23_000, 24_000);
-                return new ServerSocket(port, 50, InetAddress.getLoopbackAddress());
-            } catch (IOException inUse) {
-                if (tries == 20) {
-                    throw inUse;
-                }
-            }
-        }
-    }
-
-    private void playAll(Script... scripts) {
-        for (Script script : scripts) {
-            try (Socket socket = door.accept()) {
-                sockets.add(socket);
-                script.play(new Talk(socket));
-            } catch (Exception | AssertionError fault) {
-                faults.add(fault);
-                return;
-            }
         }
     }
 
@@ -93,30 +69,22 @@ final class ScriptedServer implements AutoCloseable {
 
         /** Expects a line that begins so. */
         Talk hear(String begin) throws IOException {
-            String line = lines.readLine();
-            if (line == null || !line.startsWith(begin)) {
-                throw new AssertionError("heard " + line + " in place of " + begin);
-            }
+            heard(begin);
             return this;
         }
 
         /** Expects this word with a number of at least 1 and at most {@code most}. */
         Talk hearNumber(String word, long most) throws IOException {
-            String line = lines.readLine();
-            long number = Long.parseLong(line.replaceFirst("^" + word + " ", ""));
+            long number = Long.parseLong(heard(word + " "));
             if (number < 1 || number > most) {
-                throw new AssertionError("heard " + line);
+                throw new AssertionError("heard " + word + " " + number);
             }
             return this;
         }
 
         /** Accepts an offer, as a server whose clock is this far ahead of {@link System#nanoTime} does. */
         Talk accept(long id, long ahead) throws IOException {
-            String line = lines.readLine();
-            if (line == null || !line.startsWith("OFFER ")) {
-                throw new AssertionError("heard " + line + " in place of an offer");
-            }
-            long expiry = System.nanoTime() + ahead + Long.parseLong(line.split(" ")[1]);
+            long expiry = System.nanoTime() + ahead + Long.parseLong(heard("OFFER ").split(" ")[0]);
             return say("OFFERED " + id + " " + Long.toUnsignedString(expiry));
         }
 
@@ -157,6 +125,15 @@ final class ScriptedServer implements AutoCloseable {
         /** Ends the connection by a reset. */
         void reset() throws IOException {
             socket.setSoLinger(true, 0);
+        }
+
+        /** Expects a line that begins so. Gives the rest. */
+        private String heard(String begin) throws IOException {
+            String line = lines.readLine();
+            if (line == null || !line.startsWith(begin)) {
+                throw new AssertionError("heard " + line + " in place of " + begin);
+            }
+            return line.substring(begin.length());
         }
     }
 }

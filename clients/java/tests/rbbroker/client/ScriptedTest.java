@@ -12,41 +12,40 @@ import java.time.Duration;
 import java.util.ArrayList;
 import java.util.List;
 import java.util.Map;
-import java.util.concurrent.CountDownLatch;
-import java.util.concurrent.FutureTask;
+import java.util.concurrent.CyclicBarrier;
 import java.util.function.Consumer;
-import org.junit.Rule;
+import java.util.function.IntFunction;
 import org.junit.Test;
-import org.junit.rules.Timeout;
+import rbbroker.client.ScriptedServer.Script;
 
 /** Servers that are lost, full, silent or wrong, as scripts of the protocol. */
-public class ScriptedTest {
-    /** The patience of queues that are to lose it. */
-    private static final Duration SHORT = Duration.ofSeconds(1);
-
-    @Rule
-    public final Timeout timeout = Timeout.seconds(60);
-
-    private static RemoteDelayQueue.Builder at(ScriptedServer server, Acknowledge acknowledge) {
-        return RemoteDelayQueue.builder(server.port(), acknowledge);
-    }
-
-    private static Job due(String payload) {
-        return new Job(payload, 0, SECONDS);
-    }
-
+public class ScriptedTest extends QueueTest {
     private interface Play {
         void with(RemoteDelayQueue queue) throws Exception;
     }
 
-    /** Plays scripts to a queue, which is not closed before they are over. */
-    private static void play(Play play, ScriptedServer.Script... scripts) throws Exception {
-        play(Duration.ofSeconds(20), play, scripts);
+    private static RemoteDelayQueue.Builder builder(int port) {
+        return RemoteDelayQueue.builder(port, Acknowledge.BY_CALL).patience(Duration.ofSeconds(20));
     }
 
-    private static void play(Duration patience, Play play, ScriptedServer.Script... scripts) throws Exception {
+    /** The settings of a queue that is to lose its patience. */
+    private static RemoteDelayQueue.Builder impatient(int port) {
+        return builder(port).patience(Duration.ofSeconds(1));
+    }
+
+    private static RemoteDelayQueue.Builder onTake(int port) {
+        return RemoteDelayQueue.builder(port, Acknowledge.ON_TAKE);
+    }
+
+    /** Plays scripts to a queue, which is not closed before they are over. */
+    private static void play(Play play, Script... scripts) throws Exception {
+        playTo(ScriptedTest::builder, play, scripts);
+    }
+
+    private static void playTo(IntFunction<RemoteDelayQueue.Builder> settings, Play play, Script... scripts)
+            throws Exception {
         try (ScriptedServer server = new ScriptedServer(scripts);
-                RemoteDelayQueue queue = at(server, Acknowledge.BY_CALL).patience(patience).build()) {
+                RemoteDelayQueue queue = settings.apply(server.port()).build()) {
             play.with(queue);
             server.finish();
         }
@@ -58,25 +57,40 @@ public class ScriptedTest {
         return fault;
     }
 
+    /** Has a thread take a job in vain. Gives what it throws. */
+    private static Work<Throwable> startInVain(RemoteDelayQueue queue) {
+        return start(() -> assertThrows(Throwable.class, queue::take));
+    }
+
+    private static void assertThrown(Class<?> expected, Work<Throwable> thrown) throws Exception {
+        assertSame(expected, thrown.get(10, SECONDS).getClass());
+    }
+
+    /** Has a thread close a queue, which waits for what goes on there, unless that has ended. */
+    private static void startClosing(RemoteDelayQueue queue) throws InterruptedException {
+        Thread closing = new Thread(queue::close);
+        closing.start();
+        while (closing.isAlive() && closing.getState() != Thread.State.TIMED_WAITING) {
+            Thread.sleep(1);
+        }
+    }
+
     @Test
     public void nobodyListens() throws Exception {
-        int port;
-        try (ScriptedServer server = new ScriptedServer()) {
-            port = server.port();
-        }
-        try (RemoteDelayQueue queue = RemoteDelayQueue.builder(port, Acknowledge.ON_TAKE)
-                .patience(SHORT).build()) {
+        ScriptedServer gone = new ScriptedServer();
+        gone.close();
+        try (RemoteDelayQueue queue = impatient(gone.port()).build()) {
             lost(false, () -> queue.offer(due("a")));
             lost(false, queue::size);
             ServerLostException fault = assertThrows(ServerLostException.class, queue::take);
             assertFalse(fault.isInDoubt());
-            assertTrue(fault.getMessage(), fault.getMessage().contains("no server at 127.0.0.1:" + port));
+            assertTrue(fault.getMessage(), fault.getMessage().contains("no server at 127.0.0.1:" + gone.port()));
         }
     }
 
     @Test
     public void aServerThatServesNobodyElseIsAskedNothing() throws Exception {
-        play(SHORT, queue -> {
+        playTo(ScriptedTest::impatient, queue -> {
             ServerLostException fault = lost(false, () -> queue.offer(due("a")));
             assertTrue(fault.getMessage(), fault.getMessage().contains("all its workers are busy"));
         }, talk -> talk.hear("AT 0").hearNothing());
@@ -84,19 +98,35 @@ public class ScriptedTest {
 
     @Test
     public void anInterruptWhileServiceIsAwaitedAsksNothing() throws Exception {
-        CountDownLatch isHeard = new CountDownLatch(1);
-        try (ScriptedServer server = new ScriptedServer(talk -> {
+        CyclicBarrier both = new CyclicBarrier(2);
+        play(queue -> {
+            Work<Throwable> wait = startInVain(queue);
+            both.await();
+            wait.thread.interrupt();
+            assertThrown(InterruptedException.class, wait);
+        }, talk -> {
             talk.hear("AT 0");
-            isHeard.countDown();
+            both.await();
             talk.hearNothing();
-        }); RemoteDelayQueue queue = at(server, Acknowledge.BY_CALL).build()) {
-            FutureTask<Class<?>> wait = new FutureTask<>(() -> assertThrows(Throwable.class, queue::take).getClass());
-            Thread thread = new Thread(wait);
-            thread.start();
-            isHeard.await();
-            thread.interrupt();
-            assertSame(InterruptedException.class, wait.get(10, SECONDS));
-            server.finish();
+        });
+    }
+
+    @Test
+    public void aQueueThatIsClosedWhileASessionBeginsEndsItAtOnce() throws Exception {
+        for (int it = 0; it < 5; it++) { // a thread that looks in time gives the session up
+            CyclicBarrier both = new CyclicBarrier(2);
+            play(queue -> {
+                Work<Throwable> wait = start(() -> assertThrows(Throwable.class, queue::poll));
+                both.await();
+                startClosing(queue);
+                both.await();
+                assertThrown(IllegalStateException.class, wait);
+            }, talk -> {
+                talk.hear("AT 0");
+                both.await();
+                both.await();
+                talk.say("ERR 1 syntax").hearAll();
+            });
         }
     }
 
@@ -107,7 +137,7 @@ public class ScriptedTest {
         play(offer, talk -> talk.greet().hear("OFFER 0 a").reset());
         play(offer, talk -> talk.greet().hear("OFFER 0 a").sayBytes("OFFERED 1"));
         play(offer, talk -> talk.greet().hear("OFFER 0 a").sayBytes("OFFERED 1 2"));
-        play(SHORT, offer, talk -> talk.greet().hear("OFFER 0 a").hearNothing());
+        playTo(ScriptedTest::impatient, offer, talk -> talk.greet().hear("OFFER 0 a").hearNothing());
         play(queue -> lost(true, queue::clear), talk -> talk.greet().hear("CLEAR"));
     }
 
@@ -128,8 +158,8 @@ public class ScriptedTest {
 
     @Test
     public void aLookIsNeverInDoubtAndATakeIs() throws Exception {
-        play(SHORT, queue -> lost(false, queue::size), talk -> talk.greet().hear("SIZE").hearNothing());
-        play(SHORT, queue -> lost(true, queue::poll), talk -> talk.greet().hear("POLL").hearNothing());
+        playTo(ScriptedTest::impatient, it -> lost(false, it::size), talk -> talk.greet().hear("SIZE").hearNothing());
+        playTo(ScriptedTest::impatient, it -> lost(true, it::poll), talk -> talk.greet().hear("POLL").hearNothing());
     }
 
     @Test
@@ -193,7 +223,8 @@ public class ScriptedTest {
 
     @Test
     public void whatIsNoBrokerIsAskedNothing() throws Exception {
-        for (String reply : List.of("HTTP/1.1 400 Bad Request", "220 mail.example", "BYE", "NOW x")) {
+        for (String reply : List.of("HTTP/1.1 400 Bad Request", "220 mail.example", "BYE", "NOW x",
+                "NOW 18446744073709551616")) {
             play(queue -> {
                 ServerLostException fault = lost(false, () -> queue.offer(due("a")));
                 assertSame(UnknownReplyException.class, fault.getClass());
@@ -218,51 +249,40 @@ public class ScriptedTest {
 
     @Test
     public void aJobThatIsGivenAtAnInterruptIsReturned() throws Exception {
-        CountDownLatch isHeard = new CountDownLatch(1);
-        CountDownLatch isInterrupted = new CountDownLatch(1);
-        try (ScriptedServer server = new ScriptedServer(talk -> {
-            talk.greet().hear("POLLFOR 250000000");
-            isHeard.countDown();
-            isInterrupted.await();
-            talk.say("ITEM 4 0 1 a").hear("DONE 4").say("DONE 4").hear("SIZE").say("SIZE 0");
-        }); RemoteDelayQueue queue = at(server, Acknowledge.ON_TAKE).build()) {
-            FutureTask<String> wait = new FutureTask<>(() -> {
+        CyclicBarrier both = new CyclicBarrier(2);
+        playTo(ScriptedTest::onTake, queue -> {
+            Work<String> wait = start(() -> {
                 String payload = queue.take().payload();
                 return payload + (Thread.currentThread().isInterrupted() ? ", interrupted" : "");
             });
-            Thread thread = new Thread(wait);
-            thread.start();
-            isHeard.await();
-            thread.interrupt();
-            isInterrupted.countDown();
+            both.await();
+            wait.thread.interrupt();
+            both.await();
             assertEquals("a, interrupted", wait.get(10, SECONDS));
             assertEquals(0, queue.size());
-            server.finish();
-        }
+        }, talk -> {
+            talk.greet().hear("POLLFOR 250000000");
+            both.await();
+            both.await();
+            talk.say("ITEM 4 0 1 a").hear("DONE 4").say("DONE 4").hear("SIZE").say("SIZE 0");
+        });
     }
 
     @Test
     public void aJobThatIsGivenToAClosedQueueGoesBack() throws Exception {
-        CountDownLatch isHeard = new CountDownLatch(1);
-        CountDownLatch isClosed = new CountDownLatch(1);
-        try (ScriptedServer server = new ScriptedServer(talk -> {
+        CyclicBarrier both = new CyclicBarrier(2);
+        play(queue -> {
+            Work<Throwable> wait = startInVain(queue);
+            both.await();
+            startClosing(queue);
+            both.await();
+            assertThrown(IllegalStateException.class, wait);
+        }, talk -> {
             talk.greet().hear("POLLFOR ");
-            isHeard.countDown();
-            isClosed.await();
+            both.await();
+            both.await();
             talk.say("ITEM 4 0 1 a").hearFarewell();
-        }); RemoteDelayQueue queue = at(server, Acknowledge.BY_CALL).build()) {
-            FutureTask<Class<?>> wait = new FutureTask<>(() -> assertThrows(Throwable.class, queue::take).getClass());
-            new Thread(wait).start();
-            isHeard.await();
-            Thread closing = new Thread(queue::close);
-            closing.start();
-            while (closing.getState() != Thread.State.TIMED_WAITING) {
-                Thread.sleep(5);
-            }
-            isClosed.countDown();
-            assertSame(IllegalStateException.class, wait.get(10, SECONDS));
-            server.finish();
-        }
+        });
     }
 
     @Test
@@ -274,24 +294,18 @@ public class ScriptedTest {
 
     @Test
     public void aTimedPollAsksForWhatIsLeft() throws Exception {
-        try (ScriptedServer server = new ScriptedServer(talk -> {
+        Play poll = queue -> assertNull(queue.poll(5, SECONDS));
+        playTo(port -> builder(port).longestWait(Duration.ofSeconds(3)), poll, talk -> {
             talk.greet().hear("POLLFOR 3000000000");
             Thread.sleep(2_500);
             talk.say("NONE").hearNumber("POLLFOR", SECONDS.toNanos(2) + 500_000_000).say("NONE");
-        }); RemoteDelayQueue queue = at(server, Acknowledge.ON_TAKE).longestWait(Duration.ofSeconds(3)).build()) {
-            assertNull(queue.poll(5, SECONDS));
-            server.finish();
-        }
+        });
     }
 
     @Test
     public void anAcknowledgementThatIsLostLosesNoJob() throws Exception {
-        ScriptedServer.Script script = talk -> talk.greet().hear("POLL").say("ITEM 4 0 1 a").hear("DONE 4");
-        try (ScriptedServer server = new ScriptedServer(script);
-                RemoteDelayQueue queue = at(server, Acknowledge.ON_TAKE).build()) {
-            assertEquals("a", queue.poll().payload());
-            server.finish();
-        }
+        playTo(ScriptedTest::onTake, queue -> assertEquals("a", queue.poll().payload()),
+            talk -> talk.greet().hear("POLL").say("ITEM 4 0 1 a").hear("DONE 4"));
     }
 
     @Test
@@ -314,7 +328,7 @@ public class ScriptedTest {
             play(queue -> assertThrows(UnknownReplyException.class, queue.poll()::done),
                 talk -> talk.greet().hear("POLL").say("ITEM 4 0 1 a").hear("DONE 4").say(reply).hearNothing());
         }
-        for (String reply : List.of("DEAD 5", "AGAIN 5", "DONE 4")) {
+        for (String reply : List.of("DEAD 5", "AGAIN 5", "AGAIN 18446744073709551616 5", "DONE 4")) {
             play(queue -> assertThrows(UnknownReplyException.class, queue.poll()::fail),
                 talk -> talk.greet().hear("POLL").say("ITEM 4 0 1 a").hear("FAIL 4").say(reply).hearNothing());
         }

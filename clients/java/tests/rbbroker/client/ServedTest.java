@@ -7,90 +7,92 @@ import static java.util.concurrent.TimeUnit.SECONDS;
 import static org.junit.Assert.assertEquals;
 import static org.junit.Assert.assertFalse;
 import static org.junit.Assert.assertNull;
+import static org.junit.Assert.assertSame;
 import static org.junit.Assert.assertThrows;
 import static org.junit.Assert.assertTrue;
 
 import java.io.BufferedReader;
 import java.io.InputStreamReader;
 import java.net.Socket;
-import java.nio.file.Path;
 import java.time.Duration;
 import java.util.ArrayList;
 import java.util.List;
-import java.util.concurrent.Callable;
-import java.util.concurrent.FutureTask;
-import org.junit.After;
-import org.junit.Rule;
+import java.util.stream.IntStream;
+import java.util.stream.Stream;
 import org.junit.Test;
-import org.junit.rules.TemporaryFolder;
-import org.junit.rules.Timeout;
 
 /**
  * What a queue at a server has beyond the JDK's: jobs that are held, sessions that end, servers that follow each other.
  */
-public class ServedTest {
+public class ServedTest extends QueueTest {
     private static final Object[] POLICY = {"--delay", 1_000_000, "--attempts", 3};
 
-    @Rule
-    public final Timeout timeout = Timeout.seconds(120);
-    @Rule
-    public final TemporaryFolder folder = new TemporaryFolder();
-
-    private final List<AutoCloseable> open = new ArrayList<>();
     private Server server;
+    private boolean isToEnd;
 
-    @After
-    public void closeAll() throws Exception {
-        for (AutoCloseable it : open) {
-            it.close();
+    /** Starts a server that ends in good order when the queues are closed, since they have used all of its sessions. */
+    private void serve(int workers, int sessions, Object... more) throws Exception {
+        Object[] options = {"--workers", workers, "--sessions", sessions, "--history", path("history")};
+        server = opened(Server.start(Stream.of(options, POLICY, more).flatMap(Stream::of).toArray()));
+        isToEnd = true;
+        opened(() -> assertEnded(0));
+    }
+
+    /** Starts a server that ends in good order when the queues are closed and the rest of its sessions is used up. */
+    private void serveMore(int workers, int sessions, Object... more) throws Exception {
+        serve(workers, sessions, more);
+        opened(() -> server.useUp());
+    }
+
+    /** Starts another server at the port of the one that has ended. */
+    private void serveNext(Object... options) throws Exception {
+        isToEnd = false;
+        server = opened(Server.startAt(server.port(), options));
+    }
+
+    /** Expects that the server has ended in good order, with this many jobs lost, unless that was seen before. */
+    private void assertEnded(int lost) throws Exception {
+        if (isToEnd) {
+            isToEnd = false;
+            List<String> lines = server.end();
+            assertTrue(lines.get(0), lines.get(0).matches("sessions \\d+ faults 0 lost " + lost));
+            assertEquals(lines.get(1), Server.replay(path("history"), POLICY));
         }
     }
 
-    private Path history(String name) {
-        return folder.getRoot().toPath().resolve(name);
-    }
-
-    private Server serve(int workers, int sessions, Object... more) throws Exception {
-        List<Object> options = new ArrayList<>(List.of("--workers", workers, "--sessions", sessions));
-        options.addAll(List.of(POLICY));
-        options.addAll(List.of("--history", history("history")));
-        options.addAll(List.of(more));
-        server = Server.start(options.toArray());
-        open.add(0, server);
-        return server;
-    }
-
-    private RemoteDelayQueue.Builder builder(Acknowledge acknowledge) {
-        return RemoteDelayQueue.builder(server.port(), acknowledge);
-    }
-
-    private RemoteDelayQueue opened(RemoteDelayQueue.Builder builder) {
-        RemoteDelayQueue queue = builder.build();
-        open.add(0, queue);
-        return queue;
+    private RemoteDelayQueue.Builder builder() {
+        return RemoteDelayQueue.builder(server.port(), Acknowledge.BY_CALL);
     }
 
     private RemoteDelayQueue byCall() {
-        return opened(builder(Acknowledge.BY_CALL));
+        return opened(builder().build());
     }
 
-    private static Job due(String payload) {
-        return new Job(payload, 0, SECONDS);
+    private RemoteDelayQueue onTake(long longestSession) {
+        return opened(RemoteDelayQueue.builder(server.port(), Acknowledge.ON_TAKE)
+            .longestSession(Duration.ofMillis(longestSession)).build());
     }
 
-    private <T> FutureTask<T> start(Callable<T> work) {
-        FutureTask<T> task = new FutureTask<>(work);
-        Thread thread = new Thread(task);
-        thread.setDaemon(true);
-        thread.start();
-        return task;
+    /** Has threads take a job each, and do it. */
+    private static List<Work<String>> startTaking(RemoteDelayQueue queue, int threads) {
+        return IntStream.range(0, threads).mapToObj(it -> start(() -> {
+            Job job = queue.take();
+            job.done();
+            return job.payload();
+        })).toList();
     }
 
-    /** Expects that the server has ended in good order, with this many jobs lost. */
-    private void assertEnded(int lost) throws Exception {
-        List<String> lines = server.end();
-        assertTrue(lines.get(0), lines.get(0).matches("sessions \\d+ faults 0 lost " + lost));
-        assertEquals(lines.get(1), Server.replay(history("history"), POLICY));
+    private static void offer(RemoteDelayQueue queue, int times) {
+        for (int it = 0; it < times; it++) {
+            queue.offer(due("a"));
+        }
+    }
+
+    /** Offers jobs in a session before: the next one has to do what it is to show within three seconds. */
+    private void offerBefore(int times) {
+        try (RemoteDelayQueue queue = builder().build()) {
+            offer(queue, times);
+        }
     }
 
     // Jobs.
@@ -98,45 +100,40 @@ public class ServedTest {
     @Test
     public void aJobThatFailsComesBackUntilItsLastAttempt() throws Exception {
         serve(2, 1);
-        try (RemoteDelayQueue queue = byCall()) {
-            queue.offer(due("letter"));
-            for (int attempt = 1; attempt <= 3; attempt++) {
-                Job job = queue.take();
-                assertEquals("letter", job.payload());
-                assertEquals(attempt, job.attempt());
-                assertEquals(attempt < 3, job.fail());
-            }
-            assertNull(queue.poll(20, MILLISECONDS));
+        RemoteDelayQueue queue = byCall();
+        queue.offer(due("letter"));
+        for (int attempt = 1; attempt <= 3; attempt++) {
+            Job job = queue.take();
+            assertEquals("letter", job.payload());
+            assertEquals(attempt, job.attempt());
+            assertEquals(attempt < 3, job.fail());
         }
-        assertEnded(0);
+        assertNull(queue.poll(20, MILLISECONDS));
     }
 
     @Test
     public void aJobIsAnsweredOnceByWhoeverHasIt() throws Exception {
-        serve(2, 2);
-        try (RemoteDelayQueue queue = byCall()) {
-            Job offered = due("a");
-            assertThrows(NotHeldException.class, offered::done);
-            queue.offer(offered);
-            assertThrows(NotHeldException.class, offered::done);
-            assertThrows(NotHeldException.class, queue.peek()::fail);
-            Job job = queue.take();
-            start(() -> {
-                job.done();
-                return null;
-            }).get(30, SECONDS);
-            assertThrows(NotHeldException.class, job::done);
-            assertThrows(NotHeldException.class, job::fail);
-            assertEquals(0, queue.size());
-        }
-        server.useUp();
-        assertEnded(0);
+        serveMore(2, 2);
+        RemoteDelayQueue queue = byCall();
+        Job offered = due("a");
+        assertThrows(NotHeldException.class, offered::done);
+        queue.offer(offered);
+        assertThrows(NotHeldException.class, offered::done);
+        assertThrows(NotHeldException.class, queue.peek()::fail);
+        Job job = queue.take();
+        start(() -> {
+            job.done();
+            return null;
+        }).get(30, SECONDS);
+        assertThrows(NotHeldException.class, job::done);
+        assertThrows(NotHeldException.class, job::fail);
+        assertEquals(0, queue.size());
     }
 
     @Test
     public void aJobThatWasAcknowledgedWhenItWasTakenIsGoneForEver() throws Exception {
         serve(2, 2);
-        try (RemoteDelayQueue queue = opened(builder(Acknowledge.ON_TAKE))) {
+        try (RemoteDelayQueue queue = onTake(30_000)) {
             queue.offer(due("a"));
             Job job = queue.take();
             job.done();
@@ -144,10 +141,7 @@ public class ServedTest {
             queue.addAll(List.of(due("b"), due("c")));
             assertEquals(2, queue.drainTo(new ArrayList<>()));
         }
-        try (RemoteDelayQueue queue = byCall()) {
-            assertNull(queue.poll(20, MILLISECONDS));
-        }
-        assertEnded(0);
+        assertNull(byCall().poll(20, MILLISECONDS));
     }
 
     @Test
@@ -158,90 +152,77 @@ public class ServedTest {
             queue.offer(due("a"));
             job = queue.take();
         }
-        ServerLostException fault = assertThrows(ServerLostException.class, job::done);
-        assertFalse(fault.isInDoubt());
-        try (RemoteDelayQueue queue = byCall()) {
-            Job again = queue.take();
-            assertEquals(2, again.attempt());
-            assertEquals("a", again.payload());
-            assertFalse(job.equals(again));
-            again.done();
-        }
-        assertEnded(0);
+        assertFalse(assertThrows(ServerLostException.class, job::done).isInDoubt());
+        Job again = byCall().take();
+        assertEquals(2, again.attempt());
+        assertEquals("a", again.payload());
+        assertFalse(job.equals(again));
+        again.done();
     }
 
     @Test
     public void aJobThatWasTakenCanBeOfferedAgain() throws Exception {
         serve(2, 1);
-        try (RemoteDelayQueue queue = byCall()) {
-            queue.offer(due("a"));
-            Job job = queue.take();
-            long id = job.id();
-            queue.offer(job);
-            assertTrue(job.id() != id);
-            assertEquals(1, queue.size());
-            job.done();
-            Job other = queue.take();
-            assertEquals(job, other);
-            assertEquals(1, other.attempt());
-            other.done();
-        }
-        assertEnded(0);
+        RemoteDelayQueue queue = byCall();
+        queue.offer(due("a"));
+        Job job = queue.take();
+        long id = job.id();
+        queue.offer(job);
+        assertTrue(job.id() != id);
+        assertEquals(1, queue.size());
+        job.done();
+        Job other = queue.take();
+        assertEquals(job, other);
+        assertEquals(1, other.attempt());
+        other.done();
     }
 
     @Test
     public void aSessionHolds64Jobs() throws Exception {
-        serve(2, 1);
-        try (RemoteDelayQueue queue = opened(builder(Acknowledge.BY_CALL).waiters(1))) {
-            List<Job> jobs = new ArrayList<>();
-            for (int it = 0; it < 70; it++) {
-                queue.offer(due("a"));
-            }
-            assertEquals(60, queue.drainTo(jobs, 60));
-            assertEquals(4, queue.drainTo(jobs));
-            jobs.get(0).done();
-            jobs.set(0, queue.take());
-            assertEquals(5, queue.size());
-            jobs.forEach(Job::done);
-            jobs.clear();
-            assertEquals(5, queue.drainTo(jobs));
-            jobs.forEach(Job::done);
-        }
-        assertEnded(0);
+        serve(2, 2);
+        offerBefore(70);
+        RemoteDelayQueue queue = opened(builder().waiters(1).build());
+        List<Job> jobs = new ArrayList<>();
+        assertEquals(60, queue.drainTo(jobs, 60));
+        assertEquals(4, queue.drainTo(jobs));
+        jobs.get(0).done();
+        jobs.set(0, queue.take());
+        assertEquals(5, queue.size());
+        jobs.forEach(Job::done);
+        jobs.clear();
+        assertEquals(5, queue.drainTo(jobs));
+        jobs.forEach(Job::done);
     }
 
     @Test
     public void moreThan64HeldJobsTakeAnotherSession() throws Exception {
-        serve(2, 2);
-        try (RemoteDelayQueue queue = opened(builder(Acknowledge.BY_CALL).waiters(1))) {
-            List<Job> jobs = new ArrayList<>();
-            for (int it = 0; it < 129; it++) {
-                queue.offer(due("a"));
-            }
-            for (int it = 0; it < 128; it++) {
-                jobs.add(queue.take());
-            }
-            assertThrows(TooManyHeldException.class, queue::take);
-            assertThrows(TooManyHeldException.class, queue::poll);
-            assertThrows(TooManyHeldException.class, () -> queue.poll(1, SECONDS));
-            assertThrows(TooManyHeldException.class, () -> queue.drainTo(new ArrayList<>()));
-            assertEquals(1, queue.size());
-            jobs.forEach(Job::done);
-            queue.take().done();
+        serve(2, 3);
+        offerBefore(129);
+        RemoteDelayQueue queue = opened(builder().waiters(1).build());
+        List<Job> jobs = new ArrayList<>();
+        while (jobs.size() < 128) {
+            jobs.add(queue.take());
         }
-        assertEnded(0);
+        assertThrows(TooManyHeldException.class, queue::take);
+        assertThrows(TooManyHeldException.class, queue::poll);
+        assertThrows(TooManyHeldException.class, () -> queue.poll(1, SECONDS));
+        assertThrows(TooManyHeldException.class, () -> queue.drainTo(new ArrayList<>()));
+        assertEquals(1, queue.size());
+        jobs.forEach(Job::done);
+        queue.take().done();
     }
 
     @Test
     public void momentsOf64Bits() throws Exception {
         serve(2, 2);
-        try (Socket socket = server.connect(); RemoteDelayQueue queue = byCall()) {
+        RemoteDelayQueue queue = byCall();
+        try (Socket socket = server.connect()) {
             BufferedReader lines = new BufferedReader(new InputStreamReader(socket.getInputStream(), US_ASCII));
             String offers = "OFFERAT 18446744073709551615 b\nOFFERAT 9223372036854775808 a\n";
             socket.getOutputStream().write(offers.getBytes(US_ASCII));
             assertEquals("OFFERED 0 18446744073709551615", lines.readLine());
             assertEquals("OFFERED 1 9223372036854775808", lines.readLine());
-            queue.offer(new Job("soon", 600, SECONDS));
+            queue.offer(in(600_000, "soon"));
             Job soon = queue.peek();
             assertTrue(soon.getDelay(SECONDS) > 500);
             assertTrue(queue.remove(soon));
@@ -254,23 +235,20 @@ public class ServedTest {
             assertEquals(Long.MAX_VALUE, queue.peek().getDelay(NANOSECONDS));
             assertNull(queue.poll());
         }
-        assertEnded(0);
     }
 
     @Test
     public void theDelayOfAnothersJobIsThatOfTheServersClock() throws Exception {
         serve(2, 2);
-        try (RemoteDelayQueue other = byCall(); RemoteDelayQueue queue = byCall()) {
-            Thread.sleep(500);
-            Job offered = new Job("a", 10, SECONDS);
-            other.offer(offered);
-            assertTrue(queue.peek().getDelay(NANOSECONDS) > SECONDS.toNanos(10)); // all of its expiry
-            queue.offer(new Job("b", 20, SECONDS));
-            long known = offered.getDelay(NANOSECONDS);
-            long told = queue.peek().getDelay(NANOSECONDS);
-            assertTrue(known + " and " + told, Math.abs(known - told) < MILLISECONDS.toNanos(200));
-        }
-        assertEnded(0);
+        RemoteDelayQueue queue = byCall();
+        Thread.sleep(500);
+        Job offered = in(10_000, "a");
+        byCall().offer(offered);
+        assertTrue(queue.peek().getDelay(NANOSECONDS) > SECONDS.toNanos(10)); // all of its expiry
+        queue.offer(in(20_000, "b"));
+        long known = offered.getDelay(NANOSECONDS);
+        long told = queue.peek().getDelay(NANOSECONDS);
+        assertTrue(known + " and " + told, Math.abs(known - told) < MILLISECONDS.toNanos(200));
     }
 
     // Sessions.
@@ -278,7 +256,7 @@ public class ServedTest {
     @Test
     public void anIdleQueueLeavesItsServer() throws Exception {
         serve(1, 1);
-        RemoteDelayQueue queue = opened(builder(Acknowledge.BY_CALL).longestSession(Duration.ofMillis(300)));
+        RemoteDelayQueue queue = opened(builder().longestSession(Duration.ofMillis(300)).build());
         queue.offer(due("a"));
         queue.take().done();
         assertEnded(0);
@@ -287,7 +265,7 @@ public class ServedTest {
     @Test
     public void aSessionIsKeptWhileItHoldsAJob() throws Exception {
         serve(1, 1);
-        RemoteDelayQueue queue = opened(builder(Acknowledge.BY_CALL).longestSession(Duration.ofMillis(100)));
+        RemoteDelayQueue queue = opened(builder().longestSession(Duration.ofMillis(100)).build());
         queue.offer(due("a"));
         Job job = queue.take();
         Thread.sleep(500);
@@ -298,144 +276,98 @@ public class ServedTest {
 
     @Test
     public void aThreadThatWaitsGoesFromSessionToSession() throws Exception {
-        serve(2, 6);
-        RemoteDelayQueue.Builder builder = builder(Acknowledge.BY_CALL).longestSession(Duration.ofMillis(200));
-        RemoteDelayQueue queue = opened(builder.longestWait(Duration.ofMillis(20)));
-        FutureTask<String> taken = start(() -> {
-            Job job = queue.take();
-            job.done();
-            return job.payload();
-        });
+        serveMore(2, 6);
+        RemoteDelayQueue queue = opened(builder().longestSession(Duration.ofMillis(200))
+            .longestWait(Duration.ofMillis(20)).build());
+        List<Work<String>> taken = startTaking(queue, 1);
         Thread.sleep(700);
         queue.offer(due("a"));
-        assertEquals("a", taken.get(30, SECONDS));
-        server.useUp();
-        assertEnded(0);
+        assertEquals("a", taken.get(0).get(30, SECONDS));
     }
 
     @Test
     public void moreThreadsThanMayWait() throws Exception {
         serve(3, 3);
-        RemoteDelayQueue queue = opened(builder(Acknowledge.BY_CALL).waiters(2));
-        List<FutureTask<String>> taken = new ArrayList<>();
-        for (int it = 0; it < 8; it++) {
-            taken.add(start(() -> {
-                Job job = queue.take();
-                job.done();
-                return job.payload();
-            }));
+        RemoteDelayQueue queue = opened(builder().waiters(2).build());
+        List<Work<String>> taken = startTaking(queue, 8);
+        assertNull(start(() -> queue.poll(300, MILLISECONDS)).get(30, SECONDS));
+        offer(queue, 8);
+        for (Work<String> it : taken) {
+            assertEquals("a", it.get(30, SECONDS));
         }
-        FutureTask<Job> polled = start(() -> queue.poll(300, MILLISECONDS));
-        assertNull(polled.get(30, SECONDS));
-        for (int it = 0; it < 8; it++) {
-            queue.offer(due("a" + it));
-        }
-        for (FutureTask<String> it : taken) {
-            assertTrue(it.get(30, SECONDS).startsWith("a"));
-        }
-        queue.close();
-        assertEnded(0);
     }
 
     @Test
     public void noOfferWaitsForTheThreadThatWaits() throws Exception {
         serve(2, 2);
-        RemoteDelayQueue queue = opened(builder(Acknowledge.BY_CALL).waiters(1).longestWait(Duration.ofSeconds(20)));
-        FutureTask<Job> taken = start(queue::take);
+        RemoteDelayQueue queue = opened(builder().waiters(1).longestWait(Duration.ofSeconds(20)).build());
+        Work<Job> taken = start(queue::take);
         Thread.sleep(300);
         long begun = System.nanoTime();
-        queue.offer(new Job("late", 60, SECONDS));
+        queue.offer(in(60_000, "late"));
         assertEquals(1, queue.size());
         assertTrue(System.nanoTime() - begun < SECONDS.toNanos(5));
         queue.offer(due("a"));
-        Job job = taken.get(10, SECONDS);
-        job.done();
-        queue.close();
-        assertEnded(0);
+        taken.get(10, SECONDS).done();
     }
 
     @Test
     public void aThreadThatHoldsJobsNeedsOneWorkerOfTheServer() throws Exception {
         serve(1, 1);
-        try (RemoteDelayQueue queue = byCall()) {
-            queue.addAll(List.of(due("a"), due("b"), due("c")));
-            List<Job> jobs = new ArrayList<>(List.of(queue.take(), queue.take()));
-            jobs.add(queue.poll());
-            assertEquals(0, queue.size());
-            jobs.forEach(Job::done);
-        }
-        assertEnded(0);
+        RemoteDelayQueue queue = byCall();
+        offer(queue, 3);
+        List<Job> jobs = List.of(queue.take(), queue.take(), queue.poll());
+        assertEquals(0, queue.size());
+        jobs.forEach(Job::done);
     }
 
     @Test
     public void aServerWithFewerWorkersThanThreads() throws Exception {
-        serve(1, 20);
+        serveMore(1, 20);
         RemoteDelayQueue queue = byCall();
-        List<FutureTask<String>> taken = new ArrayList<>();
-        for (int it = 0; it < 3; it++) {
-            taken.add(start(() -> {
-                Job job = queue.take();
-                job.done();
-                return job.payload();
-            }));
-        }
+        List<Work<String>> taken = startTaking(queue, 3);
         Thread.sleep(500);
-        for (String payload : List.of("a", "b", "c")) {
-            queue.offer(due(payload));
-        }
-        for (FutureTask<String> it : taken) {
+        queue.addAll(List.of(due("a"), due("b"), due("c")));
+        for (Work<String> it : taken) {
             assertTrue(List.of("a", "b", "c").contains(it.get(15, SECONDS)));
         }
-        queue.close();
-        server.useUp();
-        assertEnded(0);
     }
 
     @Test
     public void aJobIsAnsweredWhileTheThreadThatTookItWaits() throws Exception {
-        serve(1, 50); // the wait may outlast a session, which another one follows
-        RemoteDelayQueue queue = opened(builder(Acknowledge.BY_CALL).longestWait(Duration.ofMillis(100)));
+        serveMore(1, 50); // the wait may outlast a session, which another one follows
+        RemoteDelayQueue queue = opened(builder().longestWait(Duration.ofMillis(100)).build());
         queue.offer(due("a"));
         Job job = queue.take();
-        FutureTask<Job> taken = start(() -> queue.poll(3, SECONDS));
+        Work<Job> taken = start(() -> queue.poll(3, SECONDS));
         Thread.sleep(200);
         long begun = System.nanoTime();
         job.done();
         assertTrue(System.nanoTime() - begun < SECONDS.toNanos(2));
         assertNull(taken.get(30, SECONDS));
-        queue.close();
-        server.useUp();
-        assertEnded(0);
     }
 
     @Test
     public void aQueueThatIsClosedWhileAThreadWaits() throws Exception {
-        serve(2, 2);
+        serveMore(2, 2);
         RemoteDelayQueue queue = byCall();
-        FutureTask<Class<?>> wait = start(() -> assertThrows(Throwable.class, queue::take).getClass());
+        Work<Throwable> wait = start(() -> assertThrows(Throwable.class, queue::take));
         Thread.sleep(300);
         queue.close();
-        assertEquals(IllegalStateException.class, wait.get(10, SECONDS));
+        assertSame(IllegalStateException.class, wait.get(10, SECONDS).getClass());
         assertThrows(IllegalStateException.class, () -> queue.offer(due("a")));
         assertThrows(IllegalStateException.class, queue::size);
-        queue.close();
-        server.useUp();
-        assertEnded(0);
     }
 
     @Test
     public void manyQueuesAtOneServer() throws Exception {
         serve(4, 4);
         List<RemoteDelayQueue> queues = List.of(byCall(), byCall(), byCall(), byCall());
-        for (RemoteDelayQueue it : queues) {
-            it.offer(due("a"));
-        }
+        queues.forEach(it -> it.offer(due("a")));
         for (RemoteDelayQueue it : queues) {
             it.take().done();
         }
         assertEquals(0, queues.get(0).size());
-        queues.forEach(RemoteDelayQueue::close);
-        assertEnded(0);
     }
 
     // Servers.
@@ -443,8 +375,8 @@ public class ServedTest {
     @Test
     public void aFullRun() throws Exception {
         serve(1, 30, "--calls", 3);
-        RemoteDelayQueue queue = opened(builder(Acknowledge.BY_CALL).patience(Duration.ofMillis(500)));
-        queue.addAll(List.of(due("a"), due("b")));
+        RemoteDelayQueue queue = opened(builder().patience(Duration.ofMillis(500)).build());
+        offer(queue, 2);
         Job job = queue.take();
         assertThrows(FullException.class, () -> queue.offer(due("c")));
         assertThrows(FullException.class, queue::size);
@@ -458,30 +390,26 @@ public class ServedTest {
 
     @Test
     public void aDoneInAFullRunIsHeard() throws Exception {
-        serve(1, 2, "--calls", 2);
-        try (RemoteDelayQueue queue = opened(builder(Acknowledge.BY_CALL).patience(Duration.ofMillis(50)))) {
-            queue.offer(due("a"));
-            Job job = queue.take();
-            assertThrows(FullException.class, queue::size);
-            job.done();
-        }
-        server.useUp();
-        assertEnded(0);
+        serveMore(1, 2, "--calls", 2);
+        RemoteDelayQueue queue = opened(builder().patience(Duration.ofMillis(500)).build());
+        queue.offer(due("a"));
+        Job job = queue.take();
+        assertThrows(FullException.class, queue::size);
+        job.done();
     }
 
     @Test
     public void whatOneServerLeftTheNextOneGives() throws Exception {
         serve(2, 5, "--calls", 3);
-        RemoteDelayQueue queue = opened(builder(Acknowledge.BY_CALL).longestSession(Duration.ofMillis(200)));
-        queue.addAll(List.of(due("a"), new Job("b", 1, SECONDS)));
+        RemoteDelayQueue queue = opened(builder().longestSession(Duration.ofMillis(200)).build());
+        queue.addAll(List.of(due("a"), in(1_000, "b")));
         queue.take().done();
-        FutureTask<Boolean> offered = start(() -> queue.offer(new Job("c", 3, SECONDS)));
+        Work<Boolean> offered = start(() -> queue.offer(in(3_000, "c")));
         Thread.sleep(200);
         assertFalse(offered.isDone());
         server.useUp();
         assertEnded(0);
-        Server next = Server.startAt(server.port(), "--workers", 2, "--sessions", 50, "--from", history("history"));
-        open.add(next);
+        serveNext("--workers", 2, "--sessions", 50, "--from", path("history"));
         assertTrue(offered.get(30, SECONDS));
         for (String payload : List.of("b", "c")) {
             Job job = queue.take();
@@ -489,21 +417,20 @@ public class ServedTest {
             job.done();
         }
         queue.close();
-        next.useUp();
-        assertTrue(next.end().get(1).contains("\"given\":2,\"left\":0,\"offered\":1,\"opening\":1"));
+        server.useUp();
+        assertTrue(server.end().get(1).contains("\"given\":2,\"left\":0,\"offered\":1,\"opening\":1"));
     }
 
     @Test
     public void aServerThatIsKilled() throws Exception {
         serve(2, 2);
         RemoteDelayQueue queue = byCall();
-        queue.addAll(List.of(due("a"), due("b")));
+        offer(queue, 2);
         Job job = queue.take();
         server.kill();
         ServerLostException fault = assertThrows(ServerLostException.class, job::done);
         assertFalse(fault.getMessage(), fault.isInDoubt());
-        Server next = Server.startAt(server.port(), "--sessions", 2);
-        open.add(next);
+        serveNext("--sessions", 2);
         queue.offer(due("c"));
         Job other = queue.take();
         assertEquals("c", other.payload());
@@ -514,11 +441,10 @@ public class ServedTest {
     public void aThreadThatWaitsWhileItsServerIsKilled() throws Exception {
         serve(2, 2);
         RemoteDelayQueue queue = byCall();
-        FutureTask<String> taken = start(() -> queue.take().payload());
+        Work<String> taken = start(() -> queue.take().payload());
         Thread.sleep(300);
         server.kill();
-        Server next = Server.startAt(server.port(), "--sessions", 4);
-        open.add(next);
+        serveNext("--sessions", 4);
         queue.offer(due("a"));
         assertEquals("a", taken.get(30, SECONDS));
     }
@@ -528,50 +454,41 @@ public class ServedTest {
     @Test
     public void aJobOfALostRunIsNotTakenForAnothersJob() throws Exception {
         serve(2, 50);
-        try (RemoteDelayQueue queue = byCall(); RemoteDelayQueue stranger = byCall()) {
-            Job job = new Job("mine", 600, SECONDS);
-            queue.offer(job);
-            assertEquals(1, queue.size());
-            server.kill();
-            open.add(Server.startAt(server.port(), "--sessions", 50));
-            Job other = new Job("a-strangers", 600, SECONDS);
-            stranger.offer(other);
-            assertEquals(job.id(), other.id());
-            assertFalse(queue.remove(job));
-            assertEquals("a-strangers", queue.peek().payload());
-            assertTrue(stranger.remove(other));
-            assertEquals(0, queue.size());
-        }
+        RemoteDelayQueue queue = byCall();
+        RemoteDelayQueue stranger = byCall();
+        Job job = in(600_000, "mine");
+        queue.offer(job);
+        assertEquals(1, queue.size());
+        server.kill();
+        serveNext("--sessions", 50);
+        Job other = in(600_000, "a-strangers");
+        stranger.offer(other);
+        assertEquals(job.id(), other.id());
+        assertFalse(queue.remove(job));
+        assertEquals("a-strangers", queue.peek().payload());
+        assertTrue(stranger.remove(other));
+        assertEquals(0, queue.size());
     }
 
     @Test
-    public void aJobIsRemovedThoughItsSessionHasEnded() throws Exception {
-        serve(2, 50);
-        RemoteDelayQueue queue = opened(builder(Acknowledge.ON_TAKE).longestSession(Duration.ofMillis(400)));
-        Job job = new Job("a", 600, SECONDS);
-        queue.offer(job);
+    public void aJobIsRemovedThoughItsSessionHasEndedAlsoByAnotherQueue() throws Exception {
+        serveMore(2, 50);
+        RemoteDelayQueue queue = onTake(400);
+        Job job = in(600_000, "a");
+        Job another = in(600_000, "b");
+        queue.addAll(List.of(job, another));
         Thread.sleep(1_500);
+        assertTrue(byCall().remove(another));
         assertTrue(queue.remove(job));
         assertFalse(queue.remove(job));
         assertEquals(0, queue.size());
     }
 
     @Test
-    public void aJobIsRemovedByAnotherQueue() throws Exception {
-        serve(2, 50);
-        RemoteDelayQueue queue = opened(builder(Acknowledge.ON_TAKE).longestSession(Duration.ofMillis(400)));
-        Job job = new Job("a", 600, SECONDS);
-        queue.offer(job);
-        Thread.sleep(1_500);
-        assertTrue(byCall().remove(job));
-        assertEquals(0, queue.size());
-    }
-
-    @Test
     public void aJobIsRemovedThoughItsServerWasReplaced() throws Exception {
         serve(2, 50);
-        RemoteDelayQueue queue = opened(builder(Acknowledge.ON_TAKE).longestSession(Duration.ofSeconds(8)));
-        Job job = new Job("a", 600, SECONDS);
+        RemoteDelayQueue queue = onTake(8_000);
+        Job job = in(600_000, "a");
         queue.offer(job);
         for (int it = 0; it < 7; it++) { // so the moment goes on, from which the next server does
             assertEquals(1, queue.size());
@@ -579,23 +496,22 @@ public class ServedTest {
         }
         server.useUp();
         assertEnded(0);
-        Server next = Server.startAt(server.port(), "--sessions", 50, "--from", history("history"));
-        open.add(next);
+        serveNext("--sessions", 50, "--from", path("history"));
         assertTrue(queue.remove(job));
     }
 
     @Test
     public void aJobThatWasShownIsRemovedWhileOthersWait() throws Exception {
-        serve(4, 50);
+        serveMore(4, 50);
         RemoteDelayQueue other = byCall();
-        RemoteDelayQueue queue = opened(builder(Acknowledge.BY_CALL).waiters(2));
-        other.offer(new Job("a", 600, SECONDS));
+        RemoteDelayQueue queue = opened(builder().waiters(2).build());
+        other.offer(in(600_000, "a"));
         start(() -> queue.poll(3, SECONDS));
         start(() -> queue.poll(3, SECONDS));
         Thread.sleep(300);
         for (int it = 0; it < 20; it++) {
             assertTrue(queue.remove(queue.peek()));
-            other.offer(new Job("a", 600, SECONDS));
+            other.offer(in(600_000, "a"));
         }
     }
 }

@@ -5,13 +5,14 @@ import static org.junit.Assert.assertTrue;
 
 import java.io.BufferedReader;
 import java.io.IOException;
+import java.lang.ProcessBuilder.Redirect;
 import java.net.InetSocketAddress;
 import java.net.Socket;
 import java.nio.file.Path;
-import java.util.ArrayList;
 import java.util.List;
 import java.util.concurrent.ThreadLocalRandom;
 import java.util.concurrent.TimeUnit;
+import java.util.stream.Stream;
 
 /**
  * The program as a server, at a port that nobody else uses. The property {@code rbbroker.program} names the program.
@@ -26,9 +27,9 @@ final class Server implements AutoCloseable {
     private final Process process;
     private final BufferedReader output;
 
-    private Server(int port, Process process) {
+    private Server(int port, Object... options) throws IOException {
         this.port = port;
-        this.process = process;
+        process = run(Redirect.DISCARD, Stream.concat(Stream.of(PROGRAM, "serve", "--port", port), Stream.of(options)));
         output = process.inputReader();
     }
 
@@ -45,12 +46,11 @@ final class Server implements AutoCloseable {
 
     /** Starts a server with these options at this port, or gives null if it does not start. */
     static Server startAt(int port, Object... options) throws IOException {
-        Process process = run("serve", List.of("--port", port), options);
-        Server server = new Server(port, process);
+        Server server = new Server(port, options);
         if (("listening 127.0.0.1:" + port).equals(server.output.readLine())) {
             return server;
         }
-        process.destroyForcibly();
+        server.kill();
         return null;
     }
 
@@ -99,30 +99,27 @@ final class Server implements AutoCloseable {
 
     /** Checks that a history is legal and its retries are right, by the program's own replay. Gives the audit line. */
     static String replay(Path history, Object... policy) throws Exception {
-        Process process = run("replay", List.of(history, "--chains"), policy);
-        String said = new String(process.getInputStream().readAllBytes()).strip();
-        assertTrue("replay goes on", process.waitFor(10 * PATIENCE, TimeUnit.SECONDS));
-        assertEquals(said, 0, process.exitValue());
-        return said;
+        return said(Stream.concat(Stream.of(PROGRAM, "replay", history, "--chains"), Stream.of(policy)));
     }
 
     /** What tools/verify says at last of a history and the record of all its clients. */
     static String verify(Path history, Path record) throws Exception {
-        List<String> words = List.of(System.getProperty("rbbroker.verify"), history.toString(), record.toString(),
-            "--all");
-        Process process = new ProcessBuilder(words).redirectErrorStream(true).start();
-        String said = new String(process.getInputStream().readAllBytes()).strip();
-        assertEquals(said, 0, process.waitFor());
+        String said = said(Stream.of(System.getProperty("rbbroker.verify"), history, record, "--all"));
         return said.substring(said.lastIndexOf('\n') + 1);
     }
 
-    private static Process run(String command, List<?> first, Object... rest) throws IOException {
-        List<String> words = new ArrayList<>(List.of(PROGRAM, command));
-        first.forEach(it -> words.add(it.toString()));
-        for (Object it : rest) {
-            words.add(it.toString());
-        }
-        Process process = new ProcessBuilder(words).redirectError(ProcessBuilder.Redirect.DISCARD).start();
+    /** What a command says that succeeds. */
+    static String said(Stream<?> words) throws Exception {
+        Process process = run(Redirect.DISCARD, words);
+        String said = new String(process.getInputStream().readAllBytes()).strip();
+        assertTrue("it goes on: " + said, process.waitFor(10 * PATIENCE, TimeUnit.SECONDS));
+        assertEquals(said, 0, process.exitValue());
+        return said;
+    }
+
+    /** Runs a command, which does not outlive the tests. */
+    static Process run(Redirect errors, Stream<?> words) throws IOException {
+        Process process = new ProcessBuilder(words.map(String::valueOf).toList()).redirectError(errors).start();
         Runtime.getRuntime().addShutdownHook(new Thread(process::destroyForcibly));
         return process;
     }

@@ -5,63 +5,47 @@ import static org.junit.Assert.assertThrows;
 import static org.junit.Assert.assertTrue;
 
 import java.io.IOException;
+import java.lang.ProcessBuilder.Redirect;
 import java.net.Socket;
 import java.nio.file.Files;
 import java.nio.file.Path;
-import java.time.Duration;
 import java.util.Map;
 import java.util.concurrent.ThreadLocalRandom;
 import java.util.stream.Collectors;
+import java.util.stream.Stream;
 import javax.net.ssl.SSLContext;
-import org.junit.Rule;
 import org.junit.Test;
-import org.junit.rules.TemporaryFolder;
-import org.junit.rules.Timeout;
 
 /**
  * A server behind stunnel, with the settings of docs/OPERATING.md: it knows its clients by their certificates. The
  * properties {@code rbbroker.stunnel} and {@code rbbroker.page} name the program and the page.
  */
-public class StunnelTest {
-    @Rule
-    public final Timeout timeout = Timeout.seconds(120);
-    @Rule
-    public final TemporaryFolder folder = new TemporaryFolder();
-
+public class StunnelTest extends QueueTest {
     @Test
     public void aClientThatStunnelKnowsAndOthers() throws Exception {
-        Certificates certificates = new Certificates(folder.getRoot().toPath());
+        Certificates certificates = new Certificates(path(""));
         int port = ThreadLocalRandom.current().nextInt(22_000, 23_000);
-        try (Server server = Server.start("--sessions", 50)) {
-            Process stunnel = start(certificates, port, server.port());
-            try (RemoteDelayQueue queue = queue(port, certificates.context("client", "authority"));
-                    RemoteDelayQueue stranger = queue(port, certificates.context("stranger", "authority"));
-                    RemoteDelayQueue astray = queue(port, certificates.context("client", "stranger"))) {
-                awaitDoor(port);
-                queue.offer(new Job("a", Duration.ZERO));
-                Job job = queue.take();
-                assertEquals("a", job.payload());
-                job.done();
-                assertThrows(TlsException.class, stranger::size);
-                assertThrows(TlsException.class, astray::size);
-            } finally {
-                stunnel.destroyForcibly().waitFor();
-            }
-        }
-    }
-
-    private static RemoteDelayQueue queue(int port, SSLContext side) {
-        return RemoteDelayQueue.builder(port, Acknowledge.BY_CALL).tls(side.getSocketFactory()).build();
-    }
-
-    private Process start(Certificates certificates, int port, int target) throws Exception {
-        Path settings = folder.getRoot().toPath().resolve("stunnel.conf");
-        Files.writeString(settings, "foreground = yes\npid =\n" + settingsOfThePage(Map.of(
-            "accept = 7012", "accept = 127.0.0.1:" + port, "127.0.0.1:7011", "127.0.0.1:" + target,
+        Server server = opened(Server.start("--sessions", 50));
+        Path settings = Files.writeString(path("stunnel.conf"), "foreground = yes\npid =\n" + settingsOfThePage(Map.of(
+            "accept = 7012", "accept = 127.0.0.1:" + port, "127.0.0.1:7011", "127.0.0.1:" + server.port(),
             "/etc/stunnel/server.pem", certificates.pem("server", true).toString(),
             "/etc/stunnel/clients.pem", certificates.pem("client", false).toString())));
-        return new ProcessBuilder(System.getProperty("rbbroker.stunnel"), settings.toString())
-            .redirectErrorStream(true).redirectOutput(ProcessBuilder.Redirect.DISCARD).start();
+        Process stunnel = Server.run(Redirect.DISCARD, Stream.of(System.getProperty("rbbroker.stunnel"), settings));
+        opened(() -> stunnel.destroyForcibly().waitFor());
+        RemoteDelayQueue queue = queue(port, certificates.context("client", "authority"));
+        RemoteDelayQueue stranger = queue(port, certificates.context("stranger", "authority"));
+        RemoteDelayQueue astray = queue(port, certificates.context("client", "stranger"));
+        awaitDoor(port);
+        queue.offer(due("a"));
+        Job job = queue.take();
+        assertEquals("a", job.payload());
+        job.done();
+        assertThrows(TlsException.class, stranger::size);
+        assertThrows(TlsException.class, astray::size);
+    }
+
+    private RemoteDelayQueue queue(int port, SSLContext side) {
+        return opened(RemoteDelayQueue.builder(port, Acknowledge.BY_CALL).tls(side.getSocketFactory()).build());
     }
 
     /** What the page shows, with these words in the place of its own. */

@@ -9,70 +9,54 @@ import static org.junit.Assert.assertThrows;
 import static org.junit.Assert.assertTrue;
 
 import java.time.Duration;
-import java.util.ArrayList;
 import java.util.List;
-import java.util.concurrent.FutureTask;
-import javax.net.ssl.SSLContext;
-import org.junit.After;
+import javax.net.ssl.SSLSocketFactory;
 import org.junit.BeforeClass;
 import org.junit.ClassRule;
-import org.junit.Rule;
 import org.junit.Test;
 import org.junit.rules.TemporaryFolder;
-import org.junit.rules.Timeout;
 
 /** Servers behind TLS, with certificates that are right and wrong. */
-public class TlsTest {
+public class TlsTest extends QueueTest {
     @ClassRule
     public static final TemporaryFolder FOLDER = new TemporaryFolder();
 
     private static Certificates certificates;
-
-    @Rule
-    public final Timeout timeout = Timeout.seconds(120);
-
-    private final List<AutoCloseable> open = new ArrayList<>();
 
     @BeforeClass
     public static void makeCertificates() throws Exception {
         certificates = new Certificates(FOLDER.getRoot().toPath());
     }
 
-    @After
-    public void closeAll() throws Exception {
-        for (AutoCloseable it : open) {
-            it.close();
-        }
-    }
-
     private Server serve(int sessions) throws Exception {
-        Server server = Server.start("--workers", 4, "--sessions", sessions);
-        open.add(server);
-        return server;
+        return opened(Server.start("--workers", 4, "--sessions", sessions));
     }
 
     /** A proxy that shows this certificate and wants one of the authority's, in front of a server at this port. */
     private TlsProxy proxy(String name, int port) throws Exception {
-        TlsProxy proxy = new TlsProxy(certificates.context(name, "authority"), true, port);
-        open.add(0, proxy);
-        return proxy;
+        return opened(new TlsProxy(certificates.context(name, "authority"), port));
     }
 
-    private RemoteDelayQueue queue(String host, int port, SSLContext side) {
-        RemoteDelayQueue queue = RemoteDelayQueue.builder(port, Acknowledge.BY_CALL).host(host)
-            .tls(side.getSocketFactory()).patience(Duration.ofSeconds(60)).build();
-        open.add(0, queue);
-        return queue;
+    /** A queue that looks for this host, shows this certificate and trusts this authority. */
+    private RemoteDelayQueue queue(String host, int port, String name, String authority, int patience)
+            throws Exception {
+        SSLSocketFactory factory = certificates.context(name, authority).getSocketFactory();
+        return opened(RemoteDelayQueue.builder(port, Acknowledge.BY_CALL).host(host).tls(factory)
+            .patience(Duration.ofSeconds(patience)).build());
     }
 
-    private RemoteDelayQueue queue(TlsProxy proxy, String name, String authority) throws Exception {
-        return queue("127.0.0.1", proxy.port(), certificates.context(name, authority));
+    private RemoteDelayQueue queue(int port, String name, String authority) throws Exception {
+        return queue("127.0.0.1", port, name, authority, 60);
+    }
+
+    private RemoteDelayQueue queue(TlsProxy proxy) throws Exception {
+        return queue(proxy.port(), "client", "authority");
     }
 
     /** Expects that a call meets a fault of TLS at once, and asks the server nothing. */
     private static void assertRefused(String says, RemoteDelayQueue queue) {
         long begun = System.nanoTime();
-        TlsException fault = assertThrows(TlsException.class, () -> queue.offer(new Job("a", Duration.ZERO)));
+        TlsException fault = assertThrows(TlsException.class, () -> queue.offer(due("a")));
         assertFalse(fault.isInDoubt());
         assertTrue(fault.getMessage(), fault.getMessage().matches("no server at [^ ]*: .*" + says + ".*"));
         assertThrows(TlsException.class, queue::take);
@@ -81,9 +65,9 @@ public class TlsTest {
 
     @Test
     public void certificatesThatAreRight() throws Exception {
-        RemoteDelayQueue queue = queue(proxy("server", serve(50).port()), "client", "authority");
-        Job late = new Job("late", 600, SECONDS);
-        queue.addAll(List.of(new Job("a", Duration.ZERO), late));
+        RemoteDelayQueue queue = queue(proxy("server", serve(50).port()));
+        Job late = in(600_000, "late");
+        queue.addAll(List.of(due("a"), late));
         Job job = queue.take();
         assertEquals("a", job.payload());
         assertTrue(job.fail());
@@ -97,72 +81,57 @@ public class TlsTest {
 
     @Test
     public void anInterruptEndsAWaitAndNoSession() throws Exception {
-        RemoteDelayQueue queue = queue(proxy("server", serve(1).port()), "client", "authority");
-        queue.offer(new Job("a", Duration.ZERO));
+        RemoteDelayQueue queue = queue(proxy("server", serve(1).port()));
+        queue.offer(due("a"));
         Job job = queue.take();
-        FutureTask<Class<?>> wait = new FutureTask<>(() -> assertThrows(Throwable.class, queue::take).getClass());
-        Thread thread = new Thread(wait);
-        thread.start();
+        Work<Throwable> wait = start(() -> assertThrows(Throwable.class, queue::take));
         Thread.sleep(300);
-        thread.interrupt();
-        assertSame(InterruptedException.class, wait.get(10, SECONDS));
+        wait.thread.interrupt();
+        assertSame(InterruptedException.class, wait.get(10, SECONDS).getClass());
         job.done();
     }
 
     @Test
     public void aServerThatIsReplaced() throws Exception {
         Server server = serve(50);
-        TlsProxy proxy = proxy("server", server.port());
-        RemoteDelayQueue queue = queue(proxy, "client", "authority");
-        queue.offer(new Job("a", Duration.ZERO));
+        RemoteDelayQueue queue = queue(proxy("server", server.port()));
+        queue.offer(due("a"));
         Job job = queue.take();
         server.kill();
         assertThrows(ServerLostException.class, job::done);
-        open.add(Server.startAt(server.port(), "--sessions", 50));
-        queue.offer(new Job("b", Duration.ZERO));
+        opened(Server.startAt(server.port(), "--sessions", 50));
+        queue.offer(due("b"));
         assertEquals("b", queue.take().payload());
     }
 
     @Test
-    public void aServerOfAnotherAuthority() throws Exception {
-        assertRefused("unable to find valid certification path", queue(proxy("server", 1), "client", "stranger"));
-    }
-
-    @Test
-    public void aCertificateThatHasExpired() throws Exception {
-        assertRefused("validity check failed", queue(proxy("expired", 1), "client", "authority"));
-    }
-
-    @Test
-    public void aCertificateForAnotherHost() throws Exception {
+    public void certificatesThatTheClientRefuses() throws Exception {
         int port = proxy("server", 1).port();
-        assertRefused("No (name matching|subject alternative).*", queue("localhost", port,
-            certificates.context("client", "authority")));
+        assertRefused("unable to find valid certification path", queue(port, "client", "stranger"));
+        assertRefused("validity check failed", queue(proxy("expired", 1)));
+        assertRefused("No (name matching|subject alternative).*", queue("localhost", port, "client", "authority", 60));
     }
 
     @Test
     public void aClientWithoutACertificateOrWithAStrangers() throws Exception {
-        assertRefused("(certificate|alert).*", queue(proxy("server", serve(50).port()), null, "authority"));
-        assertRefused("(certificate|alert).*", queue(proxy("server", serve(50).port()), "stranger", "authority"));
+        int port = proxy("server", serve(50).port()).port();
+        assertRefused("(certificate|alert).*", queue(port, null, "authority"));
+        assertRefused("(certificate|alert).*", queue(port, "stranger", "authority"));
     }
 
     @Test
     public void aServerWithoutTls() throws Exception {
         ScriptedServer.Script plain = talk -> talk.sayBytes("ERR 8 line\nERR 8 line\n").hearAll();
-        try (ScriptedServer server = new ScriptedServer(plain, plain)) {
-            assertRefused("", queue("127.0.0.1", server.port(), certificates.context("client", "authority")));
-        }
+        assertRefused("", queue(opened(new ScriptedServer(plain, plain)).port(), "client", "authority"));
     }
 
     @Test
     public void nobodyListens() throws Exception {
-        int port = proxy("server", 1).port();
-        closeAll();
-        RemoteDelayQueue queue = RemoteDelayQueue.builder(port, Acknowledge.BY_CALL).patience(Duration.ofSeconds(1))
-            .tls(certificates.context("client", "authority").getSocketFactory()).build();
-        open.add(queue);
+        TlsProxy proxy = proxy("server", 1);
+        proxy.close();
+        RemoteDelayQueue queue = queue("127.0.0.1", proxy.port(), "client", "authority", 1);
         ServerLostException fault = assertThrows(ServerLostException.class, queue::size);
         assertSame(ServerLostException.class, fault.getClass());
-        assertTrue(fault.getMessage(), fault.getMessage().contains("no server at 127.0.0.1:" + port));
+        assertTrue(fault.getMessage(), fault.getMessage().contains("no server at 127.0.0.1:" + proxy.port()));
     }
 }

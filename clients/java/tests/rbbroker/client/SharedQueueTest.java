@@ -17,12 +17,12 @@ import java.util.concurrent.ExecutorService;
 import java.util.concurrent.Executors;
 import java.util.concurrent.Future;
 import java.util.concurrent.ThreadLocalRandom;
-import java.util.concurrent.atomic.AtomicBoolean;
+import java.util.stream.Stream;
 import org.junit.After;
 import org.junit.Test;
 
-/** What the pages say of a queue that several threads use: waits, interrupts, and that each element is given once. */
-public abstract class SharedQueueBehaviour extends DelayQueueBehaviour {
+/** Queues that several threads use: waits, interrupts, and that each element is given once. */
+public class SharedQueueTest extends EveryQueueTest {
     private static final String END = "end";
 
     private final ExecutorService threads = Executors.newCachedThreadPool();
@@ -33,12 +33,8 @@ public abstract class SharedQueueBehaviour extends DelayQueueBehaviour {
         assertTrue(threads.awaitTermination(30, SECONDS));
     }
 
-    private <T> Future<T> start(Callable<T> work) {
-        return threads.submit(work);
-    }
-
     private <T> Future<T> startAndWait(Callable<T> work) throws InterruptedException {
-        Future<T> future = start(work);
+        Future<T> future = threads.submit(work);
         Thread.sleep(300);
         assertFalse(future.isDone());
         return future;
@@ -71,76 +67,64 @@ public abstract class SharedQueueBehaviour extends DelayQueueBehaviour {
 
     @Test
     public void aTimedPollWaitsForAnElementThatIsOffered() throws Exception {
-        Future<String> polled = startAndWait(() -> payload(queue.poll(60, SECONDS)));
-        queue.add(due("a"));
-        assertEquals("a", polled.get(30, SECONDS));
-    }
-
-    @Test
-    public void theLongestTimeoutIsWaited() throws Exception {
-        Future<String> polled = startAndWait(() -> payload(queue.poll(Long.MAX_VALUE, SECONDS)));
-        queue.add(due("a"));
-        assertEquals("a", polled.get(30, SECONDS));
+        for (long timeout : List.of(60L, Long.MAX_VALUE)) {
+            Future<String> polled = startAndWait(() -> payload(queue.poll(timeout, SECONDS)));
+            queue.add(due("a"));
+            assertEquals("a", polled.get(30, SECONDS));
+        }
     }
 
     @Test
     public void eachWaitingThreadGetsAnElement() throws Exception {
-        List<Future<String>> taken = new ArrayList<>();
-        for (int it = 0; it < 6; it++) {
-            taken.add(start(this::take));
-        }
+        List<Future<String>> taken = startTaking();
         Thread.sleep(100);
         numbers(6).forEach(it -> queue.add(in(50, it)));
-        List<String> payloads = new ArrayList<>();
-        for (Future<String> it : taken) {
-            payloads.add(it.get(30, SECONDS));
-        }
-        assertEquals(numbers(6), payloads.stream().sorted().toList());
+        assertEquals(numbers(6), allOf(taken).stream().sorted().toList());
     }
 
     @Test
     public void noOfferWaitsForThreadsThatWait() throws Exception {
-        List<Future<String>> taken = new ArrayList<>();
-        for (int it = 0; it < 6; it++) {
-            taken.add(startAndWait(this::take));
-        }
+        List<Future<String>> taken = startTaking();
+        Thread.sleep(300);
+        assertTrue(taken.stream().noneMatch(Future::isDone));
         long begun = System.nanoTime();
         numbers(6).forEach(it -> queue.add(in(4_000, it)));
         assertTrue(System.nanoTime() - begun < SECONDS.toNanos(3));
-        for (Future<String> it : taken) {
-            it.get(30, SECONDS);
+        allOf(taken);
+    }
+
+    /** Has six threads take an element each. */
+    private List<Future<String>> startTaking() {
+        return Stream.generate(() -> threads.submit(this::take)).limit(6).toList();
+    }
+
+    private static <T> List<T> allOf(List<Future<T>> work) throws Exception {
+        List<T> results = new ArrayList<>();
+        for (Future<T> it : work) {
+            results.add(it.get(60, SECONDS));
         }
+        return results;
     }
 
     // Interrupts.
 
-    /** What became of a thread that was interrupted while it waited: whether it was thrown out, and had its mark. */
-    private String interruptedIn(Callable<Job> wait) throws Exception {
-        AtomicBoolean isMarked = new AtomicBoolean();
-        Queue<Throwable> thrown = new ConcurrentLinkedQueue<>();
-        Thread thread = new Thread(() -> {
-            try {
-                settle(wait.call());
-            } catch (Exception fault) {
-                thrown.add(fault);
-                isMarked.set(Thread.currentThread().isInterrupted());
-            }
+    /** Interrupts a thread that waits, which is thrown out without its mark. */
+    private static void assertInterruptible(Callable<Job> wait) throws Exception {
+        Work<Boolean> work = start(() -> {
+            assertThrows(InterruptedException.class, wait::call);
+            return Thread.currentThread().isInterrupted();
         });
-        thread.start();
         Thread.sleep(200);
-        assertTrue(thread.isAlive());
-        thread.interrupt();
-        thread.join(5_000);
-        assertFalse("it goes on waiting", thread.isAlive());
-        assertFalse(isMarked.get());
-        return thrown.element().getClass().getSimpleName();
+        assertFalse(work.isDone());
+        work.thread.interrupt();
+        assertFalse(work.get(5, SECONDS));
     }
 
     @Test
     public void anInterruptEndsATake() throws Exception {
-        assertEquals("InterruptedException", interruptedIn(queue::take));
+        assertInterruptible(queue::take);
         queue.add(in(FAR, "late"));
-        assertEquals("InterruptedException", interruptedIn(queue::take));
+        assertInterruptible(queue::take);
         queue.add(due("a"));
         assertEquals("a", take());
         assertEquals(1, queue.size());
@@ -148,7 +132,7 @@ public abstract class SharedQueueBehaviour extends DelayQueueBehaviour {
 
     @Test
     public void anInterruptEndsATimedPoll() throws Exception {
-        assertEquals("InterruptedException", interruptedIn(() -> queue.poll(FAR, MILLISECONDS)));
+        assertInterruptible(() -> queue.poll(FAR, MILLISECONDS));
         queue.add(due("a"));
         assertEquals("a", take());
     }
@@ -156,12 +140,11 @@ public abstract class SharedQueueBehaviour extends DelayQueueBehaviour {
     @Test
     public void anInterruptedThreadTakesNothing() throws Exception {
         queue.add(due("a"));
-        Thread.currentThread().interrupt();
-        assertThrows(InterruptedException.class, queue::take);
-        assertFalse(Thread.currentThread().isInterrupted());
-        Thread.currentThread().interrupt();
-        assertThrows(InterruptedException.class, () -> queue.poll(1, SECONDS));
-        assertFalse(Thread.currentThread().isInterrupted());
+        for (Callable<Job> wait : List.<Callable<Job>>of(queue::take, () -> queue.poll(1, SECONDS))) {
+            Thread.currentThread().interrupt();
+            assertThrows(InterruptedException.class, wait::call);
+            assertFalse(Thread.currentThread().isInterrupted());
+        }
         assertEquals(1, queue.size());
         assertEquals("a", take());
     }
@@ -185,35 +168,32 @@ public abstract class SharedQueueBehaviour extends DelayQueueBehaviour {
     public void noElementIsLostByInterrupts() throws Exception {
         int count = 400;
         Queue<String> got = new ConcurrentLinkedQueue<>();
-        List<Thread> takers = new ArrayList<>();
-        for (int it = 0; it < 4; it++) {
-            boolean isTimed = it % 2 == 0;
-            takers.add(new Thread(() -> takeInSpiteOfInterrupts(got, isTimed)));
-        }
-        takers.forEach(Thread::start);
+        List<Work<Void>> takers = Stream.of(true, false, true, false)
+            .map(isTimed -> start(() -> takeInSpiteOfInterrupts(got, isTimed))).toList();
         for (String it : numbers(count)) {
-            queue.add(in(ThreadLocalRandom.current().nextInt(30), it));
-            takers.get(ThreadLocalRandom.current().nextInt(takers.size())).interrupt();
+            queue.add(in(random(30), it));
+            takers.get(random(takers.size())).thread.interrupt();
             Thread.sleep(1);
         }
-        for (int it = 0; it < 4; it++) {
-            queue.add(in(200, END));
-        }
-        for (Thread it : takers) {
-            it.join(30_000);
-            assertFalse(it.isAlive());
+        takers.forEach(it -> queue.add(in(200, END)));
+        for (Work<Void> it : takers) {
+            it.get(30, SECONDS);
         }
         assertEquals(numbers(count), got.stream().sorted().toList());
         assertTrue(queue.isEmpty());
     }
 
-    private void takeInSpiteOfInterrupts(Queue<String> got, boolean isTimed) {
+    private static int random(int bound) {
+        return ThreadLocalRandom.current().nextInt(bound);
+    }
+
+    private Void takeInSpiteOfInterrupts(Queue<String> got, boolean isTimed) {
         while (true) {
             try {
                 Job job = isTimed ? queue.poll(5, MILLISECONDS) : queue.take();
                 String payload = payload(job);
                 if (END.equals(payload)) {
-                    return;
+                    return null;
                 }
                 if (payload != null) {
                     got.add(payload + (job.attempt() == 1 ? "" : " again"));
@@ -228,58 +208,45 @@ public abstract class SharedQueueBehaviour extends DelayQueueBehaviour {
 
     @Test
     public void eachElementIsGivenToOneThread() throws Exception {
-        int producers = 3;
-        int each = 500;
         Queue<Job> got = new ConcurrentLinkedQueue<>();
-        List<Future<?>> work = new ArrayList<>();
-        List<Future<?>> producing = new ArrayList<>();
+        List<Future<Void>> consuming = new ArrayList<>();
+        List<Future<Void>> producing = new ArrayList<>();
         for (int it = 0; it < 4; it++) {
             int kind = it;
-            work.add(start(() -> consume(kind, got)));
+            consuming.add(threads.submit(() -> consume(kind, got)));
         }
-        for (int it = 0; it < producers; it++) {
-            int first = it * each;
-            producing.add(start(() -> produce(numbers(producers * each).subList(first, first + each))));
+        for (int it = 0; it < 3; it++) {
+            List<String> payloads = numbers(1_500).subList(500 * it, 500 * it + 500);
+            producing.add(threads.submit(() -> payloads.forEach(payload -> queue.add(in(random(20), payload))), null));
         }
-        for (Future<?> it : producing) {
-            it.get(60, SECONDS);
-        }
-        for (int it = 0; it < 4; it++) {
-            queue.add(in(300, END));
-        }
-        for (Future<?> it : work) {
-            it.get(60, SECONDS);
-        }
-        assertEquals(numbers(producers * each), got.stream().map(Job::payload).sorted().toList());
+        allOf(producing);
+        consuming.forEach(it -> queue.add(in(300, END)));
+        allOf(consuming);
+        assertEquals(numbers(1_500), got.stream().map(Job::payload).sorted().toList());
         assertTrue(got.stream().allMatch(it -> it.attempt() == 1));
         assertTrue(queue.isEmpty());
-    }
-
-    private Void produce(List<String> payloads) {
-        payloads.forEach(it -> queue.add(in(ThreadLocalRandom.current().nextInt(20), it)));
-        return null;
     }
 
     /** Takes elements in one of four ways, until one is an end. Leaves the ends of others alone. */
     private Void consume(int kind, Queue<Job> got) throws InterruptedException {
         while (true) {
             List<Job> jobs = new ArrayList<>();
-            if (kind == 0) {
-                jobs.add(queue.take());
-            } else if (kind == 1) {
-                queue.drainTo(jobs, 1);
-            } else {
-                Job job = kind == 2 ? queue.poll() : queue.poll(7, MILLISECONDS);
-                jobs.addAll(job == null ? List.of() : List.of(job));
+            switch (kind) {
+                case 0 -> jobs.add(queue.take());
+                case 1 -> queue.drainTo(jobs, 1);
+                case 2 -> jobs.add(queue.poll());
+                default -> jobs.add(queue.poll(7, MILLISECONDS));
             }
-            if (jobs.isEmpty()) {
-                Thread.sleep(1);
-                continue;
-            }
-            if (END.equals(payload(jobs.get(0)))) {
+            Job job = jobs.isEmpty() ? null : jobs.get(0);
+            String payload = payload(job);
+            if (END.equals(payload)) {
                 return null;
             }
-            got.add(jobs.get(0));
+            if (payload == null) {
+                Thread.sleep(1);
+            } else {
+                got.add(job);
+            }
         }
     }
 }

@@ -16,120 +16,29 @@ import java.util.List;
 import java.util.NoSuchElementException;
 import java.util.TreeSet;
 import java.util.concurrent.ArrayBlockingQueue;
-import java.util.concurrent.BlockingQueue;
-import java.util.stream.IntStream;
-import org.junit.Before;
-import org.junit.Rule;
 import org.junit.Test;
-import org.junit.rules.Timeout;
 
-/**
- * What the pages of {@code DelayQueue} and {@code BlockingQueue} say of a queue that one thread uses. The tests of a
- * subclass are these, one by one, over its queue. Where queues must differ, the name of the test says so.
- */
-public abstract class DelayQueueBehaviour {
-    /** More than any test waits for an element that is not to come. */
-    static final long FAR = 600_000;
-
-    /** No test lasts for ever. */
-    @Rule
-    public final Timeout timeout = Timeout.seconds(120);
-
-    BlockingQueue<Job> queue;
-
-    /** A queue that is empty. */
-    abstract BlockingQueue<Job> newQueue() throws Exception;
-
-    /** Whether it is a queue at a server. */
-    abstract boolean isRemote();
-
-    /** The most elements that one drain gives. */
-    int mostDrained() {
-        return Integer.MAX_VALUE;
-    }
-
-    /** Waits until the queue is older than the elements that are overdue when they are offered. */
-    void awaitAge() throws InterruptedException { }
-
-    /** What a caller of this queue does with each element that it took. */
-    void settle(Job job) { }
-
-    @Before
-    public final void makeQueue() throws Exception {
-        queue = newQueue();
-        // A queue at a server learns of its clock from an offer. Before that an overdue element has no age there.
-        queue.offer(due("first"));
-        assertEquals("first", take());
-    }
-
-    static Job due(String payload) {
-        return in(0, payload);
-    }
-
-    static Job in(long millis, String payload) {
-        return new Job(payload, millis, MILLISECONDS);
-    }
-
-    /** Takes an element. Gives its payload. */
-    String take() throws InterruptedException {
-        return payload(queue.take());
-    }
-
-    /** The payload of an element that was taken, or null if there is none. */
-    String payload(Job job) {
-        if (job == null) {
-            return null;
-        }
-        settle(job);
-        return job.payload();
-    }
-
-    List<String> payloads(Collection<Job> jobs) {
-        return jobs.stream().map(this::payload).toList();
+/** Queues that one thread uses. */
+public class DelayQueueTest extends EveryQueueTest {
+    /** Waits until a queue at a server is older than the elements that are overdue when they are offered. */
+    private void awaitAge() throws InterruptedException {
+        Thread.sleep(isRemote() ? 500 : 0); // no element can have expired before the server began
     }
 
     /** Offers elements c, a and b, which expire this many milliseconds from one moment on. */
-    void offerThree(long c, long a, long b) throws InterruptedException {
+    private void offerThree(long c, long a, long b) throws InterruptedException {
         awaitAge();
         long now = System.nanoTime();
         offerAll(new Job("c", now + MILLISECONDS.toNanos(c)), new Job("a", now + MILLISECONDS.toNanos(a)),
             new Job("b", now + MILLISECONDS.toNanos(b)));
     }
 
-    void offerAll(Job... jobs) {
-        for (Job it : jobs) {
-            assertTrue(queue.offer(it));
-        }
-    }
-
-    /** Takes this many elements. Gives their payloads, in the order in which they came. */
-    List<String> takeAll(int count) throws InterruptedException {
-        List<String> payloads = new ArrayList<>();
-        while (payloads.size() < count) {
-            payloads.add(take());
-        }
-        return payloads;
-    }
-
-    static List<String> numbers(int count) {
-        return IntStream.range(0, count).mapToObj(it -> String.format("%04d", it)).toList();
-    }
-
-    static void assertAtLeast(long millis, long begun) {
-        long passed = System.nanoTime() - begun;
-        assertTrue(passed + " ns are less than " + millis + " ms", passed >= MILLISECONDS.toNanos(millis));
-    }
-
     // Order and expiry.
 
     @Test
-    public void elementsComeInTheOrderOfTheirExpiry() throws Exception {
+    public void elementsComeInTheOrderOfTheirExpiryAndOverdueOnesOldestFirst() throws Exception {
         offerThree(300, 100, 200);
         assertEquals(List.of("a", "b", "c"), takeAll(3));
-    }
-
-    @Test
-    public void overdueElementsComeOldestFirst() throws Exception {
         offerThree(-10, -30, -20);
         assertEquals(List.of("a", "b", "c"), takeAll(3));
     }
@@ -165,11 +74,15 @@ public abstract class DelayQueueBehaviour {
     }
 
     @Test
-    public void anElementWithoutADelayIsExpiredAtOnce() {
+    public void anElementWithoutADelayIsExpiredAtOnceAndOneOfTheGreatestStays() {
         offerAll(due("a"));
         assertEquals("a", payload(queue.poll()));
         offerAll(in(-FAR, "b"));
         assertEquals("b", payload(queue.poll()));
+        offerAll(new Job("never", Long.MAX_VALUE, NANOSECONDS));
+        assertNull(queue.poll());
+        assertTrue(queue.peek().getDelay(SECONDS) > 9_000_000_000L);
+        assertEquals(1, queue.size());
     }
 
     @Test
@@ -182,22 +95,16 @@ public abstract class DelayQueueBehaviour {
     }
 
     @Test
-    public void peekShowsTheHeadExpiredOrNot() {
+    public void theHeadIsShownExpiredOrNot() {
         assertNull(queue.peek());
+        assertThrows(NoSuchElementException.class, queue::element);
         queue.add(in(2 * FAR, "later"));
         queue.add(in(FAR, "late"));
         assertEquals("late", queue.peek().payload());
+        assertEquals("late", queue.element().payload());
         queue.add(due("a"));
         assertEquals("a", queue.peek().payload());
         assertEquals(3, queue.size());
-    }
-
-    @Test
-    public void elementShowsTheHeadAndThrowsIfTheQueueIsEmpty() {
-        assertThrows(NoSuchElementException.class, queue::element);
-        queue.add(in(FAR, "late"));
-        assertEquals("late", queue.element().payload());
-        assertEquals(1, queue.size());
     }
 
     @Test
@@ -227,43 +134,19 @@ public abstract class DelayQueueBehaviour {
         }
     }
 
-    @Test
-    public void theGreatestDelayIsAnElementThatStays() {
-        queue.add(new Job("never", Long.MAX_VALUE, NANOSECONDS));
-        assertNull(queue.poll());
-        assertTrue(queue.peek().getDelay(SECONDS) > 9_000_000_000L);
-        assertEquals(1, queue.size());
-    }
-
     // Capacity, sizes and nulls.
 
     @Test
-    public void thereIsRoomForEachElement() {
+    public void thereIsRoomForEachElement() throws Exception {
         assertEquals(Integer.MAX_VALUE, queue.remainingCapacity());
         for (int it = 0; it < 250; it++) {
             assertTrue(queue.offer(in(FAR, "a")));
             assertTrue(queue.add(in(FAR, "a")));
-            assertTrue(offerFor(0, in(FAR, "a")));
-            put(in(FAR, "a"));
+            assertTrue(queue.offer(in(FAR, "a"), 0, SECONDS));
+            queue.put(in(FAR, "a"));
         }
         assertEquals(1_000, queue.size());
         assertEquals(Integer.MAX_VALUE, queue.remainingCapacity());
-    }
-
-    private boolean offerFor(long timeout, Job job) {
-        try {
-            return queue.offer(job, timeout, SECONDS);
-        } catch (InterruptedException interrupt) {
-            throw new AssertionError(interrupt);
-        }
-    }
-
-    private void put(Job job) {
-        try {
-            queue.put(job);
-        } catch (InterruptedException interrupt) {
-            throw new AssertionError(interrupt);
-        }
     }
 
     @Test
@@ -291,21 +174,15 @@ public abstract class DelayQueueBehaviour {
 
     @Test
     public void aTimedPollGivesUpAtItsTimeout() throws Exception {
-        long begun = System.nanoTime();
-        assertNull(queue.poll(100, MILLISECONDS));
-        assertAtLeast(100, begun);
-        queue.add(in(FAR, "late"));
-        begun = System.nanoTime();
-        assertNull(queue.poll(100, MILLISECONDS));
-        assertAtLeast(100, begun);
-        assertEquals(1, queue.size());
-    }
-
-    @Test
-    public void aTimedPollThatIsLongerThanOneWaitAtAServer() throws Exception {
-        long begun = System.nanoTime();
-        assertNull(queue.poll(600, MILLISECONDS));
-        assertAtLeast(600, begun);
+        for (int size = 0; size < 2; size++) {
+            for (long timeout : List.of(100L, 600L)) { // the second is longer than one wait at a server
+                long begun = System.nanoTime();
+                assertNull(queue.poll(timeout, MILLISECONDS));
+                assertAtLeast(timeout, begun);
+            }
+            assertEquals(size, queue.size());
+            queue.add(in(FAR, "late"));
+        }
     }
 
     @Test
@@ -330,21 +207,17 @@ public abstract class DelayQueueBehaviour {
     // Drains.
 
     @Test
-    public void aDrainGivesTheExpiredElementsInOrder() throws Exception {
+    public void aDrainGivesTheExpiredElementsInOrderAndNoMoreThanItsLimit() throws Exception {
         offerAll(in(FAR, "late"));
-        offerThree(-10, -30, -20);
         List<Job> drained = new ArrayList<>();
+        offerThree(-10, -30, -20);
         assertEquals(3, queue.drainTo(drained));
         assertEquals(List.of("a", "b", "c"), payloads(drained));
         assertEquals(1, queue.size());
         assertEquals(0, queue.drainTo(drained));
         assertEquals(3, drained.size());
-    }
-
-    @Test
-    public void aDrainGivesNoMoreThanItsLimit() throws Exception {
+        drained.clear();
         offerThree(-10, -30, -20);
-        List<Job> drained = new ArrayList<>();
         assertEquals(0, queue.drainTo(drained, 0));
         assertEquals(0, queue.drainTo(drained, -1));
         assertEquals(2, queue.drainTo(drained, 2));
@@ -359,7 +232,7 @@ public abstract class DelayQueueBehaviour {
         numbers(150).forEach(it -> queue.add(new Job(it, now + Integer.parseInt(it))));
         List<Job> drained = new ArrayList<>();
         List<String> payloads = new ArrayList<>();
-        assertEquals(Math.min(150, mostDrained()), queue.drainTo(drained));
+        assertEquals(kind == Kind.BY_CALL ? 64 : 150, queue.drainTo(drained));
         while (!drained.isEmpty()) {
             payloads.addAll(payloads(drained));
             drained.clear();
@@ -393,22 +266,17 @@ public abstract class DelayQueueBehaviour {
     // Removals.
 
     @Test
-    public void anElementIsRemovedExpiredOrNot() {
+    public void anElementIsRemovedExpiredOrNotAlsoTheHeadThatPeekShowed() {
         Job expired = due("a");
         Job late = in(FAR, "late");
-        offerAll(expired, late, in(FAR, "other"));
+        offerAll(expired, late, in(FAR, "other"), in(2 * FAR, "last"));
         assertTrue(queue.remove(late));
         assertFalse(queue.remove(late));
         assertTrue(queue.remove(expired));
-        assertEquals(1, queue.size());
+        assertEquals(2, queue.size());
         assertEquals("other", queue.peek().payload());
-    }
-
-    @Test
-    public void theHeadThatPeekShowedCanBeRemoved() {
-        offerAll(in(FAR, "a"), in(2 * FAR, "b"));
         assertTrue(queue.remove(queue.peek()));
-        assertEquals("b", queue.peek().payload());
+        assertEquals("last", queue.peek().payload());
     }
 
     @Test

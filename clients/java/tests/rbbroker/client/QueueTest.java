@@ -1,0 +1,69 @@
+package rbbroker.client;
+
+import static java.util.concurrent.TimeUnit.MILLISECONDS;
+import static java.util.concurrent.TimeUnit.MINUTES;
+
+import java.nio.file.Path;
+import java.util.ArrayDeque;
+import java.util.Deque;
+import java.util.concurrent.Callable;
+import java.util.concurrent.FutureTask;
+import org.junit.After;
+import org.junit.Rule;
+import org.junit.rules.TemporaryFolder;
+import org.junit.rules.Timeout;
+
+/** What tests share: a limit of their time, a folder, what is closed at their end, threads and jobs. */
+public abstract class QueueTest {
+    @Rule
+    public final Timeout timeout = new Timeout(longestMinutes(), MINUTES);
+    @Rule
+    public final TemporaryFolder folder = new TemporaryFolder();
+
+    private final Deque<AutoCloseable> open = new ArrayDeque<>();
+
+    int longestMinutes() {
+        return 3;
+    }
+
+    /** Closes what was opened, the last first. */
+    @After
+    public final void closeAll() throws Exception {
+        while (!open.isEmpty()) {
+            open.pop().close();
+        }
+    }
+
+    /** This is closed at the end of the test. */
+    final <T extends AutoCloseable> T opened(T it) {
+        open.push(it);
+        return it;
+    }
+
+    final Path path(String name) {
+        return folder.getRoot().toPath().resolve(name);
+    }
+
+    static Job due(String payload) {
+        return in(0, payload);
+    }
+
+    static Job in(long millis, String payload) {
+        return new Job(payload, millis, MILLISECONDS);
+    }
+
+    /** What a thread of its own does. */
+    static final class Work<T> extends FutureTask<T> {
+        final Thread thread = new Thread(this);
+
+        private Work(Callable<T> work) {
+            super(work);
+            thread.setDaemon(true);
+            thread.start();
+        }
+    }
+
+    static <T> Work<T> start(Callable<T> work) {
+        return new Work<>(work);
+    }
+}
