@@ -131,6 +131,15 @@ public class ScriptedTest extends QueueTest {
     }
 
     @Test
+    public void anOldSessionTakesJobsAgainWhereNoOtherIsServed() throws Exception {
+        playTo(port -> builder(port).longestSession(Duration.ofMillis(200)), queue -> {
+            assertEquals("a", queue.poll().payload());
+            Thread.sleep(300); // since then the session is to end with the job that it holds
+            assertNull(queue.poll());
+        }, talk -> talk.greet().hear("POLL").say("ITEM 4 0 1 a").hear("POLL").say("NONE"));
+    }
+
+    @Test
     public void anOfferWithoutAReplyIsInDoubtAndNotRepeated() throws Exception {
         Play offer = queue -> lost(true, () -> queue.offer(due("a")));
         play(offer, talk -> talk.greet().hear("OFFER 0 a"));
