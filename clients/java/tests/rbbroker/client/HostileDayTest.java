@@ -4,6 +4,8 @@ import static org.junit.Assert.assertEquals;
 import static org.junit.Assert.assertFalse;
 import static org.junit.Assert.assertTrue;
 
+import java.io.IOException;
+import java.lang.ProcessBuilder.Redirect;
 import java.net.Socket;
 import java.nio.file.Files;
 import java.nio.file.Path;
@@ -18,6 +20,7 @@ import java.util.concurrent.Callable;
 import java.util.concurrent.ConcurrentSkipListSet;
 import java.util.concurrent.CopyOnWriteArrayList;
 import java.util.concurrent.ThreadLocalRandom;
+import java.util.concurrent.TimeUnit;
 import java.util.concurrent.atomic.AtomicInteger;
 import java.util.stream.IntStream;
 import java.util.stream.Stream;
@@ -42,7 +45,7 @@ public class HostileDayTest extends QueueTest {
 
     private final List<Path> histories = new ArrayList<>();
     private final List<Path> records = new ArrayList<>();
-    private final List<HostileWorker.Beside> workers = new CopyOnWriteArrayList<>();
+    private final List<Worker> workers = new CopyOnWriteArrayList<>();
     private final List<Path> logs = new CopyOnWriteArrayList<>();
     private final List<Path> killed = new CopyOnWriteArrayList<>();
     private final Set<String> doubted = new ConcurrentSkipListSet<>();
@@ -52,6 +55,39 @@ public class HostileDayTest extends QueueTest {
     private Server server;
     private RecordingProxy proxy;
 
+    /** A hostile worker, in a process that does not outlive the tests. */
+    private static final class Worker {
+        private final Process process;
+        private final Path log;
+
+        Worker(int port, Path log) throws IOException {
+            this.log = log;
+            Path java = Path.of(System.getProperty("java.home"), "bin", "java");
+            process = Server.run(Redirect.INHERIT, Stream.of(java, "-Xmx64m", "-XX:TieredStopAtLevel=1",
+                "-XX:+UseSerialGC", "-cp", System.getProperty("java.class.path"), HostileWorker.class.getName(), port,
+                log));
+        }
+
+        /** Whether it has taken a job. */
+        boolean hasWorked() throws IOException {
+            return Files.size(log) > 0;
+        }
+
+        /** Kills it by a signal that it can't mind. Gives its notes. */
+        Path kill() throws InterruptedException {
+            process.destroyForcibly();
+            assertEquals(128 + 9, process.waitFor());
+            return log;
+        }
+
+        /** Lets it end in good order. */
+        void finish() throws Exception {
+            process.getOutputStream().close();
+            assertTrue("a worker goes on", process.waitFor(Server.PATIENCE, TimeUnit.SECONDS));
+            assertEquals(0, process.exitValue());
+        }
+    }
+
     @Override
     int longestMinutes() {
         return 20 + JOBS / 500;
@@ -60,7 +96,7 @@ public class HostileDayTest extends QueueTest {
     @After
     public void killAll() throws Exception {
         isOver = true;
-        for (HostileWorker.Beside it : workers) {
+        for (Worker it : workers) {
             it.kill();
         }
     }
@@ -85,7 +121,7 @@ public class HostileDayTest extends QueueTest {
         waitUntil(this::isEmpty);
         isOver = true;
         killer.get();
-        for (HostileWorker.Beside it : List.copyOf(workers)) {
+        for (Worker it : List.copyOf(workers)) {
             workers.remove(it);
             it.finish();
         }
@@ -133,7 +169,7 @@ public class HostileDayTest extends QueueTest {
 
     private void startWorker() throws Exception {
         logs.add(Files.createFile(path("worker-" + logs.size())));
-        workers.add(new HostileWorker.Beside(proxy.port(), logs.get(logs.size() - 1)));
+        workers.add(new Worker(proxy.port(), logs.get(logs.size() - 1)));
     }
 
     /** Kills one worker after the other, each once it has work. */

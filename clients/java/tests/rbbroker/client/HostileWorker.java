@@ -1,17 +1,10 @@
 package rbbroker.client;
 
-import static org.junit.Assert.assertEquals;
-import static org.junit.Assert.assertTrue;
-
 import java.io.FileOutputStream;
 import java.io.IOException;
-import java.lang.ProcessBuilder.Redirect;
 import java.nio.charset.StandardCharsets;
-import java.nio.file.Files;
-import java.nio.file.Path;
 import java.time.Duration;
 import java.util.List;
-import java.util.concurrent.TimeUnit;
 import java.util.stream.Stream;
 
 /**
@@ -30,39 +23,6 @@ public final class HostileWorker {
             .longestWait(Duration.ofMillis(100)).longestSession(Duration.ofSeconds(2)).patience(Duration.ofMinutes(2))
             .build();
         this.log = new FileOutputStream(log, true);
-    }
-
-    /** This program, in a process that does not outlive the tests. */
-    static final class Beside {
-        private final Process process;
-        private final Path log;
-
-        Beside(int port, Path log) throws IOException {
-            this.log = log;
-            Path java = Path.of(System.getProperty("java.home"), "bin", "java");
-            process = Server.run(Redirect.INHERIT, Stream.of(java, "-Xmx64m", "-XX:TieredStopAtLevel=1",
-                "-XX:+UseSerialGC", "-cp", System.getProperty("java.class.path"), HostileWorker.class.getName(), port,
-                log));
-        }
-
-        /** Whether it has taken a job. */
-        boolean hasWorked() throws IOException {
-            return Files.size(log) > 0;
-        }
-
-        /** Kills it by a signal that it can't mind. Gives its notes. */
-        Path kill() throws InterruptedException {
-            process.destroyForcibly();
-            assertEquals(128 + 9, process.waitFor());
-            return log;
-        }
-
-        /** Lets it end in good order. */
-        void finish() throws Exception {
-            process.getOutputStream().close();
-            assertTrue("a worker goes on", process.waitFor(Server.PATIENCE, TimeUnit.SECONDS));
-            assertEquals(0, process.exitValue());
-        }
     }
 
     /** Whether an attempt of a job is to fail. */
