@@ -1,4 +1,4 @@
-//! Laws of jobs: none is lost and none is doubled, over whole runs.
+//! Laws of jobs over whole runs: none is in two places, and none goes uncounted.
 //!
 //! A job is all elements of one origin: the one that began it, and the next attempts after failures. The
 //! other crates say what becomes of elements; these laws say what becomes of jobs. Nothing here runs.
