@@ -28,7 +28,8 @@ empty_hands seat = []
 abbrev pub only_hands : List Element → ℕ → List Element
 only_hands held seat = if seat == 0 then held else []
 
--- A run kept jobs from this opening on, and at its end nobody holds one.
+-- A run kept jobs from this opening on, and its seats have hands. That these are empty at the end says no more: what is
+-- held may be let go.
 pub record RunKeepsJobs (policy : Policy) (opening : Opening) (history : List Event) : Type 0 where
   pub keeps : KeepsJobs policy opening history
   pub hands : AreHands policy opening history empty_hands

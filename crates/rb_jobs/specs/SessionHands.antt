@@ -27,13 +27,13 @@ module _ {D : Type 0} (words : Desk.Ghosts D) where
       (policy : Policy) (from to : Point words.State) (turns : List Turn)
       → Serves (desk_rules words policy) from turns to → LeadsOn policy words.mine from to
 
-  -- the law of jobs that are held at the end: then nothing is held
+  -- the law of jobs that are held at the end
   abbrev pub HandlesClosing : Type 0
   HandlesClosing =
       (policy : Policy) (from to : words.State) (held : List Element) (lost : ℕ)
       → Closes (desk_rules words policy) from held lost to → LeadsOn policy words.mine (point from held) (point to [])
 
-  -- the law of whole sessions, which begin and end with nothing held
+  -- the law of whole sessions, which begin with nothing held
   abbrev pub HandlesRun : {W : Type 0} → (W → Option (List ℕ)) → Type 0
   HandlesRun contents =
       (policy : Policy) (got : Option (List ℕ)) (delivery : Delivery) (rest : Option (List ℕ))

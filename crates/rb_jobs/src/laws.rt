@@ -30,14 +30,14 @@ pub fn hands_of_session<D: Desk, W: Write>()
 {}
 
 /// A script keeps jobs, whatever its input, its replies and its device for the history do. So it is behind
-/// each line that its session serves, with what the session then holds; and at the end, when it holds nothing.
+/// each line that its session serves, with what the session then holds; and so is its whole history.
 pub fn script_keeps_jobs<W: Write>()
     ensures lines { LinesKeepJobs }
     ensures run { ScriptKeepsJobs W.contents }
 {}
 
 /// A server keeps jobs, over all its sessions at once: however the threads of its workers interleave, no job
-/// is in two places at any moment of the history that it gives back, and at the end no worker holds one.
+/// is in two places at any moment of the history that it gives back.
 pub fn server_keeps_jobs<T: Timer, D: Door, C: Clock>()
     ensures { (door : D) (clock : C) (policy : Policy) (delivery : Delivery) → ServerKeepsJobs
         (terms_of D.Door D.Reader.Read D.Writer.Write D.Gate.Gate door (rules_of C.Clock clock policy delivery)) T }
