@@ -27,10 +27,12 @@ class RoomTest(unittest.TestCase):
         return os.path.join(self.room, name)
 
     def file(self, name: str, text: str) -> str:
-        """Writes a file, and returns its path."""
-        with open(self.path(name), "w", encoding="utf-8") as file:
+        """Writes a file, also in folders that are not there yet, and returns its path."""
+        path = self.path(name)
+        os.makedirs(os.path.dirname(path), exist_ok=True)
+        with open(path, "w", encoding="utf-8") as file:
             file.write(text)
-        return self.path(name)
+        return path
 
 
 def tool(name: str) -> list[str]:

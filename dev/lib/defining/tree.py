@@ -47,6 +47,19 @@ class SourceFile:
                 self.imported[local or name] = (path, name)
         return "\n" * found[0].count("\n")
 
+    @property
+    def module(self) -> str:
+        """The name under which others import a file of specs/ or proofs/."""
+        return ".".join(["Rattle", *Path(self.path).with_suffix("").parts[1:]])
+
+    def place_of(self, word: str) -> Optional[tuple[str, str]]:
+        """The module and the name there of what a word means, if that is imported here."""
+        head, _, rest = word.partition(".")
+        local = self.operators.get(head, head)
+        if local in self.imported:
+            return self.imported[local]
+        return (self.modules[head], rest.partition(".")[0]) if rest and head in self.modules else None
+
 
 class Tree:
     """The files of src/ and specs/ of all crates below a folder, by their paths from there, without tests."""
@@ -73,12 +86,9 @@ class Tree:
 
     def meaning(self, file: SourceFile, word: str) -> Item | str | None:
         """What a word means in a file: a definition, the name of a library with its module, or nothing of these."""
-        head, _, rest = word.partition(".")
-        local = file.operators.get(head, head)
-        if local in file.imported:
-            return self._imported(*file.imported[local])
-        if rest and head in file.modules:
-            return self._imported(file.modules[head], rest.partition(".")[0])
+        if place := file.place_of(word):
+            return self._imported(*place)
+        head = word.partition(".")[0]
         if head in file.uses:
             root, name = file.uses[head]
             return self._used(file.crate if root in ("crate", "super") else root, name)

@@ -21,11 +21,9 @@ def check(tally: Tally, folder: Path = Path(TOP)) -> None:
     """Counts what each part finds in a folder, and prints how much that is."""
     for name in filter(tally.wants, PARTS):
         try:
-            found = [*PARTS[name].find(folder)]
-        except Unknown as fault:
-            tally.count(name, fault)
-            continue
+            found = [*PARTS[name].find(folder)] or [f"{name}: nothing was found"]
+        except (Unknown, OSError) as fault:
+            found = [f"{name}: {fault}"]
         faults = [it for it in found if it]
-        lines = faults if found else [f"{name}: nothing was found"]
-        tally.add(found.count(None), len(lines))
-        print("\n".join([*lines, f"{name}: {found.count(None)} right, {len(faults)} wrong"]))
+        tally.add(found.count(None), len(faults))
+        print("\n".join([*faults, f"{name}: {found.count(None)} right, {len(faults)} wrong"]))

@@ -10,7 +10,7 @@ from collections import defaultdict
 from pathlib import Path
 from typing import Iterator, Optional
 
-from defining.tree import SourceFile, Tree, Unknown
+from defining.tree import SourceFile, Tree
 
 ENSURES = re.compile(r"^ *ensures (\w+) ", re.M)
 GHOST = re.compile(r"^ *ghost (?!use )(\w+)", re.M)
@@ -23,12 +23,9 @@ NO_CLAUSES = {"impl", "requires"}
 
 def find(top: Path) -> Iterator[Optional[str]]:
     """Finds the names of docs/PROVED.md below a folder. The fault of one is `CRATE: CALL: NAME is not there`."""
-    page = top / "docs" / "PROVED.md"
-    if not page.is_file():
-        raise Unknown(f"{top} has no docs/PROVED.md")
-    files = Tree(top).files.values()
+    page, files = (top / "docs/PROVED.md").read_text("utf-8"), Tree(top).files.values()
     definitions = {it.name for file in files if file.path.endswith(".antt") for it in file.items}
-    for section in page.read_text("utf-8").split("\n## ")[1:]:
+    for section in page.split("\n## ")[1:]:
         crates = re.findall(r"rb_\w+", section.partition("\n")[0])
         sources = [file for file in files if file.crate in crates and file.path.endswith(".rt")]
         ghosts, declared = {it for file in sources for it in GHOST.findall(file.bare)}, declared_in(sources)

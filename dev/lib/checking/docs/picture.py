@@ -18,7 +18,7 @@ TEXT = re.compile(r'<text x="(\d+)"[^>]*>([^<]*)</text>')
 
 def find(top: Path) -> Iterator[Optional[str]]:
     """Compares the picture and the table below a folder, hop by hop."""
-    page, picture = (it.read_text("utf-8") if it.is_file() else "" for it in (top / PAGE, top / PICTURE))
+    page, picture = ((top / it).read_text("utf-8") for it in (PAGE, PICTURE))
     table = HOP.findall(page.partition(HEADING)[2].partition("\n## ")[0])
     if not table or [int(number) for number, _, _ in table] != list(range(1, len(table) + 1)):
         raise Unknown(f"{top / PAGE} has no table of hops, numbered from 1, below 'The way of a request'")

@@ -10,7 +10,7 @@ from pathlib import Path
 from typing import Iterator, Optional
 
 from defining.items import Item, dedented
-from defining.tree import SourceFile, Tree, Unknown
+from defining.tree import SourceFile, Tree
 
 PAGE = "docs/HEADLINE.md"
 MOST_WORDS = 5_000
@@ -22,8 +22,6 @@ COMMENTS = r"(?: *(?:--|//).*\n)*"
 
 def find(top: Path) -> Iterator[Optional[str]]:
     """Compares the page below a folder. The fault of a quotation is `docs/HEADLINE.md:LINE: REASON`."""
-    if not (top / PAGE).is_file():
-        raise Unknown(f"{top} has no {PAGE}")
     text, tree = (top / PAGE).read_text("utf-8"), Tree(top)
     count = len(text.split())
     yield None if count <= MOST_WORDS else f"{PAGE} has {count:,} words, of at most {MOST_WORDS:,}"

@@ -1,5 +1,7 @@
 """What an item cites: which of its names mean a definition, and which it binds itself."""
-from checking.docs.tests.support import DocumentsTest
+from pathlib import Path
+
+from checking.testing import RoomTest
 from defining.tree import Tree
 
 SHELF = """use Rattle.std.specs.Prelude.{◌≡◌, ℕ, if◌then◌else◌}
@@ -56,15 +58,15 @@ impl<T: Timer> Row<T> {
 """
 
 
-class Cited(DocumentsTest):
+class Cited(RoomTest):
     def expect_cited(self, text: str, *names: str, of: str = "rb_a/specs/Shelf.antt", name: str = "f") -> None:
         """What an item cites, after this text was added to the file Shelf.antt."""
-        self.write("crates/rb_a/specs/Shelf.antt", SHELF + text)
-        self.write("crates/rb_a/specs/Width.antt", WIDTH)
-        self.write("crates/rb_b/specs/Lib.antt", "pub use Rattle.rb_a.specs.Width as Wide\n")
-        self.write("crates/rb_a/src/kind.rt", KIND)
-        self.write("crates/rb_b/src/row.rt", ROW)
-        tree = Tree(self.top)
+        self.file("crates/rb_a/specs/Shelf.antt", SHELF + text)
+        self.file("crates/rb_a/specs/Width.antt", WIDTH)
+        self.file("crates/rb_b/specs/Lib.antt", "pub use Rattle.rb_a.specs.Width as Wide\n")
+        self.file("crates/rb_a/src/kind.rt", KIND)
+        self.file("crates/rb_b/src/row.rt", ROW)
+        tree = Tree(Path(self.room))
         item = tree.files[f"crates/{of}"].named[name]
         found, outside = tree.cited_by(item, item.section + item.code)
         libraries = {it.rpartition(".")[2] for it in outside} - {"ℕ", "◌≡◌"}

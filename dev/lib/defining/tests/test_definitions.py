@@ -3,7 +3,7 @@ import subprocess
 import sys
 from pathlib import Path
 
-from checking.docs.tests.support import DocumentsTest
+from checking.testing import RoomTest
 from common.program import TOP
 from defining.tree import Tree
 
@@ -57,16 +57,16 @@ ends at std.specs.Prelude: ℕ, ◌≤◌
 """
 
 
-class Command(DocumentsTest):
+class Command(RoomTest):
     def setUp(self) -> None:
         super().setUp()
-        self.write("crates/rb_low/specs/Heights.antt", LOW)
-        self.write("crates/rb_low/src/lib.rt", f"/// How far up.\n#[derive(Debug)]\n{LEVEL}fn fall() {{\n}}\n")
-        self.write("crates/rb_high/src/lib.rt", HIGH)
-        self.write("crates/rb_program/src/main.rt", HIGH.replace("fall", "stand"))  # a program has no public calls
+        self.file("crates/rb_low/specs/Heights.antt", LOW)
+        self.file("crates/rb_low/src/lib.rt", f"/// How far up.\n#[derive(Debug)]\n{LEVEL}fn fall() {{\n}}\n")
+        self.file("crates/rb_high/src/lib.rt", HIGH)
+        self.file("crates/rb_program/src/main.rt", HIGH.replace("fall", "stand"))  # a program has no public calls
 
-    def definitions(self, word: str) -> subprocess.CompletedProcess[str]:
-        command = [sys.executable, "-B", f"{TOP}/dev/definitions", "--folder", str(self.top), word]
+    def definitions(self, word: str, folder: str = "") -> subprocess.CompletedProcess[str]:
+        command = [sys.executable, "-B", f"{TOP}/dev/definitions", "--folder", folder or self.room, word]
         return subprocess.run(command, capture_output=True, text=True, check=False)
 
     def expect_listing(self, word: str, status: int, printed: str, said: str = "") -> None:
@@ -81,18 +81,18 @@ class Command(DocumentsTest):
         lines = "".join(f"    {it}::fall  crates/{it}/src/lib.rt\n" for it in ("rb_high", "rb_low"))
         self.expect_listing("fall", 2, "", f"definitions: fall may be\n{lines}")
         self.expect_listing("climbs", 2, "", "definitions: nothing in src/ and specs/ has the name climbs\n")
-        self.write("crates/rb_low/specs/Heights.antt", LOW.replace("IsHigh", "IsLow"))
+        self.file("crates/rb_low/specs/Heights.antt", LOW.replace("IsHigh", "IsLow"))
         said = "definitions: Rattle.rb_low.specs.Heights.IsHigh is nowhere in src/ and specs/\n"
         self.expect_listing("climb", 2, "", said)
 
     def test_the_crates_of_this_repository(self) -> None:
-        self.top, tree = Path(TOP), Tree(Path(TOP))
+        tree = Tree(Path(TOP))
         items = [it for file in tree.files.values() for it in file.items]
         self.assertLess(1_000, len([tree.cited_by(it, it.section + it.code) for it in items]))
         for word, there, absent in (
             ("Shared::call", "Answered Replied Learns IsLegal Permits IsHead reply_of Event", "IsFiled Locked Content"),
             ("Shared::close", "HasCallsOf AreRecords AreDifferent IsLegal audit_of", "Replied Waits reply_of"),
         ):
-            lines = self.definitions(word).stdout.split("\n")
+            lines = self.definitions(word, TOP).stdout.split("\n")
             names = {name for line in lines if "pub " in line for name in line.split()}
             self.assertEqual((set(), set()), ({*there.split()} - names, {*absent.split()} & names))
