@@ -6,7 +6,7 @@ import subprocess
 import sys
 import unittest
 from collections import Counter
-from typing import Any, Iterator, Sequence
+from typing import Iterator, Sequence
 
 from checking.tally import Tally
 from common.program import TOP
@@ -17,24 +17,6 @@ PLACE = "RB_BROKER_PLACE"
 FAILED = "unittest.loader._FailedTest."  # the name of a module that can't be imported begins so
 COUNTS = re.compile(r"(\d+) passed, (\d+) failed(?:, (\d+) skipped)?")
 QUIET = re.compile(r"-*|Ran \d+ tests? in \S+|OK(?: \(.*\))?|Executing <.*")  # lines that say nothing where all pass
-
-
-class Result(unittest.TextTestResult):
-    """Also counts the tests that passed, which those that ran are not: a class may be skipped as a whole."""
-
-    def __init__(self, *words: Any, **options: Any) -> None:
-        super().__init__(*words, **options)
-        self.passed = 0
-
-    def addSuccess(self, test: unittest.TestCase) -> None:
-        super().addSuccess(test)
-        self.passed += 1
-
-    @property
-    def failed(self) -> set[str]:
-        """The names of the tests that failed, of which parts may have failed more than once."""
-        failed = [test for test, _ in self.failures + self.errors] + list(self.unexpectedSuccesses)
-        return {getattr(test, "test_case", test).id() for test in failed}
 
 
 def tests_below(folder: str, top: str, only: Sequence[str] = (), pattern: str = "test*.py") -> unittest.TestSuite:
@@ -48,11 +30,14 @@ def try_tests(tally: Tally, suite: unittest.TestSuite) -> None:
     """Runs tests, if there are some, says which fail and which are skipped, and counts them."""
     if not suite.countTestCases():
         return
-    result = unittest.TextTestRunner(sys.stdout, verbosity=0, resultclass=Result).run(suite)
-    assert isinstance(result, Result)
+    result = unittest.TextTestRunner(sys.stdout, verbosity=0).run(suite)
     for test, reason in result.skipped:
         tally.skip(test.id(), reason)
-    tally.add(result.passed, len(result.failed))
+    # A test of which parts failed stands here more than once, and a class that was left as a whole ran no test.
+    failed = {getattr(test, "test_case", test) for test, _ in result.failures + result.errors}
+    failed.update(result.unexpectedSuccesses)
+    others = failed.union(test for test, _ in result.skipped)
+    tally.add(result.testsRun - sum(isinstance(test, unittest.TestCase) for test in others), len(failed))
 
 
 def try_side_by_side(tally: Tally, suite: unittest.TestSuite, at_once: int, first: Sequence[str] = ()) -> None:
