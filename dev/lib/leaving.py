@@ -9,11 +9,12 @@ import signal
 import tempfile
 import time
 from types import FrameType
-from typing import Any, Collection, Dict, Iterator, List, Optional, Set
+from typing import Any, Callable, Collection, Dict, Iterator, List, Optional, Set
 
 SIGNALS = (signal.SIGHUP, signal.SIGINT, signal.SIGTERM)
 PATIENCE = 10  # seconds that killed processes have to end
-PR_SET_CHILD_SUBREAPER = 36  # of <linux/prctl.h>
+PR_SET_PDEATHSIG, PR_SET_CHILD_SUBREAPER = 1, 36  # of <linux/prctl.h>
+prctl = ctypes.CDLL(None).prctl
 
 
 class Interrupted(KeyboardInterrupt):
@@ -47,7 +48,7 @@ def leaving_no_process(adopts: bool = False) -> Iterator[contextlib.ExitStack]:
 
     handle_all(interrupt)
     signal.signal(signal.SIGCHLD, signal.SIG_DFL)  # where it is ignored, the system does not tell how children ended
-    adopt(adopts)
+    prctl(PR_SET_CHILD_SUBREAPER, int(adopts), 0, 0, 0)
     try:
         yield last
     except Exception as fault:
@@ -58,7 +59,7 @@ def leaving_no_process(adopts: bool = False) -> Iterator[contextlib.ExitStack]:
         handle_all(signal.SIG_IGN)
         end_descendants(others)
         last.close()
-        adopt(False)
+        prctl(PR_SET_CHILD_SUBREAPER, 0, 0, 0, 0)
     for number, action in before.items():
         signal.signal(number, action)
 
@@ -74,9 +75,14 @@ def leaving_nothing() -> Iterator[str]:
         yield room
 
 
-def adopt(is_wanted: bool) -> None:
-    """Whether processes that lose their parent become children of this one."""
-    ctypes.CDLL(None).prctl(PR_SET_CHILD_SUBREAPER, int(is_wanted), 0, 0, 0)
+def status_of(command: Callable[[str], int]) -> int:
+    """Runs a command with a folder for temporary files, of which it leaves nothing. Returns its exit status, or that of
+    a signal that broke it off."""
+    try:
+        with leaving_nothing() as room:
+            return command(room)
+    except Interrupted as interrupted:
+        return interrupted.status
 
 
 def descendants(others: Collection[int] = ()) -> Set[int]:

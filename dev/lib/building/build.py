@@ -1,11 +1,9 @@
 """The build of a program's crates, each as soon as those below it are built."""
 from __future__ import annotations
 
-import ctypes
 import fcntl
 import os
 import re
-import select
 import signal
 import subprocess
 import tempfile
@@ -18,13 +16,11 @@ from typing import IO
 from building.crates import Crates
 from building.progress import Progress, say
 from building.rooms import Rooms
+from leaving import PR_SET_PDEATHSIG, prctl
 
-TICK = 1.0  # seconds between two looks at what the crates' commands have written
+TICK = 0.1  # seconds between two looks at the crates' commands, and at what they have written
 ROOM = 4_000_000_000  # bytes of memory that must be available before a crate is begun beside others
 ASIDE = 5  # added to a crate's niceness for each crate beside it that has precedence
-PR_SET_PDEATHSIG = 1  # of <linux/prctl.h>
-
-libc = ctypes.CDLL(None)
 
 
 @dataclass(eq=False)
@@ -57,7 +53,7 @@ class Build:
         self._progress = Progress(len(crates.names))
         self._order = TopologicalSorter(crates.uses)
         self._waiting: list[str] = []
-        self._running: dict[int, Running] = {}  # by descriptors of their processes
+        self._running: list[Running] = []
 
     def run(self) -> int:
         """Builds all, and returns how many seconds that took. Raises Failed when the first crate fails."""
@@ -65,11 +61,12 @@ class Build:
         while self._order.is_active():
             self._waiting += self._order.get_ready()
             self._begin_those_that_may()
-            for ended in select.select([*self._running], [], [], TICK)[0]:
-                os.close(ended)
-                self._end(self._running.pop(ended))
-            for it in self._running.values():
+            time.sleep(TICK)
+            for it in [*self._running]:
+                has_ended = it.process.poll() is not None
                 self._progress.hear(it.crate, it.output())
+                if has_ended:
+                    self._end(it)
             self._progress.tell()
         return self._progress.seconds()
 
@@ -78,16 +75,15 @@ class Build:
             if not may_begin(len(self._running), len(os.sched_getaffinity(0)), available_memory()):
                 return
             self._waiting.remove(crate)
-            it = self._begin(crate)
-            self._running[os.pidfd_open(it.process.pid)] = it
+            self._running.append(self._begin(crate))
 
     def _begin(self, crate: str) -> Running:
         """Begins with a crate. Those that run already and have a longer way up have precedence at the processors."""
         way_up = self._crates.way_up
-        nice = ASIDE * sum(way_up[it.crate] > way_up[crate] for it in self._running.values())
+        nice = ASIDE * sum(way_up[it.crate] > way_up[crate] for it in self._running)
 
         def prepare() -> None:
-            libc.prctl(PR_SET_PDEATHSIG, signal.SIGKILL, 0, 0, 0)
+            prctl(PR_SET_PDEATHSIG, signal.SIGKILL, 0, 0, 0)
             os.nice(nice)
 
         # It stays in the group of this process, which a terminal stops and ends as a whole, and in its session, since
@@ -98,12 +94,11 @@ class Build:
         return Running(crate, subprocess.Popen(words, cwd=folder, **how), file)
 
     def _end(self, it: Running) -> None:
-        status = it.process.wait()
-        if status != 0:
-            raise Failed(it.crate, status, self._rooms.with_own_paths(it.crate, it.output()))
+        self._running.remove(it)
+        if it.process.returncode:
+            raise Failed(it.crate, it.process.returncode, self._rooms.with_own_paths(it.crate, it.output()))
         self._rooms.leave(it.crate)
         self._order.done(it.crate)
-        self._progress.hear(it.crate, it.output())
         self._progress.built(it.crate)
         it.file.close()
 
