@@ -1,19 +1,9 @@
 """The client package for Java, clients/java.
 
 javac compiles the package, its example and its tests with all warnings, none of which it may give, and javadoc writes
-the pages of all public items. Then JUnit runs the tests:
-
-    unit     jobs by themselves, and servers that are lost, full, silent or wrong as scripts of the protocol; and mvn,
-             which builds the package by its pom.xml and runs these tests
-    queues   one suite of what the JDK's pages say, over its own DelayQueue and over a queue at a server
-    served   what a queue at a server has beyond that, also behind TLS and stunnel, the example and the README's program
-    day      workers that are killed, clients that are silent or lie, and servers that are replaced, with 2,000 jobs
-             (RB_BROKER_JOBS; 20,000 took nine minutes on a machine that was busy with other work); each must be done
-             once or be named, and tools/verify must find no fault
-
-A JDK of version 17 or later is needed, and JUnit 4 with hamcrest where Debian's package junit4 puts them. If one of
-these is missing, all tests are skipped, and a line names what is missing. mvn and its plugins are those of Debian's
-packages (clients/java/README.md names them); without them, or without stunnel, those tests are skipped by name.
+the pages of all public items. Then JUnit runs the tests, mvn builds the package by its pom.xml, and the README's first
+part is followed. A JDK of version 17 or later is needed, and JUnit 4 with hamcrest where Debian's package junit4 puts
+them; without mvn and its plugins, or without stunnel, what needs these is skipped by name.
 """
 import os
 import re
@@ -35,9 +25,13 @@ COMMANDS = ("javac", "java", "javadoc")
 RELEASE = "17"
 VERSION = "2.0"
 TESTS = {
+    # jobs by themselves, and servers that are lost, full, silent or wrong as scripts of the protocol
     "unit": ("JobTest", "ScriptedTest", "LostRunTest"),
+    # one suite of what the JDK's pages say, over its own DelayQueue and over a queue at a server
     "queues": ("DelayQueueTest", "SharedQueueTest"),
+    # what a queue at a server has beyond that
     "served": ("ServedTest", "TurnsTest", "TlsTest"),
+    # workers that are killed, clients that are silent or lie, and servers that are replaced
     "day": ("HostileDayTest",),
 }
 DELIVERED = ["deliver letter-17, attempt 1", "deliver letter-17, attempt 2"]  # by the README's program

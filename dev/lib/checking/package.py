@@ -2,12 +2,9 @@
 
 The options in the manual page, the completions, the unit and its file of options are compared with the table
 packaging/options.json, and that table with the program: with its --help, and with what it accepts at both ends of each
-range. Then tools/package makes the package, and `dpkg --root` installs it into an empty root. From there the page is
-formatted, the shells complete, and systemd-analyze reads the units. A service serves a client as the unit runs it, is
-stopped in good order, continues, and its server is killed; sessions are cut, alone, for their silence, and when a
-server is stopped whose clients do not leave. The installed tools, examples and pages are used, and dpkg removes everything.
-A systemd that is started in namespaces runs the units, also with its date set forward and back. Finally the tools are
-given bad input.
+range. Then tools/package makes the package, and `dpkg --root` installs it into an empty root, from where all of it is
+used: page, completions, units, a service, the tools, examples and pages. dpkg removes everything, a systemd that is
+started in namespaces runs the units, and finally the tools are given bad input.
 
 This needs what tools/package needs, man, bash and ss. Tests that use mandoc, zsh or systemd-analyze are skipped if
 these are missing, and a line says so. So are those that cut sessions or start a systemd where that can't be done: it

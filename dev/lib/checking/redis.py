@@ -32,7 +32,7 @@ LONGEST = [
 
 def has_package(python: str) -> bool:
     """Whether a Python has the package redis."""
-    return subprocess.run([python, "-c", "import redis.asyncio"], stderr=subprocess.DEVNULL, check=False).returncode == 0
+    return not subprocess.run([python, "-c", "import redis.asyncio"], capture_output=True, check=False).returncode
 
 
 def missing() -> list[str]:

@@ -22,7 +22,8 @@ TYPE_PARAMETERS = re.compile(r"\A([^<=]*)<[^(=]*?>(?= \{|;|\()")
 def words_of(item: Item, code: list[str], is_constructor: Callable[[str], bool]) -> Iterator[str]:
     """The free names of these lines of an item. In a pattern a constructor's name is free, and any other is bound."""
     text = re.sub(r"\"[^\"\n]*\"", "", "\n".join(it.split(" -- ")[0] for it in code if not is_comment(it)))
-    bound = {*re.findall(r"[\w']+", re.sub(r" : [^)]*", "", " ".join(it[1] or it[2] for it in FUNCTION.finditer(text))))}
+    functions = " ".join(it[1] or it[2] for it in FUNCTION.finditer(text))
+    bound = {*re.findall(r"[\w']+", re.sub(r" : [^)]*", "", functions))}
     if item.path.endswith(".rt"):
         bound |= {*PARAMETER.findall(text), *(VARIANT.findall(text) if item.kind == "enum" else ())}
         yield from free(stated(item, text) if item.kind == "fn" else TYPE_PARAMETERS.sub(r"\1", text), bound)

@@ -2,7 +2,7 @@
 import os
 import unittest
 
-from building.tests.checkout import LINES, ONE, PROCESSORS, THREE, TWO, CheckoutTest
+from building.tests.checkout import LINES, ONE, PROCESSORS, TABLE, THREE, TWO, CheckoutTest
 
 
 class BuildTest(CheckoutTest):
@@ -60,18 +60,15 @@ class BuildTest(CheckoutTest):
         self.assertRegex(errors, r"(?m)^broker: \d+ s: .*; 3 of 5 crates built; proving rb_right$")
         self.assertRegex(errors, r"(?m)^broker: \d+ s: rb_right took \d+ s; 4 of 5 crates built")
 
-    def test_a_crate_whose_proof_is_kept_is_not_named(self) -> None:
+    def test_a_crate_whose_proof_is_kept_is_named_only_if_rt_waits(self) -> None:
         self.does("rb_left.kept", "")
         _, _, errors = self.build()
         self.assertNotIn("rb_left", errors)
         self.assertIn("5 of 5 crates built", errors)
-
-    def test_what_rt_waits_for_is_told(self) -> None:
-        self.does("rb_left.kept", "")
         says = "rt: rb_left: another copy is building this library; waiting for it"
+        self.write("crates/rb_left/src/lib.rt", "// changed\n")
         self.does("rb_left", f'echo "{says}" && sleep 1.5')
-        _, _, errors = self.build()
-        self.assertRegex(errors, rf"(?m)^broker: \d+ s: rb_left: {says}$")
+        self.assertRegex(self.build()[2], rf"(?m)^broker: \d+ s: rb_left: {says}$")
 
     @unittest.skipIf(len(PROCESSORS) < 3, "fewer than three processors")
     def test_a_crate_that_fails_stops_the_others_and_shows_its_output(self) -> None:
@@ -97,20 +94,16 @@ class BuildTest(CheckoutTest):
         self.assertEqual(self.build()[0], 7)
         self.assertEqual(self.made("rb_broker", "incremental/builds"), "rb_broker\nrb_broker\n")
 
-    def test_an_rt_that_leaves_no_program(self) -> None:
+    def test_a_table_that_is_wrong_and_an_rt_that_leaves_no_program(self) -> None:
         self.does("rb_broker", "exit 0")
-        status, _, errors = self.build()
-        self.assertEqual(status, 126)
-        self.assertRegex(errors.splitlines()[-1], r"^broker: rb_broker could not be built: rt has left no .+$")
-
-    def test_a_table_that_is_wrong(self) -> None:
         for table, why in (
             ("rb_base:\n", "crates.txt does not list rb_broker"),
             ("rb_base: rb_left\nrb_left: rb_base\nrb_broker: rb_left\n", "in crates.txt rb_base stands on itself"),
-            ("rb_none:\nrb_broker: rb_none\n", "[Errno 2] No such file or directory: '{}/crates/rb_none'"),
+            ("rb_none:\nrb_broker: rb_none\n", "[Errno 2] No such file or directory: '{top}/crates/rb_none'"),
+            (TABLE, "rt has left no {top}/crates/rb_broker/out/rb_broker"),
         ):
+            self.assertEqual(self.log(), [])
             self.write("crates.txt", table)
             status, _, errors = self.build()
-            wanted = f"broker: rb_broker could not be built: {why.format(self.top)}\n"
-            self.assertEqual((status, errors), (126, wanted))
-        self.assertEqual(self.log(), [])
+            last = f"broker: rb_broker could not be built: {why.format(top=self.top)}"
+            self.assertEqual((status, errors.splitlines()[-1]), (126, last))

@@ -4,31 +4,30 @@ import signal
 
 from building.tests.checkout import PATIENCE, CheckoutTest
 
+# Ctrl-C, a signal to the build alone, and a terminal that goes away: each with whether the whole group gets it.
+SIGNALS = ((signal.SIGINT, True), (signal.SIGTERM, False), (signal.SIGHUP, True))
+
 
 class StoppingTest(CheckoutTest):
-    def stops(self, number: int, is_whole_group: bool) -> None:
-        """Stops a build whose crates ignore signals, and have orphans in other sessions."""
+    def stops(self, number: signal.Signals, is_whole_group: bool, times: int) -> None:
+        """Stops a build, so many times now, whose crates ignore signals, and have orphans in other sessions."""
         self.does("rb_right", 'trap "" TERM INT HUP; (setsid sleep 600 &); sleep 600 & sleep 600')
         self.does("rb_left", "sleep 600 | sleep 600")
         started = self.start()
-        self.await_event("rb_right begins")
+        self.await_event("rb_right begins", times)
         for _ in range(2):  # as timeout does, and people who are impatient
             (os.killpg if is_whole_group else os.kill)(started.pid, number)
         _, errors = started.communicate(timeout=PATIENCE)
         self.assertEqual(started.returncode, -number, errors)
-        name = signal.Signals(number).name
-        self.assertEqual(errors.splitlines()[-1], f"broker: the build was stopped by {name}; what it has built is kept")
+        last = f"broker: the build was stopped by {number.name}; what it has built is kept"
+        self.assertEqual(errors.splitlines()[-1], last)
         self.assertEqual(self.left_over(), [])
-        self.assertEqual(self.made("rb_base", "incremental/builds"), "rb_base\n")
+        self.assertEqual(self.made("rb_base", "incremental/builds"), times * "rb_base\n")
 
-    def test_control_c(self) -> None:
-        self.stops(signal.SIGINT, is_whole_group=True)
-
-    def test_a_signal_to_the_build_alone(self) -> None:
-        self.stops(signal.SIGTERM, is_whole_group=False)
-
-    def test_a_terminal_that_goes_away(self) -> None:
-        self.stops(signal.SIGHUP, is_whole_group=True)
+    def test_signals(self) -> None:
+        for times, (number, is_whole_group) in enumerate(SIGNALS, 1):
+            with self.subTest(signal=number.name):
+                self.stops(number, is_whole_group, times)
 
     def test_a_build_that_is_killed_leaves_no_rt_and_the_next_clears_up(self) -> None:
         self.build()
