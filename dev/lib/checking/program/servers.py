@@ -1,71 +1,139 @@
-"""Servers of one or two clients: their replies, their last lines, and their histories."""
-import re
+"""Servers whose clients wait for each reply: where they listen, how many they serve at once, when failed jobs come
+back, their clock, and when their histories and last lines are there."""
+import contextlib
+import select
+import socket
+import time
+from typing import Iterator, Optional
 
-from checking.program.runs import Faults, Place, audit, lines
-from checking.program.visits import ended, hang_up, reply_fault, serving, visit_fault
+from checking.program.cases import Faults, Place, end_of
+from serving import PATIENCE
+from serving.server import Server
 from serving.session import Session
 
-ONE_JOB = audit("calls=2 offered=1 given=1")  # it is taken, and done or lost
-TWO_ATTEMPTS = audit("calls=4 offered=2 given=2")
-EARLIER = "of an earlier run\n"  # the file `earlier` of runs.txt
+SECOND, MILLISECOND = 10**9, 10**6  # in nanoseconds, as the server counts
+FAR = 10**6 * SECOND  # a delay after which nobody takes any more
 
 
-def last_lines(sessions: int, audit: str, lost: int = 0) -> str:
-    """What a server writes at its end, when no session has ended by a fault."""
-    return f"sessions {sessions} faults 0 lost {lost}\n{audit}"
+@contextlib.contextmanager
+def visited(place: Place, words: str, sessions: int = 1, status: int = 0, errors: str = "") -> Iterator[Server]:
+    """A server with these words, which must end like this when its sessions have ended."""
+    with place.start(f"{words} --sessions {sessions}") as server:
+        yield server
+        if fault := end_of(server).fault(status, errors=errors):
+            raise AssertionError(f"the server ended: {fault}")
 
 
-def two_clients(place: Place) -> Faults:
-    """Two clients at once: one waits for what the other offers. Meanwhile nobody else gets their port."""
-    with serving(place, "--sessions 2 --workers 2 --turns 1000 --history {room}/history") as server:
-        for name, words in (("", ""), (", and a history", "--history earlier")):
-            end = place.run(f"rb_broker serve --port {server.port} {words}")
-            yield f"a port that is in use{name}", end.fault(3, errors="rb_broker: cannot listen\n")
-        yield "the history that a port in use left", place.run("cat earlier").fault(output=EARLIER)
-        with Session(server.port) as taker:
-            taker.send("TAKE", "DONE 0", "QUIT")
-            replies = lines("ERR 1 syntax", "OFFERED 0 [0-9]+", "BYE")
-            yield "a client that offers", visit_fault(server, lines("AT 5", "OFFER 0 job", "QUIT"), replies)
-            replies = lines("ITEM 0 [0-9]+ 1 job", "DONE 0", "BYE")
-            yield "a client that waits for an offer", reply_fault(taker, replies)
-        yield "a server of two clients", ended(server).fault(output=last_lines(2, ONE_JOB))
-    yield "the served run's history", place.run("rb_broker replay --chains history").fault(output=ONE_JOB)
+@contextlib.contextmanager
+def clients_of(place: Place, words: str, count: int = 1) -> Iterator[list[Session]]:
+    """So many clients at once of a server with these words, all of which must end well."""
+    with visited(place, words, count) as server, contextlib.ExitStack() as stack:
+        clients = [stack.enter_context(Session(server.port)) for _ in range(count)]
+        yield clients
+        for client in clients:
+            client.quit()
 
 
-def next_run(place: Place) -> Faults:
-    """A server continues the run of two clients, in the same file. One client hangs up with a job, and another gets it
-    again."""
-    words = "--sessions 2 --workers 1 --turns 1000 --delay 0 --from {room}/history --history {room}/history"
-    with serving(place, words) as server:
-        hang_up(server, lines("OFFER 0 job", "TAKE"), 2)
-        replies = lines("ITEM 2 [0-9]+ 2 job", "DONE 2", "BYE")
-        yield "a client after one that hung up", visit_fault(server, lines("TAKE", "DONE 2", "QUIT"), replies)
-        yield "a server that goes on", ended(server).fault(output=last_lines(2, TWO_ATTEMPTS))
-    yield "the history of a run that goes on", place.run("rb_broker replay history").fault(output=TWO_ATTEMPTS)
+def differ(told: object, wanted: object) -> Optional[str]:
+    """What was told, if it is not what was wanted."""
+    return None if told == wanted else f"{told}, not {wanted}"
 
 
-def lost_job(place: Place) -> Faults:
-    """There is room for the offer and the take alone, so the job that the client leaves can't be offered again."""
-    with serving(place, "--calls 2") as server:
-        hang_up(server, lines("OFFER 0 job", "TAKE"), 2)
-        yield "a server that loses a job", ended(server).fault(output=last_lines(1, ONE_JOB, lost=1))
+def address(place: Place) -> Faults:
+    """A server listens at 127.0.0.1, and nowhere else."""
+    fault = None
+    with visited(place, "", sessions=2) as server:
+        try:
+            socket.create_connection(("127.0.0.2", server.port), timeout=PATIENCE).close()
+            fault = "it is accepted"
+        except ConnectionRefusedError:
+            Session(server.port).quit()
+        Session(server.port).quit()
+    yield "a connection to 127.0.0.2", fault
 
 
-def full_device(place: Place) -> Faults:
-    """A history that can't be written is said when all is served, and the last lines are there all the same."""
-    with serving(place, "--history /dev/full") as server:
-        hang_up(server, lines("OFFER 0 job", "TAKE", "DONE 0"), 3)
-        fault = ended(server).fault(3, last_lines(1, ONE_JOB), "rb_broker: cannot write history\n")
-        yield "a server's history on a full device", fault
+def workers(place: Place) -> Faults:
+    """As many clients as there are workers are served, and one more once the first of them has left."""
+    for name, count in {"one worker": 1, "two workers": 2, "three workers": 3}.items():
+        with clients_of(place, f"--workers {count}", count + 1) as clients:
+            for client in clients[:count]:
+                client.ask("SIZE")
+            last = clients[count]
+            last.send("SIZE")
+            is_early = select.select([last.socket], [], [], 0.3)[0]
+            clients.pop(0).quit()
+            last.reply()
+        yield name, "a client beyond the workers is answered" if is_early else None
 
 
-def unread_replies(place: Place) -> Faults:
-    """A client that hangs up and reads nothing ends no server. Whether that is a fault depends on the time."""
-    with serving(place, "--sessions 2 --workers 1 --timer wheel") as server:
-        hang_up(server, "SIZE\n" * 3000, 0)
-        fault = visit_fault(server, lines("OFFER 01 a", "QUIT"), lines("ERR 2 number", "BYE"))
-        yield "a client after one that read nothing", fault
-        end = ended(server)
-    is_counted = re.search("^sessions 2 faults [01] lost 0$", end.output, re.M)
-    fault = end.fault() or (None if is_counted else f"no count of sessions: {end.output}")
-    yield "a server whose client read nothing", fault
+def failing_with_a_delay(place: Place) -> Faults:
+    """The second attempt expires one delay after the moment of the failure, and is not given before."""
+    delay = 50 * MILLISECOND
+    with clients_of(place, f"--delay {delay} --attempts 2") as [client]:
+        client.ask("OFFER 0 job")
+        client.ask("TAKE")
+        before, again, after = moment(client), client.ask("FAIL 0"), moment(client)
+        told = [again, client.ask("TAKE"), client.ask("FAIL 2")]
+        taken = moment(client)
+    expiry = int(again.split(" ")[2])
+    fault = differ(told, [f"AGAIN 2 {expiry}", f"ITEM 2 {expiry} 2 job", "DEAD 2"])
+    if not before + delay <= expiry <= after + delay or taken < expiry:
+        fault = f"it failed from {before} to {after}, was to come back at {expiry}, and came before {taken}"
+    yield "a job that fails, with a delay", fault
+
+
+def clock(place: Place) -> Faults:
+    """The moment advances with the machine's clock, from the last one of the history before."""
+    last, fault = 5000 * SECOND, None
+    (place.room / "long").write_text(f"history 3\nopen 0 {last} 0\nend 0\n", "ascii")
+    began = time.monotonic_ns()
+    with clients_of(place, "--from {room}/long") as [client]:
+        before, first = time.monotonic_ns(), moment(client)
+        time.sleep(0.3)
+        second, after = moment(client), time.monotonic_ns()
+    if not 0 <= first - last <= after - began:
+        fault = f"the first moment is {first}, behind {last} and at most {after - began} more"
+    elif not 0.3 * SECOND <= second - first <= after - before:
+        fault = f"{second - first} from the one moment to the next, in at most {after - before}"
+    yield "the moments of a server", fault
+
+
+def moment(client: Session) -> int:
+    """The server's moment, by the expiry of an element that nobody takes."""
+    return int(client.ask(f"OFFER {FAR} mark").split(" ")[2]) - FAR
+
+
+def history_before_the_last_lines(place: Place) -> Faults:
+    """Once the last line can be read, the history of many calls is whole."""
+    pieces, piece = 50, 1000
+    with visited(place, f"--calls {pieces * piece} --history {{room}}/before") as server:
+        with Session(server.port) as client:
+            for _ in range(pieces):
+                client.send(*["SIZE"] * piece)
+                for _ in range(piece):
+                    client.reply()
+            client.quit()
+        lines = [server.process.stdout.readline() for _ in range(2)]
+        end = last_line_of(place, "before")
+    fault = differ(end, [f"end {pieces * piece}"]) or (None if lines[1].startswith('{"calls":') else f"{lines}")
+    yield "a history before the last lines", fault
+
+
+def history_without_the_last_lines(place: Place) -> Faults:
+    """Nobody reads the server's last lines, and the history is written all the same."""
+    with visited(place, "--history {room}/without", status=3, errors="rb_broker: cannot write output\n") as server:
+        server.process.stdout.close()
+        with Session(server.port) as client:
+            client.ask("SIZE")
+            client.quit()
+    yield "a history without the last lines", differ(last_line_of(place, "without"), ["end 1"])
+
+
+def last_line_of(place: Place, history: str) -> list[str]:
+    """The last line of a history, if it has one."""
+    return (place.room / history).read_text("ascii").splitlines()[-1:]
+
+
+CHECKS = (
+    address, workers, failing_with_a_delay, clock, history_before_the_last_lines, history_without_the_last_lines
+)

@@ -11,7 +11,7 @@ from checking.testing import RoomTest
 from common.program import TOP, tested_program
 
 PATIENCE = 300  # seconds that a run of the tool may take, or anything in it
-COUNT = 107  # what is compared
+COUNT = 110  # what is compared
 
 # Notes its process, and becomes the program, which gets other words for some.
 STAND_IN = """#!/bin/sh
@@ -28,7 +28,7 @@ WRONG = [
     ("'script --timer wheel'", "script --timer list", "--timer wheel: its output;"),
     ("'scripts'", "script", "an unknown command: status 0, not 2; its output;"),
     ("'replay /'", "--help", "a replay of a folder: status 0, not 3; its errors;"),
-    ("'serve --port '*' --timer list'", 'serve --port "$3" --timer heap', "serve --timer list: 'OFFERED 0 0"),
+    ("'serve --port '*' --timer list'", 'serve --port "$3" --timer heap', "serve --timer list: its output;"),
     ("'serve --port '*' --calls 2'", 'serve --port "$3" --calls 3', "a server that loses a job: its output;"),
 ]
 
