@@ -13,7 +13,7 @@ import subprocess
 import tempfile
 from typing import Iterator
 
-from checking.server.clients import Client, early, run_client
+from checking.server.clients import Client, early
 from checking.tally import Tally
 from checking.testing import run_tool
 from common.program import tested_program
@@ -46,11 +46,10 @@ def check_end(tally: Tally, server: Server, clients: list[Client], history: str)
     tally.count("the audit line", None if lines[1:] == told else f"{lines[1:]}, but the replay's is {told}")
 
 
-def check_clients(tally: Tally, runs: list[tuple[Client, str]], history: str, room: str) -> None:
-    """What each client saw."""
-    for client, fault in runs:
-        tally.count(f"client {client.number}, which {client.does.__name__}", fault)
-    clients = [client for client, _ in runs]
+def check_clients(tally: Tally, clients: list[Client], faults: list[str], history: str, room: str) -> None:
+    """What went wrong at each client, and what it saw."""
+    for client, fault in zip(clients, faults):
+        tally.count(f"client {client.number}, which {client.does}", fault)
     record = f"{room}/record"
     with open(record, "w", encoding="ascii") as file:
         file.writelines(line for client in clients for line in client.record())
@@ -80,7 +79,7 @@ def check_jobs(tally: Tally, clients: list[Client], path: str) -> None:
 
 
 def jobs_that_differ(history: History, clients: list[Client]) -> Iterator[str]:
-    """Which jobs were given, neither done nor at their last attempt, and did not come back, or came back all the same."""
+    """Which jobs were given, were neither done nor at their last attempt, and did not come back; or did all the same."""
     done = {int(it[5:]) for it in first_lines(clients) if it.startswith("DONE ")}
     elements = [history.elements.element(row) for row in range(len(history.elements))]
     attempts = {(it.origin, it.attempt) for it in elements}
@@ -98,9 +97,9 @@ def check(tally: Tally) -> None:
         words = ["--sessions", SESSIONS, "--workers", WORKERS, "--calls", 1_000_000]
         words += ["--delay", DELAY, "--attempts", ATTEMPTS, "--turns", TURNS, "--history", f"{room}/history"]
         server = Server(words)
+        clients = [Client(it, SEED) for it in range(SESSIONS)]
         with concurrent.futures.ThreadPoolExecutor(AT_ONCE) as pool:
-            runs = list(pool.map(lambda it: run_client(it, server.port, SEED), range(SESSIONS)))
-        clients = [client for client, _ in runs]
+            faults = [*pool.map(lambda it: it.run(server.port), clients)]
         check_end(tally, server, clients, f"{room}/history")
-        check_clients(tally, runs, f"{room}/history", room)
+        check_clients(tally, clients, faults, f"{room}/history", room)
         check_jobs(tally, clients, f"{room}/history")

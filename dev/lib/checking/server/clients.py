@@ -4,13 +4,36 @@ import random
 import socket
 import time
 from dataclasses import asdict, dataclass, field
-from typing import Callable, Iterable, Iterator, Optional
+from typing import Iterable, Iterator, Optional
 
 from serving.session import Session
 
 # A client's first request removes the element of this id and its own number. There is none, so nothing changes,
 # but the history tells by that event where the client's own begin.
 FIRST_MARK = 2**63
+# What clients do after their mark, step by step: a step is a method of Client, perhaps with requests, which may be
+# meant several times. Each ends its session in its own way.
+SCRIPTS = {
+    "gives": "5-19 times ask any; quit",
+    "gives_in_batches": "4 times ask any*1-32; end_input",
+    "works": "5-29 times work; quit",
+    "works_in_batches": "5 times work_off; end_input",
+    "holds_too_many": "ask offer*70, DRAIN 1000, DRAIN 1, POLL, TAKE, POLLFOR 5; end_input",
+    "looks": "10 times ask look; ask remove; quit",
+    "clears": "ask CLEAR; quit",
+    "says_nothing": "nap 0.2; hang_up",
+    "dribbles": "dribble any, POLL, any, SIZE; quit",
+    "hangs_up": "ask offer*5, TAKE, POLL, DRAIN 3; hang_up",  # it holds jobs, and has read all its replies
+    "hangs_up_on_its_replies": "send offer*5, TAKE, TAKE, SIZE*50; 0-7 times hear; hang_up",
+    "leaves_while_it_waits": "send TAKE; nap 0.02; hang_up",
+    "resets": "ask offer, TAKE, DRAIN 4; reset",
+    "resets_while_it_waits": "send offer, TAKE, offer 5000000, TAKE; hear; reset",
+    "sends_half_a_line": "ask offer, TAKE; send_half; end_input",
+    "sends_noise": "send_noise; end_input",
+    "reads_no_more": "send offer, TAKE; fill; reset",
+}
+MORE = ("works", "gives", "works", "works")  # of these there are more than of others
+LOOKS = ("SIZE", "PEEK", "POLLFOR 0", "AT 5", "DONE 7", "FAIL 7", "poll", "")
 
 
 @dataclass
@@ -28,22 +51,66 @@ class Client:
 
     session: Session
 
-    def __init__(self, number: int, does: "Callable[[Client], None]", seed: str) -> None:
-        self.number, self.does, self.rng = number, does, random.Random(f"{seed} {number}")
+    def __init__(self, number: int, seed: str) -> None:
+        kinds = [*SCRIPTS, *MORE]
+        self.number, self.does, self.rng = number, kinds[number % len(kinds)], random.Random(f"{seed} {number}")
         self.asked: list[Asked] = []
         self.offered = self.read = 0  # how many elements it offered, and how many replies it has read
         self.is_heard = True  # whether it read all that it was answered
         self.is_reset = False  # whether its session surely ended by a fault
+
+    def run(self, port: int) -> str:
+        """Runs it to its end. Gives what went wrong; nothing if all went well."""
+        try:
+            self.session = Session(port)
+            if self.does != "says_nothing":
+                self.ask(f"REMOVE {FIRST_MARK + self.number}")
+            for step in SCRIPTS[self.does].split("; "):
+                times, _, done = step.rpartition(" times ")
+                word, _, told = done.partition(" ")
+                for _ in range(self.some(times)):
+                    getattr(self, word)(*self.requests(told))
+            return ""
+        except Exception as fault:  # whatever it is, it is told
+            self.is_heard = False
+            return f"{type(fault).__name__}: {fault}"
+
+    def some(self, told: str) -> int:
+        """A number from the first to the last of these; 1 if none is told."""
+        first, _, last = (told or "1").partition("-")
+        return self.rng.randint(int(first), int(last or first))
+
+    def requests(self, told: str) -> Iterator[str]:
+        """The requests of a step."""
+        for it in told.split(", ") if told else ():
+            request, _, times = it.partition("*")
+            yield from (self.request(request) for _ in range(self.some(times)))
+
+    def request(self, told: str) -> str:
+        """A request: as it is told, or an offer whose payload nobody else offers, or one that is chosen here."""
+        word, _, delay = told.partition(" ")
+        match word:
+            case "look":
+                return self.rng.choice(LOOKS)
+            case "remove":
+                return f"REMOVE {self.rng.randrange(500)}"
+            case "offer" | "any":
+                self.offered += 1
+                asked = f"OFFER {delay or 0}"
+                if word == "any":
+                    delay = self.rng.choice([0, 10**6, 10**7, 10**8]) * self.rng.randrange(1, 5)
+                    asked = f"OFFERAT {self.rng.randrange(10**10)}" if self.rng.random() < 0.1 else f"OFFER {delay}"
+                return f"{asked} {self.number}-{self.offered}"
+        return told
 
     def note(self, *requests: str) -> None:
         """Notes requests that are sent next."""
         now = time.monotonic_ns()
         self.asked += [Asked(request, now) for request in requests]
 
-    def send(self, *requests: str) -> None:
-        """Sends requests in one piece."""
-        self.note(*requests)
-        self.session.send(*requests)
+    def record(self) -> Iterator[str]:
+        """The lines of a record on all requests."""
+        return (json.dumps({"session": self.number, **asdict(it)}) + "\n" for it in self.asked)
 
     def hear(self) -> list[str]:
         """Reads the reply to the first request that has none yet. Returns the words of its first line."""
@@ -56,15 +123,6 @@ class Client:
         self.read += 1
         return it.reply[0].split(" ")
 
-    def record(self) -> Iterator[str]:
-        """The lines of a record on all requests."""
-        return (json.dumps({"session": self.number, **asdict(it)}) + "\n" for it in self.asked)
-
-    def ask(self, *requests: str) -> list[str]:
-        """Sends requests in one piece, and reads all replies. Returns the words of the last one's first line."""
-        self.send(*requests)
-        return self.hear_all()
-
     def hear_all(self) -> list[str]:
         """Reads the replies that are left. Returns the words of the last one's first line."""
         words: list[str] = []
@@ -72,26 +130,55 @@ class Client:
             words = self.hear()
         return words
 
-    def offer(self, delay: int) -> str:
-        """A request that offers an element, whose payload nobody else offers."""
-        self.offered += 1
-        return f"OFFER {delay} {self.number}-{self.offered}"
+    def ask(self, *requests: str) -> list[str]:
+        """Sends requests in one piece, and reads all replies. Returns the words of the last one's first line."""
+        self.note(*requests)
+        self.session.send(*requests)
+        return self.hear_all()
 
-    def offers(self, count: int) -> list[str]:
-        """Requests that offer elements without a delay."""
-        return [self.offer(0) for _ in range(count)]
+    def send(self, *requests: str) -> None:
+        """Sends requests in one piece, whose replies it will not all read."""
+        self.is_heard = False
+        self.note(*requests)
+        self.session.send(*requests)
 
-    def any_offer(self) -> str:
-        if self.rng.random() < 0.1:
-            return f"OFFERAT {self.rng.randrange(10**10)} {self.offer(0).split(' ')[2]}"
-        return self.offer(self.rng.choice([0, 10**6, 10**7, 10**8]) * self.rng.randrange(1, 5))
+    def dribble(self, *requests: str) -> None:
+        """Asks one request after the other, byte by byte."""
+        for request in requests:
+            self.note(request)
+            for byte in f"{request}\n".encode():
+                self.session.socket.sendall(bytes([byte]))
+            self.hear()
 
-    def fetch(self) -> Optional[str]:
-        """Asks for a job in some way. Returns its id, if there was one."""
+    def work(self) -> None:
+        """Asks for a job in some way, and ends it; or offers one, if there is none."""
         words = self.ask(self.rng.choice(["TAKE", "TAKE", "POLL", "POLLFOR 20000000", "DRAIN 1"]))
         if words == ["DRAINED", "1"]:
             words = self.asked[-1].reply[1].split(" ")
-        return words[1] if words[0] == "ITEM" else None
+        end = "DONE" if self.rng.random() < 0.7 else "FAIL"
+        self.ask(f"{end} {words[1]}" if words[0] == "ITEM" else self.request("any"))
+
+    def work_off(self) -> None:
+        """Offers jobs, fetches what is due, and ends all of it, each in one piece."""
+        self.ask(*self.requests("offer*8, SIZE, DRAIN 40, PEEK, DRAIN 0"))
+        held = [it.split(" ")[1] for it in self.asked[-3].reply[1:]]
+        self.ask(*[f"DONE {it}" for it in held[::2]], *[f"FAIL {it}" for it in held[1::2]])
+
+    def send_half(self) -> None:
+        self.note("DONE (half)")
+        self.session.socket.sendall(b"DONE")
+
+    def send_noise(self) -> None:
+        noise = self.rng.randbytes(self.rng.randrange(1, 100_000)) + b"\n" + b"x" * 100_000 + b"\nOFFER 1 \xff"
+        self.note(*noise.decode("latin-1").split("\n"))
+        self.session.socket.sendall(noise)
+
+    def fill(self) -> None:
+        """Sends until the server stops reading, because nobody reads what the server writes."""
+        self.session.fill()
+
+    def nap(self, most: str) -> None:
+        time.sleep(self.rng.random() * float(most))
 
     def quit(self) -> None:
         self.ask("QUIT")
@@ -106,152 +193,15 @@ class Client:
     def expect_end(self) -> None:
         if rest := self.session.rest():
             raise AssertionError(f"bytes behind the last reply: {rest[:100]!r}")
+        self.hang_up()
+
+    def hang_up(self) -> None:
         self.session.hang_up()
 
     def reset(self) -> None:
         """Hangs up so that the server's next read or write fails."""
         self.is_reset = True
         self.session.reset()
-
-
-# What a client does, after its mark. Each ends its session in its own way.
-
-
-def gives(client: Client) -> None:
-    for _ in range(client.rng.randrange(5, 20)):
-        client.ask(client.any_offer())
-    client.quit()
-
-
-def gives_in_batches(client: Client) -> None:
-    for _ in range(4):
-        client.ask(*[client.any_offer() for _ in range(client.rng.randrange(1, 33))])
-    client.end_input()
-
-
-def works(client: Client) -> None:
-    for _ in range(client.rng.randrange(5, 30)):
-        job = client.fetch()
-        if job is None:
-            client.ask(client.any_offer())
-        else:
-            client.ask(f"{'DONE' if client.rng.random() < 0.7 else 'FAIL'} {job}")
-    client.quit()
-
-
-def works_in_batches(client: Client) -> None:
-    for _ in range(5):
-        client.ask(*client.offers(8), "SIZE", "DRAIN 40", "PEEK", "DRAIN 0")
-        held = [it.split(" ")[1] for it in client.asked[-3].reply[1:]]
-        client.ask(*[f"DONE {it}" for it in held[::2]], *[f"FAIL {it}" for it in held[1::2]])
-    client.end_input()
-
-
-def holds_too_many(client: Client) -> None:
-    client.ask(*client.offers(70), "DRAIN 1000", "DRAIN 1", "POLL", "TAKE", "POLLFOR 5")
-    client.end_input()
-
-
-def looks(client: Client) -> None:
-    for _ in range(10):
-        client.ask(client.rng.choice(["SIZE", "PEEK", "POLLFOR 0", "AT 5", "DONE 7", "FAIL 7", "poll", ""]))
-    client.ask(f"REMOVE {client.rng.randrange(500)}")
-    client.quit()
-
-
-def clears(client: Client) -> None:
-    client.ask("CLEAR")
-    client.quit()
-
-
-def says_nothing(client: Client) -> None:
-    time.sleep(client.rng.random() / 5)
-    client.session.hang_up()
-
-
-def dribbles(client: Client) -> None:
-    for request in (client.any_offer(), "POLL", client.any_offer(), "SIZE"):
-        client.note(request)
-        for byte in f"{request}\n".encode():
-            client.session.socket.sendall(bytes([byte]))
-        client.hear()
-    client.quit()
-
-
-def hangs_up(client: Client) -> None:
-    """It holds jobs, has read all its replies, and sends nothing more."""
-    client.ask(*client.offers(5), "TAKE", "POLL", "DRAIN 3")
-    client.session.hang_up()
-
-
-def hangs_up_on_its_replies(client: Client) -> None:
-    client.is_heard = False
-    client.send(*client.offers(5), "TAKE", "TAKE", *["SIZE"] * 50)
-    for _ in range(client.rng.randrange(8)):
-        client.hear()
-    client.session.hang_up()
-
-
-def leaves_while_it_waits(client: Client) -> None:
-    client.is_heard = False
-    client.send("TAKE")
-    time.sleep(client.rng.random() / 50)
-    client.session.hang_up()
-
-
-def resets(client: Client) -> None:
-    client.ask(client.offer(0), "TAKE", "DRAIN 4")
-    client.reset()
-
-
-def resets_while_it_waits(client: Client) -> None:
-    client.is_heard = False
-    client.send(client.offer(0), "TAKE", client.offer(5_000_000), "TAKE")
-    client.hear()
-    client.reset()
-
-
-def sends_half_a_line(client: Client) -> None:
-    client.ask(client.offer(0), "TAKE")
-    client.note("DONE (half)")
-    client.session.socket.sendall(b"DONE")
-    client.end_input()
-
-
-def sends_noise(client: Client) -> None:
-    noise = client.rng.randbytes(client.rng.randrange(1, 100_000)) + b"\n" + b"x" * 100_000 + b"\nOFFER 1 \xff"
-    client.note(*noise.decode("latin-1").split("\n"))
-    client.session.socket.sendall(noise)
-    client.end_input()
-
-
-def reads_no_more(client: Client) -> None:
-    """It sends until the server stops reading, because nobody reads what the server writes."""
-    client.is_heard = False
-    client.send(client.offer(0), "TAKE")
-    client.session.fill()
-    client.reset()
-
-
-KINDS = [
-    gives, gives_in_batches, works, works, works_in_batches, holds_too_many, looks, clears, says_nothing, dribbles,
-    hangs_up, hangs_up_on_its_replies, leaves_while_it_waits, resets, resets_while_it_waits, sends_half_a_line,
-    sends_noise, works, gives, works,
-]
-
-
-def run_client(number: int, port: int, seed: str) -> tuple[Client, str]:
-    """Runs a client to its end. Returns the client, and what went wrong; nothing if all went well."""
-    client = Client(number, reads_no_more if number % 50 == 25 else KINDS[number % len(KINDS)], seed)
-    try:
-        client.session = Session(port)
-        if client.does is not says_nothing:
-            client.ask(f"REMOVE {FIRST_MARK + number}")
-        client.does(client)
-        return client, ""
-    except Exception as fault:  # whatever it is, it is told
-        client.is_heard = False
-        return client, f"{type(fault).__name__}: {fault}"
 
 
 def early(clients: Iterable[Client]) -> Iterator[str]:
