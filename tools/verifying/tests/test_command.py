@@ -5,19 +5,52 @@ import subprocess
 
 from checking.testing import call_tool, tool
 from common.tests.support import long_work_at_terminal
-from histories.tests.support import text_of
-from verifying.tests.support import EVENTS, Line, RunTest, line, lines, record_of
+from verifying.tests.support import Line, Run, RunTest, line_of, record_of, texts_of
+
+RUN = Run.named("three sessions")
+((TEXT,),), RECORD = RUN.texts, record_of(RUN.record)
+EVENTS = TEXT.splitlines()[2:-1]
 
 
 class CommandTest(RunTest):
     def setUp(self) -> None:
         super().setUp()
-        self.history = self.file("run.txt", text_of(*EVENTS))
-        self.record = self.file("record.jsonl", record_of(lines()))
+        self.history, self.record = self.file("run.txt", TEXT), self.file("record.jsonl", RECORD)
 
     def expect_refused(self, says: str, *words: str) -> None:
         ran = self.verify(*words)
         self.assertEqual((ran.returncode, ran.stdout, ran.stderr), (2, "", f"verify: {says}\n"))
+
+    def expect_none(self, *words: str) -> None:
+        """No fault is found."""
+        ran = self.verify(*words)
+        self.assertEqual((ran.returncode, ran.stderr, ran.stdout.splitlines()[-1]), (0, "", "0 faults"), ran.stdout)
+
+    def test_what_was_compared(self) -> None:
+        self.assertEqual(self.verify(self.history, self.record).stdout.splitlines()[:3], [
+            "13 events at 2 seats; 14 requests of 3 sessions",
+            "10 replies that speak of an event; 1 request without a reply, of which 1 were carried out",
+            "2 jobs came back at the end of a session; 0 did not, in the last attempt or a full run; "
+            "0 events of no record",
+        ])
+
+    def test_records_in_several_files(self) -> None:
+        """The names of sessions are unique within a file, not among all."""
+        records = [[{**it, "session": 1} for it in RUN.record if it["session"] == name] for name in "abc"]
+        paths = [self.file(f"{number}.jsonl", record_of(it)) for number, it in enumerate(records)]
+        self.expect_none(self.history, *paths, "--all")
+
+    def test_shards(self) -> None:
+        run = Run.named("two shards")
+        record = self.file("both.jsonl", record_of(run.record))
+        names = [f"jobs.{queue}-000000000000.txt" for queue in range(2)]
+        histories = [self.file(name, text) for name, (text,) in zip(names, run.texts)]
+        for more in ((), ("--all",)):
+            self.expect_none(*histories, record, "--shards", "2", *more)
+        for name in ("jobs-000000000000.txt", "jobs.2-000000000000.txt"):
+            path = self.file(name, TEXT)
+            self.expect_refused(f"{path}: with --shards 2 a history is named NAME.K-NUMBER.txt, with K below 2",
+                                path, record, "--shards", "2")
 
     def test_a_run_without_events(self) -> None:
         ran = self.verify(self.file("empty.txt", "history 1\nend 0\n"), self.file("none.jsonl", ""), "--all")
@@ -25,41 +58,30 @@ class CommandTest(RunTest):
         self.assertEqual(ran.stdout.splitlines()[0], "0 events at 0 seats; 0 requests of 0 sessions")
 
     def test_a_series_of_histories(self) -> None:
-        first, second = EVENTS[:6], EVENTS[6:]
-        parts = [self.file("first.txt", text_of(*first)), self.file("second.txt", "\n".join(
-            ["history 3", "open 3 60 2", "keep 1 60 1 60 1 y", "keep 2 65 0 10 2 x", *second, f"end {len(second)}", ""]))]
+        opening = ["history 3", "open 3 60 2", "keep 1 60 1 60 1 y", "keep 2 65 0 10 2 x"]
+        texts = texts_of([*EVENTS[:6], *opening, *EVENTS[6:]])
+        parts = [self.file(f"{number}.txt", text) for number, text in enumerate(texts)]
         ran, whole = self.verify(*parts, self.record, "--all"), self.verify(self.history, self.record, "--all")
         self.assertEqual((ran.returncode, ran.stderr, ran.stdout), (0, "", whole.stdout))
-        with open(parts[1], encoding="utf-8") as it:
-            behind = self.file("behind.txt", it.read().replace("open 3 60 2", "open 3 65 2"))
+        behind = self.file("behind.txt", texts[1].replace("open 3 60 2", "open 3 65 2"))
         self.assertEqual(self.verify(parts[0], behind, self.record, "--all").stdout, whole.stdout)
-        changed = self.file("changed.jsonl", record_of(lines()).replace("HEAD 2 65", "HEAD 2 66"))
+        changed = self.file("changed.jsonl", RECORD.replace("HEAD 2 65", "HEAD 2 66"))
         self.assertIn("changed", self.verify(*parts, changed).stdout)
         self.expect_refused(f"{parts[0]}: line 2: it opens with 0 0, and the file before it ends with 5 105",
                             parts[1], parts[0], self.record)
         self.expect_refused("there is no RECORD", *parts)
-
-    def test_a_series_of_runs_between_which_time_passed(self) -> None:
-        """The clock of the second server did not go on meanwhile. Its sessions name no element."""
-        first = self.file("first.txt", text_of("1 10 10 offer 0 10 0 10 1 x"))
-        second = self.file("second.txt", "\n".join(
-            ["history 3", "open 1 10 1", "keep 0 10 0 10 1 x", "2 20 20 size 1", "end 1", ""]))
-        record = [line("a", 5, 12, "OFFER 0 x", "OFFERED 0 10"),
-                  line("b", 5_000_000_000, 5_000_000_100, "SIZE", "SIZE 1")]
-        ran = self.verify(first, second, self.file("both.jsonl", record_of(record)), "--all")
-        self.assertEqual((ran.returncode, ran.stdout.splitlines()[-1]), (0, "0 faults"), ran.stdout)
 
     def test_damaged_histories(self) -> None:
         for text, says in [
             ("", "line 1: no `history 1`, `history 2` or `history 3`"),
             ("history 3\nopen 0 0\n", "line 2: no `open` line"),
             ("history 3\nopen 3 0 1\nkeep 0 0 0\n", "line 3: no `keep` line"),
-            (text_of(*EVENTS).replace("size 1", "size"), "line 4: neither an event nor the last line"),
-            (text_of(*EVENTS).replace("end 13", "end 12"), "line 16: it tells 12, and the number of events is 13"),
-            (text_of(*EVENTS) + "more", "line 17: it stands behind the last line"),
-            (text_of(*EVENTS)[:-8], "line 15: the text ends before the history does"),
-            (text_of(*EVENTS)[:-7], "line 16: the text ends before the history does"),
-            (text_of(*EVENTS).replace("offer 3 ", "offer 99999999 "),
+            (TEXT.replace("size 1", "size"), "line 4: neither an event nor the last line"),
+            (TEXT.replace("end 13", "end 12"), "line 16: it tells 12, and the number of events is 13"),
+            (TEXT + "more", "line 17: it stands behind the last line"),
+            (TEXT[:-8], "line 15: the text ends before the history does"),
+            (TEXT[:-7], "line 16: the text ends before the history does"),
+            (TEXT.replace("offer 3 ", "offer 99999999 "),
              "line 11: the id 99999999, where the first one is 0"),
         ]:
             with self.subTest(says=says):
@@ -67,7 +89,7 @@ class CommandTest(RunTest):
                 self.expect_refused(f"{path}: {says}", path, self.record)
 
     def test_damaged_records(self) -> None:
-        good = line("a", 5, 12, "SIZE", "SIZE 1")
+        good = line_of("a 5 12 SIZE = SIZE 1")
         for bad, says in [
             ("nonsense", "no JSON object"), ("[1]", "no JSON object"), ("{}", "no 'session'"),
             ("\xff", "no JSON object"),
@@ -118,7 +140,7 @@ class CommandTest(RunTest):
         self.assertEqual(lines[-2:], ["", ""])
 
     def test_no_more_faults_than_asked_for(self) -> None:
-        changed = record_of(lines()).replace("OFFERED 0 10", "OFFERED 0 11").replace("SIZE 1", "SIZE 7")
+        changed = RECORD.replace("OFFERED 0 10", "OFFERED 0 11").replace("SIZE 1", "SIZE 7")
         ran = self.verify(self.history, self.file("changed.jsonl", changed), "--most", "1")
         self.assertEqual(ran.returncode, 1)
         self.assertEqual(ran.stdout.count(": changed: "), 1)

@@ -6,7 +6,7 @@ from typing import Sequence
 from common.program import tested_program
 from histories.tests.support import text_of
 from verifying.tests.simulated import ATTEMPTS, DELAY, Simulation
-from verifying.tests.support import Line, RunTest
+from verifying.tests.support import Line, RunTest, history_of
 
 SEEDS = [*range(20), *range(5000, 5040)]
 NAMED = ("OFFERED", "ITEM", "AGAIN")  # replies that name an element of their own
@@ -31,17 +31,17 @@ class SimulatedTest(RunTest):
 
     def found(self, run: Simulation) -> tuple[dict[str, int], list[str]]:
         """The faults of a run that was changed, by kind and in words."""
-        return self.judged(run.events, run.lines)
+        return self.judged([history_of(text_of(*run.events))], run.lines)
+
+    def expect_none(self, run: Simulation, is_whole: bool = True) -> None:
+        """Expects no fault."""
+        self.assertEqual(self.judged([history_of(text_of(*run.events))], run.lines, is_whole), ({}, []))
 
     def test_runs_as_they_are(self) -> None:
         for seed in SEEDS:
-            run = self.simulated(seed)
-            self.expect_none(run.events, run.lines, about=seed)
-
-    def test_clients_that_are_killed(self) -> None:
-        for seed in SEEDS:
-            run = self.simulated(seed, kills=True)
-            self.expect_none(run.events, run.lines, False, seed)
+            with self.subTest(seed=seed):
+                self.expect_none(self.simulated(seed))
+                self.expect_none(self.simulated(seed, kills=True), is_whole=False)
 
     def test_records_of_some_of_the_clients(self) -> None:
         for seed in SEEDS:
@@ -53,7 +53,7 @@ class SimulatedTest(RunTest):
         sessions = sorted({it["session"] for it in run.lines})
         some = set(random.sample(sessions, len(sessions) // 2))
         run.lines = [it for it in run.lines if it["session"] in some]
-        self.expect_none(run.events, run.lines, is_whole=False)
+        self.expect_none(run, is_whole=False)
 
     def test_sessions_of_few_requests(self) -> None:
         """Most of them name no element and fit at several places, at some of them out of order."""
@@ -61,7 +61,7 @@ class SimulatedTest(RunTest):
             for longest in (1, 2, 3, 6):
                 with self.subTest(seed=seed, longest=longest):
                     run = self.simulated(seed, longest)
-                    self.expect_none(run.events, run.lines)
+                    self.expect_none(run)
                     self.expect_none_of_some_clients(run)
 
     def test_a_call_left_out_among_sessions_of_one_request(self) -> None:

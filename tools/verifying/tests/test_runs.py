@@ -1,0 +1,104 @@
+"""The runs of runs.txt, as they were and changed: which faults are found, and what is said of them."""
+import itertools
+import re
+from fnmatch import fnmatchcase
+from typing import Iterator, NamedTuple
+
+from histories.tests.support import text_of
+from verifying.tests.support import RUNS, Run, RunTest, history_of, line_of
+
+FAULTS = re.compile(r"(|--all |--leases )= ([^:]+)(?:: (.*))?")
+
+
+class Case(NamedTuple):
+    """A line of runs.txt that has faults."""
+
+    name: str
+    run: list[str]
+    changes: list[str]
+    options: str
+    kinds: str
+    says: str | None
+
+    def variants(self) -> Iterator[Run]:
+        """The run with each of the changes between which `|` stands."""
+        for changes in itertools.product(*(alternatives(it) for it in self.changes)):
+            yield Run(changed(self.run, changes))
+
+    def fits(self, found: dict[str, int]) -> bool:
+        """Whether these are the faults of each kind."""
+        kinds = dict(re.fullmatch(r"(\w+)(?:\*(\d*))?", it).groups("1") for it in self.kinds.split() if it[0].isalpha())
+        kinds.pop("none", None)
+        is_all = found.keys() == kinds.keys() if ".." not in self.kinds else found and found.keys() >= kinds.keys()
+        return bool(is_all) and all(int(count or found[kind]) == found[kind] for kind, count in kinds.items())
+
+
+def cases() -> Iterator[Case]:
+    name, run, changes, is_run, is_told = "", [], [], False, False
+    for line in RUNS.splitlines():
+        word, _, rest = line.partition(" ")
+        if word in ("run", "case"):
+            name, changes, is_run, is_told = rest, [], word == "run", False
+            run = [] if is_run else run
+        elif found := FAULTS.fullmatch(line):
+            yield Case(name, run, changes, *found.groups())
+            is_run, is_told = False, True
+        elif is_run and line:
+            run.append(line)
+        elif line and word != "#":
+            changes, is_told = [*([] if is_told else changes), line], False
+
+
+def alternatives(change: str) -> list[str]:
+    """The changes between which `|` stands in one."""
+    first, *others = change.split(" | ")
+    front = "+ " if first.startswith("+ ") else first[:first.index(" -> ") + 4] if " -> " in first else ""
+    return [first, *(front + it for it in others)]
+
+
+def changed(run: list[str], changes: tuple[str, ...]) -> Iterator[str]:
+    """The lines of a run with these changes."""
+    lines, place = [[it] for it in run], len(run) - 1
+    for change in changes:
+        old, is_other, new = change.partition(" -> ")
+        mark, _, told = change.partition(" ")
+        if is_other:
+            (at,) = (it for it, line in enumerate(run) if old in line)
+            lines[at][0] = lines[at][0].replace(old, new)
+        elif mark == "-":
+            left_out = [it for it, line in enumerate(run) if fnmatchcase(line, told)]
+            assert left_out, change
+            for it in left_out:
+                del lines[it][0]
+        elif mark == "@":
+            place = run.index(told)
+        else:
+            lines[place].append(told)
+    return itertools.chain.from_iterable(lines)
+
+
+class RunsTest(RunTest):
+    def test_what_is_found_in_each(self) -> None:
+        tried = 0
+        for case in cases():
+            for run in case.variants():
+                with self.subTest(case.name, changes=case.changes):
+                    self.expect(case, run)
+                tried += 1
+        self.assertGreater(tried, 120)
+
+    def expect(self, case: Case, run: Run) -> None:
+        found, faults = self.judged(run.histories(), run.record, "--all" in case.options, "--leases" in case.options)
+        self.assertTrue(case.fits(found), f"{found} in place of {case.kinds}: {faults}")
+        first = re.split(r"\W", case.kinds)[0]
+        self.assertTrue(case.says is None or any(f": {first}: {case.says}" in it for it in faults), faults)
+
+    def test_more_jobs_than_a_session_holds(self) -> None:
+        """A client that holds 63 jobs may be given one more, and with 64 none."""
+        for count, faults in [(63, {}), (64, {"gap": 1})]:
+            jobs = range(count + 1)
+            events = [f"1 {it} {it} offer {it} {it} {it} {it} 1 x" for it in jobs]
+            events += [f"2 {100 + it} {100 + it} take {it}" for it in jobs]
+            events += [f"2 200 200 offer {count + 1 + it} 300 {it} {it} 2 x" for it in jobs]
+            record = [line_of(f"killed {100 + it} {100 + it} TAKE = ITEM {it} {it} 1 x") for it in jobs[:-1]]
+            self.assertEqual(self.judged([history_of(text_of(*events))], record, is_whole=False)[0], faults)
