@@ -1,18 +1,17 @@
 """A client that does anything a client may do, and records it as tools/verify reads it."""
-import json
 import random
 import time
 from typing import TextIO
 
-from serving.session import Session
+from serving.recorded import RecordedSession
 
 
 class RecordingClient:
     """A session of random requests, single and in batches. It ends by QUIT, by hanging up, or while a TAKE waits."""
 
     def __init__(self, name: str, port: int, record: TextIO, seed: str) -> None:
-        self.name, self._record, self._random = name, record, random.Random(f"{seed} {name}")
-        self._session = Session(port)
+        self.name, self._random = name, random.Random(f"{seed} {name}")
+        self._session = RecordedSession(port, name, lambda line: record.write(f"{line}\n"))
         self._held: list[str] = []
         self._last = "0"  # the id of its last offer
 
@@ -26,7 +25,7 @@ class RecordingClient:
             sent = time.monotonic_ns()
             self._session.send("TAKE")
             time.sleep(0.002)
-            self._note(sent, None, "TAKE", [])
+            self._session.note(sent, None, "TAKE")
         self._session.hang_up()
 
     def vanish(self, request: str) -> None:
@@ -36,13 +35,10 @@ class RecordingClient:
 
     def ask(self, *requests: str) -> list[str]:
         """Sends requests in one piece, and reads their replies. Returns the lines of the last one."""
-        sent = time.monotonic_ns()
-        self._session.send(*(it.encode("latin-1") for it in requests))
-        for request in requests:
-            reply = self._session.reply()
-            self._note(sent, time.monotonic_ns(), request, reply)
+        replies = self._session.exchange(*requests)
+        for request, reply in zip(requests, replies):
             self._learn(request, reply)
-        return reply
+        return replies[-1]
 
     def _request(self) -> str:
         choose = self._random.choice
@@ -64,7 +60,3 @@ class RecordingClient:
                 self._last = words[1]
             elif words[0] in ("DONE", "AGAIN", "DEAD"):
                 self._held.remove(request.split(" ")[1])
-
-    def _note(self, sent: int, received: object, request: str, reply: list[str]) -> None:
-        told = {"session": self.name, "sent": sent, "received": received, "request": request, "reply": reply}
-        self._record.write(json.dumps(told) + "\n")
