@@ -1,44 +1,28 @@
 """What became of each job of a hostile day: by the histories, and by what the clients noted."""
 from __future__ import annotations
 
-import json
-from collections import Counter, defaultdict
+from collections import Counter
 from pathlib import Path
-from typing import Iterable, Iterator, NamedTuple
+from typing import Iterable, NamedTuple
+
+from history import History  # these two belong to the tests of clients/python
+from records import ends_in
+
+RECORD = ".jsonl"  # the end of the name of a file of sessions
+
+Told = "dict[tuple[str, int], list[str]]"
+"""What workers noted of each attempt, by payload and attempt."""
 
 
-class Noted(NamedTuple):
-    """What a client says about an attempt of a job."""
-
-    what: str
-    payload: str
-    attempt: int
-
-
-def notes_in(path: Path) -> Iterator[Noted]:
-    """The lines of Java's HostileWorker: `took`, and then `done`, `failed`, `back`, `doubt` or `gone`. One that was cut
-    off by a kill is none."""
-    for line in path.read_text().splitlines():
-        words = line.split(" ")
-        if len(words) == 3:
-            yield Noted(words[0], words[1], int(words[2]))
-
-
-def notes_in_record(path: Path) -> Iterator[Noted]:
-    """What the record of another worker says, in such words, and `late` where the session had ended."""
-    jobs: dict[tuple[str, str], tuple[str, int]] = {}
-    for line in path.read_text().splitlines():
-        told = json.loads(line)
-        for reply in told["reply"]:
-            words = reply.split(" ")
-            if words[0] == "ITEM":
-                jobs[told["session"], words[1]] = job = words[4], int(words[3])
-                yield Noted("took", *job)
-        request = told["request"].split(" ")
-        if request[0] in ("DONE", "FAIL") and (told["session"], request[1]) in jobs:
-            answered = told["reply"][0].split(" ")[0] if told["reply"] else "nothing"
-            what = {"DONE": "done", "AGAIN": "failed", "ERR": "late", "nothing": "doubt"}[answered]
-            yield Noted(what, *jobs[told["session"], request[1]])
+def told_in(notes: Iterable[Path]) -> Told:
+    """What is noted in records, in the words of `ends_in`, and by Java's HostileWorker: `DONE`, `took`, `failed`, `back`,
+    `doubt` or `gone`."""
+    paths = [*notes]
+    told = ends_in(it for it in paths if it.suffix == RECORD)
+    for words in (line.split(" ") for it in paths if it.suffix != RECORD for line in it.read_text().splitlines()):
+        if len(words) == 3:  # and is not cut off by a kill
+            told[words[1], int(words[2])].append("DONE" if words[0] == "done" else words[0])
+    return told
 
 
 class Attempts(NamedTuple):
@@ -50,22 +34,10 @@ class Attempts(NamedTuple):
 
 def attempts_in(histories: Iterable[Path]) -> dict[str, Attempts]:
     """The attempts of each job, by its payload, in files that follow one another from an empty queue on."""
-    jobs: dict[str, Attempts] = defaultdict(lambda: Attempts([], []))
-    elements: dict[bytes, tuple[str, int]] = {}
-    for path in histories:
-        for line in path.read_bytes().splitlines():
-            words = line.split(b" ")
-            if words[0] in (b"history", b"open", b"keep", b"end"):
-                continue
-            if words[3] == b"offer":
-                payload, attempt = words[9].decode(), int(words[8])
-                elements[words[4]] = payload, attempt
-                jobs[payload].offered.append(attempt)
-            for id in {b"poll": words[4:5], b"take": words[4:5], b"pollfor": words[6:7], b"drain": words[5:]}.get(
-                    words[3], []):
-                if id != b"none":
-                    payload, attempt = elements[id]
-                    jobs[payload].given.append(attempt)
+    history = History(*map(str, histories))
+    jobs = {payload: Attempts(offered, []) for payload, offered in history.attempts().items()}
+    for it in map(history.elements.__getitem__, history.given):
+        jobs[it.payload].given.append(it.attempt)
     return jobs
 
 
@@ -85,18 +57,15 @@ class Sum(NamedTuple):
     """Answers to jobs whose session had ended."""
 
 
-def sum_up(jobs: dict[str, Attempts], notes: Iterable[Noted]) -> Sum:
+def sum_up(jobs: dict[str, Attempts], told: Told) -> Sum:
     """Sets what the histories say beside what the clients noted."""
     done: Counter[str] = Counter()
-    noted: dict[tuple[str, int], set[str]] = defaultdict(set)
-    late = 0
-    for it in notes:
-        done[it.payload] += it.what == "done"
-        late += it.what == "late"
-        noted[it.payload, it.attempt].add(it.what)
+    for (payload, _), words in told.items():
+        done[payload] += words.count("DONE")
     in_doubt = [payload for payload in jobs if not done[payload]]
     meant = {payload: 2 if payload.endswith("0") else 1 for payload in jobs}
     return Sum(
-        len(jobs), sum(done[payload] == 1 for payload in jobs), [it for it in jobs if done[it] > 1], in_doubt,
-        [it for it in in_doubt if not noted[it, jobs[it].offered[-1]]],
-        sum(len(attempts.given) > meant[payload] for payload, attempts in jobs.items()), late)
+        len(jobs), sum(done[it] == 1 for it in jobs), [it for it in jobs if done[it] > 1], in_doubt,
+        [it for it in in_doubt if not told.get((it, jobs[it].offered[-1]))],
+        sum(len(attempts.given) > meant[payload] for payload, attempts in jobs.items()),
+        sum(words.count("ERR") for words in told.values()))

@@ -5,16 +5,14 @@ import shutil
 import subprocess
 import sys
 from pathlib import Path
-from typing import Iterator, Optional
+from typing import Optional
 
-from accounts import Noted, notes_in, notes_in_record
+from accounts import RECORD
 from nodes import Process
 
 FOLDER = Path(__file__).resolve().parent
 JAVA = FOLDER.parents[1] / "clients" / "java"
 JAVA_WORKER = JAVA / "tests" / "rbbroker" / "client" / "HostileWorker.java"
-
-RECORD = ".jsonl"  # the end of the name of a file of sessions
 
 
 def compiled_java(room: Path) -> Optional[Path]:
@@ -31,20 +29,17 @@ class Worker(Process):
 
     def __init__(self, words: list[str], notes: Path) -> None:
         super().__init__(words, notes.with_suffix(".log"))
-        self._notes = notes
+        self.notes = notes
         notes.touch()
         self.start()
 
-    def noted(self) -> Iterator[Noted]:
-        return (notes_in_record if self._notes.suffix == RECORD else notes_in)(self._notes)
-
     @property
     def has_worked(self) -> bool:
-        return self._notes.stat().st_size > 0
+        return self.notes.stat().st_size > 0
 
     def count_of_done(self) -> int:
         """How many jobs are done, by a record."""
-        return self._notes.read_text().count('"reply": ["DONE ')
+        return self.notes.read_text().count('"reply": ["DONE ')
 
     def stop(self) -> None:
         """Ends it in good order."""

@@ -2,29 +2,20 @@
 from __future__ import annotations
 
 import os
-import re
 import subprocess
-import sys
 from pathlib import Path
 
-TOP = Path(__file__).resolve().parents[2]
+from checking.testing import run_tool
+from verifying.tests.support import counts_in
+
 PROGRAM = os.environ.get("RB_BROKER_PROGRAM", "")
-KINDS = {"strange", "gap", "return", "changed", "missing", "twice", "order", "seat", "time"}
-
-
-def run_tool(tool: str, *words: object) -> "tuple[int, str]":
-    """The status of one of tools/, and what it prints."""
-    ran = subprocess.run([sys.executable, "-B", TOP / "tools" / tool, *map(str, words)], stdout=subprocess.PIPE,
-                         stderr=subprocess.STDOUT, text=True, check=False)
-    return ran.returncode, ran.stdout
 
 
 def faults_in(*words: object) -> "tuple[dict[str, int], str]":
     """How many faults of which kinds tools/verify finds, and what it says."""
-    status, said = run_tool("verify", *words)
-    found = {kind: int(count) for kind, count in re.findall(r"^(\w+): +(\d+) faults?: ", said, re.MULTILINE)}
-    assert status in (0, 1) and {*found} == KINDS | ({"unrecorded"} if "--all" in words else set()), said
-    return {kind: count for kind, count in found.items() if count}, said
+    ran = run_tool("verify", *words)
+    assert ran.returncode in (0, 1), ran.stderr
+    return counts_in(ran.stdout), ran.stdout
 
 
 def replay_chains(path: Path, delay: int, attempts: int) -> int:

@@ -17,10 +17,11 @@ import time
 from pathlib import Path
 from typing import Callable, Dict, List
 
-from accounts import Attempts, attempts_in, sum_up
+from accounts import Attempts, attempts_in, sum_up, told_in
+from checking.testing import run_tool
 from crew import Crew, Producer, compiled_java
 from gateways import COMMAND, POLICY, Gateway
-from judging import faults_in, replay_chains, run_tool
+from judging import faults_in, replay_chains
 from nodes import ALWAYS, Node, Process, Replicas, Sentinels, wait_until
 from rb_broker_redis.archive_folder import ArchiveFolder
 from rb_broker_redis.shards import shard_names
@@ -51,7 +52,7 @@ class Day(RoomTest):
     def run_day(self, redis: str, kill_redis: Callable[[], None], serving: tuple[object, ...] = SERVING) -> None:
         """Lets the day pass, and judges it."""
         serving = (*serving, "--shards", self.shards)
-        self.gateways = [Gateway(self.room / f"gateway-{it}", redis, QUEUE, serving) for it in range(GATEWAYS)]
+        self.gateways = [Gateway(self.room, redis, QUEUE, serving) for _ in range(GATEWAYS)]
         for it in self.gateways:
             self.addCleanup(it.kill)
         self.crew = Crew(self.room, [it.port for it in self.gateways], compiled_java(self.room / "java"))
@@ -143,7 +144,7 @@ class Day(RoomTest):
             replay_chains(it, 20_000_000, 1_000)
         jobs: Dict[str, Attempts] = {}
         for files in queues:
-            self.assertEqual(run_tool("report", *files)[0], 0)
+            self.assertEqual(run_tool("report", *files).returncode, 0)
             its_jobs = attempts_in(files)
             self.assertEqual(jobs.keys() & its_jobs.keys(), set(), "a payload is in two queues")
             jobs.update(its_jobs)
@@ -155,7 +156,7 @@ class Day(RoomTest):
             expected = list(range(1, len(attempts.offered) + 1))
             self.assertEqual(attempts.offered, expected, payload)
             self.assertEqual(attempts.given, expected, payload)
-        day = sum_up(jobs, (note for it in self.crew.started for note in it.noted()))
+        day = sum_up(jobs, told_in(it.notes for it in self.crew.started))
         self.assertEqual(day.done_twice, [])
         self.assertEqual(day.done_once + len(day.in_doubt), day.jobs)
         self.assertLessEqual(len(day.unseen), sum(self.kills.values()), day.unseen)

@@ -3,7 +3,7 @@ from __future__ import annotations
 
 import unittest
 
-from case_tables import bytes_of, tables_of
+from case_tables import bytes_of, tables_of_kind
 from rb_broker_redis.protocol import ErrorReply
 from rb_broker_redis.request import LineCutter
 from rb_broker_redis.request import Kind, Request, read_request
@@ -23,22 +23,17 @@ def expected(answer: str, line: bytes) -> Request:
     return Request(Kind.WAIT if keyword in WAITS else Kind.CALL, line)
 
 
-def rows() -> "list[tuple[int, bytes, str]]":
-    """Each line of the tables, with its place and its answer."""
-    found = []
-    for table in tables_of("lines.rows", "lines"):
-        for row in table.rows:
-            keyword, _, line = row.asked.partition(" ")
-            if keyword == "request":
-                found.append((row.line, bytes_of(line), row.answer))
-    return found
+def rows() -> "list[tuple[bytes, str]]":
+    """Each line of the tables, with its answer."""
+    told = ((*row.asked.partition(" "), row.answer) for table in tables_of_kind("lines.rows", "lines") for row in table)
+    return [(bytes_of(line), answer) for keyword, _, line, answer in told if keyword == "request"]
 
 
 class RequestTest(unittest.TestCase):
     def test_each_line_of_the_tables_is_read(self) -> None:
         self.assertGreater(len(rows()), 100)
-        for place, line, answer in rows():
-            with self.subTest(place=place):
+        for line, answer in rows():
+            with self.subTest(line=line):
                 # A CR that belongs to the end is taken off; so a line that ends with one needs another.
                 self.assertEqual(read_request(line + b"\r"), expected(answer, line))
                 if not line.endswith(b"\r"):

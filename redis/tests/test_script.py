@@ -1,22 +1,25 @@
 """The command script: the cases, and random scripts beside the program."""
 from __future__ import annotations
 
+import contextlib
 import os
 import random
-import stat
 import subprocess
 import sys
-from pathlib import Path
+import threading
+from typing import Iterator
+from unittest import mock
 
-from nodes import Process, wait_until
+from case_tables import CASES
+from conforming.cases import read_cases
+from conforming.comparing import difference, reason_to_skip
+from conforming.program import Input, Program
+from judging import PROGRAM
 from random_script import RandomScript
 from rb_broker_redis import script
-from rb_broker_redis.command import parser
+from rb_broker_redis.command import main, parser
 from rb_broker_redis.history import FollowedQueue
 from redis_test import RedisTest
-
-TOP = Path(__file__).resolve().parents[2]
-PROGRAM = os.environ.get("RB_BROKER_PROGRAM", "")
 
 SCRIPTS = int(os.environ.get("RB_BROKER_SCRIPTS", "200"))
 """How many random scripts are compared."""
@@ -27,29 +30,59 @@ PASSED_OVER = {
 """Cases that the command does not pass, with the reason."""
 
 
+class RunHere:
+    """A run of the command in a thread of this process, as a `Program` sees a process."""
+
+    def __init__(self, words: "list[str]", given: int) -> None:
+        (output, its_output), (errors, its_errors) = os.pipe(), os.pipe()
+        self.stdout, self.stderr = open(output, "rb", 0), open(errors, "rb", 0)
+        self._thread = threading.Thread(target=self._run, args=(words, given, its_output, its_errors))
+        self._thread.start()
+
+    def _run(self, words: "list[str]", given: int, output: int, errors: int) -> None:
+        with open(given, "rb", 0) as stdin, open(output, "wb", 0) as stdout, open(errors, "w") as stderr, \
+                mock.patch.multiple(sys, stdin=stdin, stdout=stdout, stderr=stderr):
+            try:
+                self._status = main(words)
+            except SystemExit as end:
+                self._status = end.code
+
+    def communicate(self) -> "tuple[bytes, bytes]":
+        return self.stdout.read(), self.stderr.read()
+
+    def wait(self) -> int:
+        self._thread.join()
+        return self._status
+
+
+class Here(Program):
+    """The command with a Redis, within this process, and so one run at a time."""
+
+    def __init__(self, redis: str) -> None:
+        super().__init__([], patience=0)
+        self._redis = redis
+
+    @contextlib.contextmanager
+    def _started(self, words: "list[str]", given: Input) -> "Iterator[RunHere]":
+        giver = threading.Thread(target=given.give)
+        giver.start()
+        run = RunHere([*words, "--redis", self._redis], given.descriptor)
+        with run.stdout, run.stderr:
+            yield run
+            run.wait()
+        giver.join()
+
+
 class CasesTest(RedisTest):
     def test_each_case_passes_or_is_passed_over_by_name(self) -> None:
-        warm = [sys.executable, Path(__file__).with_name("warm.py"), self.room / "warm"]
-        server = Process([*map(str, warm)], self.room / "log")
-        server.start()
-        self.addCleanup(server.kill)
-        wait_until(warm[2].exists, "no command is warm")
-        command = self.room / "command"
-        command.write_text(
-            "#!/bin/sh\n"
-            f'[ "$1" = script ] || exec {PROGRAM} "$@"\n'
-            f'exec {sys.executable} -IS {warm[1]} {warm[2]} "$@" --redis {self.node.url}\n')
-        command.chmod(command.stat().st_mode | stat.S_IXUSR)
-        ran = subprocess.run([TOP / "tools" / "conform", "--jobs", "4", command], stdout=subprocess.PIPE,
-                             stderr=subprocess.PIPE, encoding="utf-8", check=False, env=self.environment())
-        *told, total = ran.stdout.splitlines()
-        failed = [line.split(": ")[1] for line in told if ": skipped: " not in line]
-        self.assertEqual(sorted(failed), sorted(PASSED_OVER), ran.stdout + ran.stderr)
-        self.assertGreater(int(total.split()[0]), 200)
-
-    def environment(self) -> "dict[str, str]":
-        """For a tool whose Python may be another than the one that has the package redis."""
-        return {**os.environ, "PYTHONPATH": str(TOP / "redis" / "src")}
+        program, tried = Here(self.node.url), 0
+        for case in (it for file in sorted(CASES.glob("*.case")) for it in read_cases(str(file))):
+            if case.is_script and not reason_to_skip(case, []):
+                tried += 1
+                with self.subTest(case.name, file=case.file, line=case.line):
+                    differs = difference(program, case, [])
+                    self.assertEqual(bool(differs), case.name in PASSED_OVER, differs)
+        self.assertGreater(tried, 70)
 
 
 class RandomScriptsTest(RedisTest):

@@ -4,7 +4,7 @@ from __future__ import annotations
 import re
 from typing import NamedTuple, Optional
 
-from case_tables import Table, bytes_of, tables_of
+from case_tables import Row, bytes_of, tables_of_kind
 from rb_broker_redis.queue import Queue
 from redis_test import RedisTest
 
@@ -36,7 +36,7 @@ COUNTS = ("given", "audit", "share")
 class Step(NamedTuple):
     """A row: what is asked at which moment, and the answers that are right."""
 
-    line: int
+    row: Row
     asked: str
     moment: int
     answers: "list[str]"
@@ -54,24 +54,24 @@ def translated(text: str, forms: "dict[str, str]") -> str:
     raise NotAsked(text)
 
 
-def steps_of(table: Table) -> "Optional[list[Step]]":
+def steps_of(table: "list[Row]") -> "Optional[list[Step]]":
     """The rows of a table that can be tried here, or None if the table asks for what no request does."""
     steps = []
-    for row in table.rows:
+    for row in table:
         words = bytes_of(row.asked).decode("latin-1").split(" ")
         answers = [bytes_of(it).decode() for it in row.answer.split(" or ")]
         if words[0] in COUNTS:
             continue
         try:
             if words[0] in ("last", "events") and len(words) == 1:
-                steps.append(Step(row.line, words[0], 0, [it.replace(NO_DRAIN, DRAIN) for it in answers]))
+                steps.append(Step(row, words[0], 0, [it.replace(NO_DRAIN, DRAIN) for it in answers]))
             elif words[0] == "begin" and len(words) == 2 and answers == ["begun"]:
-                steps.append(Step(row.line, f"limit {int(words[1])}", 0, []))
+                steps.append(Step(row, f"limit {int(words[1])}", 0, []))
             else:
                 seat, moment, *asked = words
                 call = translated(" ".join(asked), CALLS)
                 replies = [translated(it, REPLIES) for it in answers]
-                steps.append(Step(row.line, f"{int(seat)} {call}", int(moment), replies))
+                steps.append(Step(row, f"{int(seat)} {call}", int(moment), replies))
         except (NotAsked, ValueError):
             return None
     return steps
@@ -101,13 +101,13 @@ class TablesTest(RedisTest):
             if step.asked.startswith("limit"):
                 queue.call("rb_join", 60_000_000, "delay", f"{0:020}", 3, step.asked)
                 continue
-            with self.subTest(file=file, line=step.line):
+            with self.subTest(file=file, row=step.row):
                 self.assertIn(self.answer(queue, step), step.answers)
 
     def test_each_table_of_requests_is_answered(self) -> None:
         played = 0
         for file in FILES:
-            for table in tables_of(file, "queue"):
+            for table in tables_of_kind(file, "queue"):
                 steps = steps_of(table)
                 if steps:
                     played += 1

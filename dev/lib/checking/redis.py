@@ -21,6 +21,8 @@ from common.program import TOP
 
 TESTS = f"{TOP}/redis/tests"
 PATHS = [f"{TOP}/redis/src", TESTS, f"{TOP}/clients/python/src", f"{TOP}/dev/lib"]
+# The system has another module `packaging`, which must be found first.
+LAST_PATHS = [f"{TOP}/tools", *(f"{TOP}/clients/python/tests/{it}" for it in ("served", "day"))]
 COMMANDS = ("redis-server", "redis-sentinel", "redis-cli")
 SYSTEM_PYTHON = "/usr/bin/python3"  # for which Debian has the package python3-redis
 AT_ONCE = int(os.environ.get("RB_BROKER_AT_ONCE", 4))
@@ -50,7 +52,8 @@ def missing() -> list[str]:
 
 def check(tally: Tally) -> None:
     """Runs the tests."""
-    sys.path[:] = [*PATHS, *(it for it in sys.path if not it.startswith((f"{TOP}/tools", f"{TOP}/dev")))]
+    others = (it for it in sys.path if not it.startswith((f"{TOP}/tools", f"{TOP}/dev")))
+    sys.path[:] = [*PATHS, *others, *LAST_PATHS]
     absent = missing()
     if absent:
         tally.skip("redis", f"there is no {' and no '.join(absent)}")
