@@ -52,6 +52,7 @@ class Crew:
 
     def __init__(self, room: Path, ports: list[int], java: Optional[Path]) -> None:
         self.room, self._ports, self._java = room, ports, java
+        room.mkdir(exist_ok=True)
         self.started: list[Worker] = []
         self.records: list[Path] = []
 

@@ -1,49 +1,30 @@
 """Tests with gateways of their own."""
 from __future__ import annotations
 
-import signal
 import ssl
-import subprocess
 from typing import Optional
 
+from gateways import Gateway
 from redis_test import RedisTest
 from talker import Talker
 
 
-class Served:
-    """A gateway."""
-
-    def __init__(self, process: "subprocess.Popen[str]") -> None:
-        self.process = process
-        line = process.stdout.readline()
-        assert line.startswith("listening 127.0.0.1:"), line + process.stderr.read()
-        self.port = int(line.rpartition(":")[2])
-
-    def pause(self) -> None:
-        """Lets it do nothing until `go_on`."""
-        self.process.send_signal(signal.SIGSTOP)
-
-    def go_on(self) -> None:
-        self.process.send_signal(signal.SIGCONT)
-
-    def talker(self, tls: Optional[ssl.SSLContext] = None) -> Talker:
-        return Talker(self.port, tls)
-
-    def end(self, number: int = signal.SIGTERM) -> "tuple[int, str, str]":
-        """Ends it by a signal. Gives its status, and what it said."""
-        self.process.send_signal(number)
-        said, errors = self.process.communicate(timeout=30)
-        return self.process.returncode, said, errors
-
-
 class GatewayTest(RedisTest):
-    def serve(self, *words: object) -> Served:
-        """A gateway of this test's queue. Failed jobs come back at once."""
-        return Served(self.started("serve", "--port", 0, "--delay", 0, "--attempts", 3, *words))
+    def gateway(self, *options: object, redis: Optional[str] = None, **environment: str) -> Gateway:
+        """A gateway of this test's queue with these options, which listens."""
+        gateway = Gateway(self.room, self.node.url if redis is None else redis, self.name, options, **environment)
+        self.addCleanup(gateway.kill)
+        return gateway.wait()
 
-    def talker(self, served: Optional[Served] = None, *words: object) -> Talker:
-        """A client of a gateway, or of one of its own that is started with these words."""
-        talker = (served or self.serve(*words)).talker()
+    def serve(self, *options: object) -> Gateway:
+        """A gateway whose failed jobs come back at once."""
+        return self.gateway("--delay", 0, "--attempts", 3, *options)
+
+    def talker(
+        self, served: Optional[Gateway] = None, *options: object, tls: Optional[ssl.SSLContext] = None
+    ) -> Talker:
+        """A client of a gateway, or of one of its own that is started with these options."""
+        talker = Talker((served or self.serve(*options)).port, tls)
         self.addCleanup(talker.hang_up)
         return talker
 
@@ -60,6 +41,10 @@ class GatewayTest(RedisTest):
         """A request gets no reply yet."""
         talker.send(f"{request}\n")
         self.assertTrue(talker.is_silent(0.3))
+
+    def assert_ends_well(self, served: Gateway, sessions: int) -> None:
+        """A gateway that had so many sessions ends in good order, and says that no job is lost."""
+        self.assertEqual((served.end(), served.said.splitlines()[1:]), (0, [f"sessions {sessions} lost 0"]))
 
     def held(self) -> int:
         """How many jobs of the queue are held."""

@@ -1,14 +1,11 @@
-"""Gateways for tests: processes at ports that stay theirs, which may be killed at any moment."""
+"""Gateways as processes, at ports that stay theirs, which may be killed at any moment."""
 from __future__ import annotations
 
-import contextlib
-import socket
 import sys
 from pathlib import Path
 from typing import Sequence
 
-from nodes import PATIENCE, Process, free_port, wait_until
-from serving import HOST
+from nodes import Process, free_port, wait_until
 from talker import Talker
 
 POLICY = ("--delay", "20ms", "--attempts", 1000)
@@ -18,26 +15,26 @@ COMMAND = (sys.executable, "-B", "-m", "rb_broker_redis")
 
 
 class Gateway(Process):
-    """A gateway of a queue, which is started. `wait` waits until it listens."""
+    """A gateway of a queue, which is started; its log is in a folder. `wait` waits until it listens."""
 
-    def __init__(self, folder: Path, redis: str, queue: str, options: Sequence[object] = POLICY) -> None:
-        folder.mkdir(parents=True)
+    def __init__(self, folder: Path, redis: str, queue: str, options: Sequence[object] = POLICY,
+                 **environment: str) -> None:
+        """Without `redis` its environment names the Redis."""
         self.port = free_port()
-        words = [*COMMAND, "serve", "--redis", redis, "--queue", queue, "--port", self.port, *options]
-        super().__init__([*map(str, words)], folder / "log")
+        at = ("--redis", redis) if redis else ()
+        words = [*COMMAND, "serve", "--queue", queue, "--port", self.port, *at, *options]
+        super().__init__([*map(str, words)], folder / f"gateway-{self.port}.log", environment)
         self.start()
 
-    def wait(self) -> None:
+    def wait(self) -> Gateway:
         """Waits until it listens."""
-        wait_until(self._listens, f"the gateway at {self.port} does not listen")
+        wait_until(lambda: "listening " in self.said or not self.is_alive, f"no gateway listens at {self.port}")
+        if not self.is_alive:
+            raise AssertionError(self.said)
+        return self
 
     def ask(self, *requests: str) -> list[str]:
         """The lines that a session of its own gets for these requests."""
         with Talker(self.port) as talker:
             talker.send("".join(f"{it}\n" for it in (*requests, "QUIT")))
             return talker.rest()[:-1]
-
-    def _listens(self) -> bool:
-        with contextlib.suppress(OSError), socket.create_connection((HOST, self.port), PATIENCE):
-            return True
-        return False

@@ -8,13 +8,15 @@ the reply has come.
 from __future__ import annotations
 
 import contextlib
+import os
 import random
 import signal
 import sys
 import time
+import uuid
 from typing import Any, NamedTuple
 
-from recorded_session import Broken, Notes, RecordedSession
+from serving.recorded import Broken, RecordedSession
 
 MOST_HELD = 8
 PAUSE = 0.01  # seconds at most between two offers
@@ -40,6 +42,16 @@ def handle(job: Any) -> None:
         raise ValueError(f"{job.payload} is to fail")
 
 
+class Notes:
+    """A file to which lines are added, each with one write, so that a kill leaves whole lines only."""
+
+    def __init__(self, path: object) -> None:
+        self._file = os.open(str(path), os.O_WRONLY | os.O_APPEND | os.O_CREAT, 0o644)
+
+    def add(self, line: str) -> None:
+        os.write(self._file, f"{line}\n".encode())
+
+
 class Client:
     """What both kinds have."""
 
@@ -53,7 +65,7 @@ class Client:
         """A session at one of the ports, once one listens."""
         while True:
             try:
-                return RecordedSession(self.random.choice(self._ports), self._record)
+                return RecordedSession(self.random.choice(self._ports), uuid.uuid4().hex, self._record.add)
             except Broken:
                 time.sleep(0.05)
 
@@ -66,7 +78,7 @@ def produce(client: Client, notes: Notes) -> None:
     for payload in map(str.strip, sys.stdin):
         notes.add(f"offer {payload}")
         try:
-            reply = session.ask(f"OFFER {client.random.choice(DELAYS)} {payload}")[0]
+            reply = session.reply_to(f"OFFER {client.random.choice(DELAYS)} {payload}")[0]
             if not reply.startswith("OFFERED "):
                 raise ValueError(f"an offer is answered {reply}")
             notes.add(f"offered {payload}")
@@ -88,7 +100,7 @@ class Worker:
             session = self._client.connected()
             with contextlib.suppress(Broken):
                 self._serve(session)
-                session.ask("QUIT")
+                session.reply_to("QUIT")
             self._held.clear()
 
     def _serve(self, session: RecordedSession) -> None:
@@ -103,7 +115,7 @@ class Worker:
 
     def _fetch(self, session: RecordedSession) -> None:
         request = self._client.random.choice(["POLL", "POLLFOR 200000000", "POLLFOR 200000000", "DRAIN 5"])
-        for line in session.ask(request):
+        for line in session.reply_to(request):
             if line.startswith("ITEM "):
                 _, id, _, attempt, payload = line.split(" ")
                 self._held.append(Job(id, payload, int(attempt)))
@@ -111,7 +123,7 @@ class Worker:
     def _settle(self, session: RecordedSession) -> None:
         """Answers one of the jobs."""
         job = self._held.pop(self._client.random.randrange(len(self._held)))
-        session.ask(f"{'FAIL' if is_to_fail(job) else 'DONE'} {job.id}")
+        session.reply_to(f"{'FAIL' if is_to_fail(job) else 'DONE'} {job.id}")
 
 
 def main() -> None:

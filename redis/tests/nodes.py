@@ -57,11 +57,13 @@ class Process:
     def __init__(self, words: Sequence[str], log: Path, environment: Optional[Dict[str, str]] = None) -> None:
         self._words, self._log, self._environment = list(words), log, environment
         self._process: Optional[subprocess.Popen[bytes]] = None
+        self._began = 0  # where in the log begins what it says since it was started
         atexit.register(self.kill)  # where the tests are broken off
 
     def start(self) -> None:
         """Starts it. What it says goes to its log, and its standard input stays open."""
         with open(self._log, "ab") as log:
+            self._began = log.tell()
             environment = {**os.environ, **(self._environment or {})}
             self._process = subprocess.Popen(self._words, stdin=subprocess.PIPE, stdout=log, stderr=log,
                                              env=environment)
@@ -101,8 +103,19 @@ class Process:
             self._process.send_signal(number)
 
     @property
+    def pid(self) -> int:
+        assert self._process
+        return self._process.pid
+
+    @property
     def is_alive(self) -> bool:
         return self._process is not None and self._process.poll() is None
+
+    @property
+    def said(self) -> str:
+        """What it has said since it was started."""
+        return self._log.read_bytes()[self._began:].decode()
+
 
 class Node(Process):
     """A redis-server, which answers once it is started."""

@@ -1,11 +1,11 @@
 """Gateways as processes, with clients that wait, leave and come back."""
 from __future__ import annotations
 
-import signal
 import socket
 import time
 
-from gateway_test import GatewayTest, Served
+from gateway_test import GatewayTest
+from gateways import Gateway
 from talker import Talker
 
 MILLISECOND = 1_000_000
@@ -138,7 +138,7 @@ class EndsTest(GatewayTest):
         holder, waiting, _ = (self.talker(served) for _ in range(3))
         self.assert_talk(holder, "OFFER 0 a = OFFERED .*", "TAKE = ITEM .*")
         self.assert_waits(waiting, "TAKE\nSIZE")
-        self.assertEqual(served.end(), (0, "sessions 3 lost 0\n", ""))
+        self.assert_ends_well(served, 3)
         self.assertEqual((waiting.rest(), holder.rest()), (["STOPPED"], []))
         self.assertEqual((self.held(), self.queue().request("PEEK").split()[3]), (0, "2"))
         self.assertEqual(self.node.ask("ZCARD", self.queue().gateways), 0)
@@ -147,7 +147,7 @@ class EndsTest(GatewayTest):
         dying, other = self.serve("--lease", "3s"), self.serve("--lease", "3s", "--wait", "30s")
         for _ in range(2):
             self.assert_talk(self.talker(dying), "OFFER 0 a = OFFERED .*", "TAKE = ITEM .*")
-        dying.end(signal.SIGKILL)
+        dying.kill()
         self.assert_talk(self.talker(other), *[r"TAKE = ITEM \d+ \d+ 2 a"] * 2)
         self.assertEqual(self.node.ask("ZCARD", self.queue().gateways), 1)
 
@@ -196,9 +196,8 @@ class EndsTest(GatewayTest):
         self.serve()
         self.assert_refused(3, f"queue {self.name} has --delay 0ns --attempts 3: say the same, or nothing, or"
                             " --change-policy", "serve", "--port", 0, "--delay", "5s")
-        unnamed = Served(self.started("serve", "--port", 0))
-        self.assert_talk(self.talker(unnamed), "OFFER 0 a = OFFERED .*", "TAKE = ITEM .*", "FAIL 0 = AGAIN .*")
-        changed = Served(self.started("serve", "--port", 0, "--attempts", 1, "--rate", "1h", "--change-policy"))
+        self.assert_talk(self.talker(self.gateway()), "OFFER 0 a = OFFERED .*", "TAKE = ITEM .*", "FAIL 0 = AGAIN .*")
+        changed = self.gateway("--attempts", 1, "--rate", "1h", "--change-policy")
         self.assert_talk(self.talker(changed), "TAKE = ITEM .*", "FAIL 1 = DEAD 1")
 
     def test_a_port_that_is_in_use_is_named(self) -> None:

@@ -6,11 +6,14 @@ import contextlib
 import socket
 import threading
 import time
+import uuid
 
-from gateway_test import GatewayTest, Served
+from gateway_test import GatewayTest
+from gateways import Gateway
 from judging import faults_in
-from recorded_session import Broken, Notes, RecordedSession
+from hostile_client import Notes
 from serving import HOST
+from serving.recorded import Broken, RecordedSession
 
 
 class Proxy:
@@ -61,19 +64,19 @@ class JudgedTest(GatewayTest):
         super().setUp()
         self.record = self.room / "record.jsonl"
 
-    def session(self, served: Served) -> RecordedSession:
-        return RecordedSession(served.port, Notes(self.record))
+    def session(self, served: Gateway) -> RecordedSession:
+        return RecordedSession(served.port, uuid.uuid4().hex, Notes(self.record).add)
 
     def ask(self, session: RecordedSession, *requests: str) -> "list[str]":
         """The first words of the replies."""
-        return [session.ask(it)[0].split(" ")[0] for it in requests]
+        return [session.reply_to(it)[0].split(" ")[0] for it in requests]
 
     def leaves(self, session: RecordedSession, request: str) -> None:
         """Its client is killed while this request is under way, so its record does not have that. The Redis carries it
         out later."""
         record = self.record.read_bytes()
         self.node.pause()
-        asking = threading.Thread(target=lambda: self.assertRaises(Broken, session.ask, request), daemon=True)
+        asking = threading.Thread(target=lambda: self.assertRaises(Broken, session.reply_to, request), daemon=True)
         asking.start()
         time.sleep(0.3)
         session.cut()
@@ -95,8 +98,8 @@ class JudgedTest(GatewayTest):
         late.pause()
         self.assertEqual(self.ask(heir, "TAKE", "TAKE"), ["ITEM"] * 2)
         threading.Timer(0.2, late.go_on).start()
-        self.assertEqual(one.ask("DONE 1"), ["ERR 5 not-held"])
-        self.assertRaises(Broken, one.ask, "DONE 0")
+        self.assertEqual(one.reply_to("DONE 1"), ["ERR 5 not-held"])
+        self.assertRaises(Broken, one.reply_to, "DONE 0")
         again = self.session(late)
         self.assertEqual(self.ask(again, "OFFER 0 c", "POLL", "DONE 4", "QUIT"), ["OFFERED", "ITEM", "DONE", "BYE"])
         self.assertEqual(self.ask(heir, "DONE 2", "DONE 3", "QUIT"), ["DONE", "DONE", "BYE"])
@@ -128,19 +131,19 @@ class JudgedTest(GatewayTest):
         for request, given in (("FAIL {1}", ["c", "b", "a"]), ("DONE {0}", ["c", "b"]), ("POLL", ["a", "b", "c"]),
                                ("OFFER 0 d", ["c", "d", "a", "b"])):
             session = self.session(served)
-            ids = [session.ask(f"OFFER 0 {it}")[0].split(" ")[1] for it in "abc"]
+            ids = [session.reply_to(f"OFFER 0 {it}")[0].split(" ")[1] for it in "abc"]
             self.assertEqual(self.ask(session, "TAKE", "TAKE"), ["ITEM", "ITEM"])
             proxy.is_mute = True
             threading.Timer(0.3, proxy.cut).start()
-            self.assertRaises(Broken, session.ask, request.format(*ids))
+            self.assertRaises(Broken, session.reply_to, request.format(*ids))
             self.assertEqual(self.given(served, len(given)), given, request)
         self.assertEqual(self.faults(), {})
 
-    def given(self, served: Served, count: int = 2) -> "list[str]":
+    def given(self, served: Gateway, count: int = 2) -> "list[str]":
         """The payloads of so many jobs, which are done."""
         session, payloads = self.session(served), []
         for _ in range(count):
-            _, id, _, _, payload = session.ask("POLLFOR 30000000000")[0].split(" ")
+            _, id, _, _, payload = session.reply_to("POLLFOR 30000000000")[0].split(" ")
             payloads.append(payload)
             self.assertEqual(self.ask(session, f"DONE {id}"), ["DONE"])
         self.assertEqual(self.ask(session, "QUIT"), ["BYE"])

@@ -74,7 +74,7 @@ class LostTest(RoomTest):
 
     def offered_until(self, room: Path, redis: str, kill: Callable[[], None], *options: object) -> "tuple[Offers, float]":
         """Offers through a gateway until the kill. The answers, and the time of the kill."""
-        gateway = Gateway(room / "gateway", redis, QUEUE, ("--timeout", "1s", *options))
+        gateway = Gateway(room, redis, QUEUE, ("--timeout", "1s", *options))
         gateway.wait()
         offers = Offers(gateway.port)
         time.sleep(random.uniform(0.6, 1.0) * SECONDS)

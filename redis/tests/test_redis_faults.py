@@ -3,7 +3,8 @@ from __future__ import annotations
 
 import time
 
-from gateway_test import GatewayTest, Served
+from gateway_test import GatewayTest
+from gateways import Gateway
 from nodes import ALWAYS, Node, wait_until
 
 
@@ -13,7 +14,7 @@ class FaultyRedisTest(GatewayTest):
         self.node = Node(self.room / "node", ALWAYS)
         self.addCleanup(self.node.kill)
 
-    def assert_served_again(self, served: Served) -> None:
+    def assert_served_again(self, served: Gateway) -> None:
         self.assert_talk(self.talker(served), "OFFER 3600000000000 again = OFFERED .*")
 
     def test_what_was_done_is_there_after_a_kill(self) -> None:

@@ -8,7 +8,8 @@ import tempfile
 from pathlib import Path
 from typing import Optional
 
-from gateway_test import GatewayTest, Served
+from gateway_test import GatewayTest
+from gateways import Gateway
 from nodes import Node, free_port
 from rb_broker_redis.address import read_address
 from serving import HOST
@@ -37,28 +38,25 @@ class PasswordTest(GatewayTest):
         super().setUp()
         self.url = f"redis://:{PASSWORD}@{HOST}:{self.node.port}"
 
-    def words(self, *words: object) -> "list[str]":
-        """Those of a gateway, to which the test or the environment names the Redis."""
-        return ["serve", "--port", "0", "--queue", self.name, *map(str, words)]
-
-    def assert_serves_in_secret(self, process: "subprocess.Popen[str]") -> None:
-        served = Served(process)
+    def assert_serves_in_secret(self, served: Gateway) -> None:
         self.assert_talk(self.talker(served), "SIZE = SIZE 0")
-        words = Path(f"/proc/{process.pid}/cmdline").read_text()
-        self.assertNotIn(PASSWORD, words + "".join(served.end()[1:]))
+        words = Path(f"/proc/{served.pid}/cmdline").read_text()
+        self.assertEqual(served.end(), 0)
+        self.assertNotIn(PASSWORD, words + served.said)
 
     def test_a_file_has_the_password(self) -> None:
         file = self.room / "redis.url"
         file.write_text(f"{self.url}\n")
-        self.assert_serves_in_secret(self.started("--redis", f"@{file}"))
+        self.assert_serves_in_secret(self.gateway(redis=f"@{file}"))
 
     def test_the_environment_has_the_password(self) -> None:
-        self.assert_serves_in_secret(self.started(RB_BROKER_REDIS=self.url))
+        self.assert_serves_in_secret(self.gateway(redis="", RB_BROKER_REDIS=self.url))
 
     def test_a_wrong_password_is_not_told(self) -> None:
-        process = self.started(RB_BROKER_REDIS=self.url.replace(PASSWORD, "open-barley"))
-        said, errors = process.communicate(timeout=30)
-        self.assertEqual((process.returncode, said), (3, ""))
+        file = self.room / "redis.url"
+        file.write_text(self.url.replace(PASSWORD, "open-barley"))
+        status, lines, errors = self.ran("serve", "--port", 0, "--redis", f"@{file}")
+        self.assertEqual((status, lines), (3, []))
         self.assertIn("WRONGPASS", errors)
         self.assertNotIn("barley", errors)
 
@@ -84,16 +82,14 @@ class TlsTest(GatewayTest):
             make_certificate(cls.keys, name, "authority")
         make_certificate(cls.keys, "stranger")
 
-    def talker_over_tls(self, served: Served, name: str = "") -> Talker:
+    def talker_over_tls(self, served: Gateway, name: str = "") -> Talker:
         """A client that knows the authority, with a certificate of its own if it has a name."""
         context = ssl.create_default_context(cafile=str(self.keys / "authority.pem"))
         if name:
             context.load_cert_chain(self.keys / f"{name}.pem", self.keys / f"{name}.key")
-        talker = served.talker(context)
-        self.addCleanup(talker.hang_up)
-        return talker
+        return self.talker(served, tls=context)
 
-    def served_by_tls(self, *words: object) -> Served:
+    def served_by_tls(self, *words: object) -> Gateway:
         return self.serve("--cert", self.keys / "gateway.pem", "--key", self.keys / "gateway.key", *words)
 
     def test_clients_are_served_over_tls(self) -> None:
@@ -102,7 +98,7 @@ class TlsTest(GatewayTest):
         self.assert_talk(talker, "OFFER 0 a = OFFERED .*")
         talker.send("TAKE\nDONE 0\nQUIT\n")
         self.assert_talk(talker, "= ITEM .*", "= DONE 0", "= BYE", "= ")
-        self.assertEqual(served.end()[0], 0)
+        self.assertEqual(served.end(), 0)
 
     def test_only_clients_of_the_authority_are_let_in(self) -> None:
         served = self.served_by_tls("--client-ca", self.keys / "authority.pem")
@@ -131,5 +127,4 @@ class TlsTest(GatewayTest):
         self.assert_talk(self.talker(served), "SIZE = SIZE 0")
 
     def test_plain_is_said_loudly(self) -> None:
-        _, _, errors = self.serve("--plain").end()
-        self.assertIn("PLAIN: whoever reaches 127.0.0.1:", errors)
+        self.assertIn("PLAIN: whoever reaches 127.0.0.1:", self.serve("--plain").said)

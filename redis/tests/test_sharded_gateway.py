@@ -5,7 +5,8 @@ import random
 import time
 from typing import Dict, List
 
-from gateway_test import GatewayTest, Served
+from gateway_test import GatewayTest
+from gateways import Gateway
 from judging import replay_chains
 from rb_broker_redis.queue import Queue
 from talker import Talker
@@ -14,7 +15,7 @@ SHARDS = 3
 
 
 class ShardedGatewayTest(GatewayTest):
-    def serve(self, *words: object) -> Served:
+    def serve(self, *words: object) -> Gateway:
         return super().serve("--shards", SHARDS, *words)
 
     def shards(self) -> "List[Queue]":
@@ -92,7 +93,7 @@ class ShardedGatewayTest(GatewayTest):
 
     def test_what_a_session_holds_at_its_end_comes_back(self) -> None:
         served = self.serve()
-        with served.talker() as one:
+        with self.talker(served) as one:
             payloads = self.offer(one, 12)
             one.ask("DRAIN 12")
         items = self.talker(served).asks(*["TAKE"] * 12)
@@ -121,7 +122,7 @@ class ShardedGatewayTest(GatewayTest):
         talker = self.talker(served)
         self.offer(talker, 9)
         self.assert_talk(talker, "DRAIN 9 = DRAINED 9")
-        self.assertEqual(served.end(), (0, "sessions 1 lost 0\n", ""))
+        self.assert_ends_well(served, 1)
         self.assertEqual(sum(self.sizes()), 9)
         self.assertEqual(sum(it.command("ZCARD", it.held) for it in self.shards()), 0)
 
