@@ -72,17 +72,14 @@ class Events:
     moments: array[int] = column("Q")  # at which the calls took effect
     acts: bytearray = field(default_factory=bytearray)
     subjects: array[int] = column("i")
-    late: array[int] = column("i")  # the events of later attempts that were asked before
-    late_asked: array[int] = column("Q")  # and when each was asked
+    late: dict[int, int] = field(default_factory=dict)  # when those offers of later attempts were asked that waited
 
     def __len__(self) -> int:
         return len(self.acts)
 
     def asked(self, event: int) -> int:
         """The moment that was handed in with the offer of a later attempt."""
-        place = bisect_left(self.late, event)
-        found = place < len(self.late) and self.late[place] == event
-        return self.late_asked[place] if found else self.moments[event]
+        return self.late.get(event, self.moments[event])
 
     def with_act(self, act: int, column: Iterable[Value], part: slice = slice(None)) -> Iterator[Value]:
         """Of the values of some events those of the events with this act."""

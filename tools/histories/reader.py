@@ -94,8 +94,7 @@ class Reader:
                             " last")
         act, subject = self._told(line, moment, event)
         if asked != at and act == OFFER and self.history.elements.attempts[subject] > 1:
-            events.late.append(event)
-            events.late_asked.append(int(asked))
+            events.late[event] = int(asked)
         events.seats.append(int(seat))
         events.moments.append(moment)
         events.acts.append(act)
