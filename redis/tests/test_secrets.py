@@ -2,12 +2,11 @@
 from __future__ import annotations
 
 import contextlib
-import ssl
-import subprocess
 import tempfile
 from pathlib import Path
 from typing import Optional
 
+from encryption import Certificates  # of the tests of clients/python
 from gateway_test import GatewayTest
 from gateways import Gateway
 from nodes import Node, free_port
@@ -16,16 +15,6 @@ from serving import HOST
 from talker import Talker
 
 PASSWORD = "open-sesame"
-
-
-def make_certificate(folder: Path, name: str, signer: Optional[str] = None) -> None:
-    """NAME.pem and NAME.key of a party at 127.0.0.1, signed by another of the folder, or by itself."""
-    by = ["-CA", folder / f"{signer}.pem", "-CAkey", folder / f"{signer}.key"] if signer else []
-    subprocess.run(
-        ["openssl", "req", "-x509", "-newkey", "ec", "-pkeyopt", "ec_paramgen_curve:prime256v1", "-nodes", "-days", "2",
-         "-subj", f"/CN={name}", "-addext", "subjectAltName=IP:127.0.0.1", *by,
-         "-keyout", folder / f"{name}.key", "-out", folder / f"{name}.pem"],
-        check=True, stderr=subprocess.DEVNULL)
 
 
 class PasswordTest(GatewayTest):
@@ -76,21 +65,14 @@ class TlsTest(GatewayTest):
         super().setUpClass()
         room = tempfile.TemporaryDirectory(prefix="rb-test-")
         cls.addClassCleanup(room.cleanup)
-        cls.keys = Path(room.name)
-        make_certificate(cls.keys, "authority")
-        for name in ("gateway", "client", "redis"):
-            make_certificate(cls.keys, name, "authority")
-        make_certificate(cls.keys, "stranger")
+        cls.keys = Certificates(room.name)
 
-    def talker_over_tls(self, served: Gateway, name: str = "") -> Talker:
+    def talker_over_tls(self, served: Gateway, name: Optional[str] = None) -> Talker:
         """A client that knows the authority, with a certificate of its own if it has a name."""
-        context = ssl.create_default_context(cafile=str(self.keys / "authority.pem"))
-        if name:
-            context.load_cert_chain(self.keys / f"{name}.pem", self.keys / f"{name}.key")
-        return self.talker(served, tls=context)
+        return self.talker(served, tls=self.keys.client(name=name))
 
     def served_by_tls(self, *words: object) -> Gateway:
-        return self.serve("--cert", self.keys / "gateway.pem", "--key", self.keys / "gateway.key", *words)
+        return self.serve("--cert", self.keys.path("server"), "--key", self.keys.key("server"), *words)
 
     def test_clients_are_served_over_tls(self) -> None:
         served = self.served_by_tls()
@@ -101,9 +83,9 @@ class TlsTest(GatewayTest):
         self.assertEqual(served.end(), 0)
 
     def test_only_clients_of_the_authority_are_let_in(self) -> None:
-        served = self.served_by_tls("--client-ca", self.keys / "authority.pem")
+        served = self.served_by_tls("--client-ca", self.keys.path("ca"))
         self.assert_talk(self.talker_over_tls(served, "client"), "SIZE = SIZE 0")
-        for name in ("", "stranger"):
+        for name in (None, "stranger"):
             with self.subTest(name=name), self.assertRaises(OSError):
                 if self.talker_over_tls(served, name).ask("SIZE") == "":
                     raise ConnectionError
@@ -119,11 +101,11 @@ class TlsTest(GatewayTest):
     def test_the_redis_is_reached_over_tls(self) -> None:
         port, keys = free_port(), self.keys
         node = Node(self.room / "node", [
-            "--appendonly", "no", "--tls-port", port, "--tls-cert-file", keys / "redis.pem",
-            "--tls-key-file", keys / "redis.key", "--tls-ca-cert-file", keys / "authority.pem"])
+            "--appendonly", "no", "--tls-port", port, "--tls-cert-file", keys.path("server"),
+            "--tls-key-file", keys.key("server"), "--tls-ca-cert-file", keys.path("ca")])
         self.addCleanup(node.kill)
-        client = f"ssl_certfile={keys}/client.pem&ssl_keyfile={keys}/client.key"
-        served = self.serve("--redis", f"rediss://{HOST}:{port}?ssl_ca_certs={keys}/authority.pem&{client}")
+        client = f"ssl_certfile={keys.path('client')}&ssl_keyfile={keys.key('client')}"
+        served = self.serve("--redis", f"rediss://{HOST}:{port}?ssl_ca_certs={keys.path('ca')}&{client}")
         self.assert_talk(self.talker(served), "SIZE = SIZE 0")
 
     def test_plain_is_said_loudly(self) -> None:
