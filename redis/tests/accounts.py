@@ -15,8 +15,8 @@ Told = "dict[tuple[str, int], list[str]]"
 
 
 def told_in(notes: Iterable[Path]) -> Told:
-    """What is noted in records, in the words of `ends_in`, and by Java's HostileWorker: `DONE`, `took`, `failed`, `back`,
-    `doubt` or `gone`."""
+    """What is noted in records, in the words of `ends_in`, and by Java's HostileWorker: `DONE`, `took`, `failed`,
+    `back`, `doubt` or `gone`."""
     paths = [*notes]
     told = ends_in(it for it in paths if it.suffix == RECORD)
     for words in (line.split(" ") for it in paths if it.suffix != RECORD for line in it.read_text().splitlines()):

@@ -1,12 +1,9 @@
 """Gateways as processes, with clients that wait, leave and come back."""
 from __future__ import annotations
 
-import socket
 import time
 
 from gateway_test import GatewayTest
-from gateways import Gateway
-from talker import Talker
 
 MILLISECOND = 1_000_000
 
@@ -30,34 +27,6 @@ class RequestsTest(GatewayTest):
         queue.call("rb_calls", f"{2**63:020}", "", "0 SIZE")  # an event that is still to come
         self.assert_talk(self.talker(), f"OFFERAT {2**63} a = OFFERED 0 {2**63}", f"POLL = ITEM 0 {2**63} 1 a")
 
-    def test_a_session_holds_64_jobs(self) -> None:
-        talker = self.talker()
-        talker.send("OFFER 0 a\n" * 66 + "POLL\n" * 65 + "TAKE\nPOLLFOR 0\nDRAIN 5\nDONE 3\nPOLL\nPOLL\n")
-        self.assert_talk(
-            talker, *["= OFFERED .*"] * 66, *["= ITEM .*"] * 64, *["= ERR 9 held"] * 3, "= DRAINED 0", "= DONE 3",
-            "= ITEM 64 .*", "= ERR 9 held")
-
-    def test_a_session_does_not_hold_what_another_does(self) -> None:
-        served = self.serve()
-        one, other = self.talker(served), self.talker(served)
-        self.assert_talk(one, "OFFER 0 a = OFFERED .*", "POLL = ITEM .*")
-        self.assert_talk(other, "DONE 0 = ERR 5 not-held", "FAIL 0 = ERR 5 not-held")
-        self.assert_talk(one, "DONE 0 = DONE 0")
-
-    def test_a_client_may_close_its_side_and_read_on(self) -> None:
-        talker = self.talker()
-        talker.send("OFFER 0 a\nTAKE\nDONE 0\nSIZE\nSI")
-        talker.socket.shutdown(socket.SHUT_WR)
-        self.assert_talk(talker, "= OFFERED .*", "= ITEM .*", "= DONE 0", "= SIZE 0", "= ERR .*", "= ")
-
-    def test_what_a_session_holds_at_its_end_comes_back_in_order(self) -> None:
-        served = self.serve()
-        one, other = self.talker(served), self.talker(served)
-        one.send("OFFERAT 3 c\nOFFERAT 1 a\nOFFERAT 2 b\nPOLL\nPOLL\nPOLL\nDONE 1\n")
-        self.assert_talk(one, *["= OFFERED .*"] * 3, *["= ITEM .*"] * 3, "= DONE 1", "QUIT = BYE", "= ")
-        self.assert_talk(other, "DRAIN 5 = DRAINED 2", r"= ITEM 3 \d+ 2 b", r"= ITEM 4 \d+ 2 c")
-        self.assertEqual([it[-1] for it in self.events()[6:8]], [b"b", b"c"])
-
 
 class WaitsTest(GatewayTest):
     def test_a_take_waits_until_an_element_is_due(self) -> None:
@@ -67,21 +36,6 @@ class WaitsTest(GatewayTest):
         given = int(self.events()[-1][2])
         self.assertGreaterEqual(given, expiry)
         self.assertLess(given - expiry, 1_000 * MILLISECOND)
-
-    def test_a_wait_is_woken_by_an_offer_at_another_gateway(self) -> None:
-        one, other = self.talker(None, "--wait", "60s"), self.talker()
-        self.assert_waits(one, "TAKE")
-        begun = time.monotonic()
-        self.assert_talk(other, "OFFER 0 a = OFFERED .*")
-        self.assert_talk(one, "= ITEM .*")
-        self.assertLess(time.monotonic() - begun, 5)
-
-    def test_an_earlier_offer_wakes_who_waits_for_a_later_one(self) -> None:
-        one, other = self.talker(None, "--wait", "60s"), self.talker()
-        self.assert_talk(other, "OFFER 3600000000000 late = OFFERED .*")
-        self.assert_waits(one, "TAKE")
-        self.assert_talk(other, f"OFFER {200 * MILLISECOND} soon = OFFERED .*")
-        self.assert_talk(one, "= ITEM .* soon")
 
     def test_a_wait_is_given_up(self) -> None:
         talker = self.talker(None, "--wait", "300ms")
@@ -107,17 +61,6 @@ class WaitsTest(GatewayTest):
         for number, talker in enumerate(waiting):
             self.assert_talk(talker, f"= ITEM .* job-{number}")
 
-    def test_who_leaves_while_it_waits_costs_no_attempt(self) -> None:
-        served = self.serve("--wait", "60s")
-        for leave in (Talker.hang_up, Talker.reset, lambda it: it.socket.shutdown(socket.SHUT_WR)):
-            talker = self.talker(served)
-            self.assert_waits(talker, "TAKE")
-            leave(talker)
-            time.sleep(0.2)
-            other = self.talker(served)
-            self.assert_talk(other, "OFFER 0 a = OFFERED .*", r"POLL = ITEM \d+ \d+ 1 a", "QUIT = BYE", "= ")
-            self.queue().request("CLEAR")
-
     def test_nobody_polls_while_nothing_is_due(self) -> None:
         talker = self.talker(None, "--wait", "60s")
         self.assert_talk(talker, f"OFFER {3_600_000 * MILLISECOND} a = OFFERED .*")
@@ -133,35 +76,6 @@ class WaitsTest(GatewayTest):
 
 
 class EndsTest(GatewayTest):
-    def test_sigterm_ends_it_in_good_order(self) -> None:
-        served = self.serve("--wait", "60s")
-        holder, waiting, _ = (self.talker(served) for _ in range(3))
-        self.assert_talk(holder, "OFFER 0 a = OFFERED .*", "TAKE = ITEM .*")
-        self.assert_waits(waiting, "TAKE\nSIZE")
-        self.assert_ends_well(served, 3)
-        self.assertEqual((waiting.rest(), holder.rest()), (["STOPPED"], []))
-        self.assertEqual((self.held(), self.queue().request("PEEK").split()[3]), (0, "2"))
-        self.assertEqual(self.node.ask("ZCARD", self.queue().gateways), 0)
-
-    def test_a_gateway_that_dies_costs_its_jobs_an_attempt(self) -> None:
-        dying, other = self.serve("--lease", "3s"), self.serve("--lease", "3s", "--wait", "30s")
-        for _ in range(2):
-            self.assert_talk(self.talker(dying), "OFFER 0 a = OFFERED .*", "TAKE = ITEM .*")
-        dying.kill()
-        self.assert_talk(self.talker(other), *[r"TAKE = ITEM \d+ \d+ 2 a"] * 2)
-        self.assertEqual(self.node.ask("ZCARD", self.queue().gateways), 1)
-
-    def test_a_late_lease_is_told_by_the_next_done(self) -> None:
-        late, other = self.serve("--lease", "3s"), self.serve("--lease", "3s", "--wait", "30s")
-        one, heir = self.talker(late), self.talker(other)
-        self.assert_talk(one, "OFFER 0 a = OFFERED .*", "TAKE = ITEM .*")
-        late.pause()
-        self.assert_talk(heir, r"TAKE = ITEM 1 \d+ 2 a")
-        one.send("DONE 0\n")
-        late.go_on()
-        self.assertEqual(one.rest(), ["ERR 5 not-held"])
-        self.assert_talk(heir, "DONE 1 = DONE 1")
-
     def test_nothing_is_given_to_a_session_whose_lease_was_over(self) -> None:
         late, other = self.serve("--lease", "2s", "--wait", "30s"), self.serve("--lease", "2s", "--wait", "30s")
         holder, polling, waiting, heir = (self.talker(it) for it in (late, late, late, other))
@@ -179,18 +93,6 @@ class EndsTest(GatewayTest):
         self.assert_talk(self.talker(late), "OFFER 0 d = OFFERED .*", "POLL = ITEM .* 1 d")
         events = self.events()
         self.assertEqual([it for it in events if it[0] == events[0][0]][-1][-2:], [b"2", b"a"])
-
-    def test_a_gateway_joins_anew_where_the_policy_was_changed_meanwhile(self) -> None:
-        late = self.serve("--lease", "2s")
-        one = self.talker(late)
-        self.assert_talk(one, "OFFER 0 a = OFFERED .*", "TAKE = ITEM .*")
-        late.pause()
-        changed = self.serve("--lease", "2s", "--wait", "30s", "--attempts", 2, "--change-policy")
-        self.assert_talk(self.talker(changed), r"TAKE = ITEM 1 \d+ 2 a", "FAIL 1 = DEAD 1")
-        late.go_on()
-        self.assertEqual(one.rest(), [])
-        self.assert_talk(self.talker(late), "OFFER 0 b = OFFERED .*", "TAKE = ITEM .*", "FAIL 2 = AGAIN .*",
-                         "TAKE = ITEM .*", "FAIL 3 = DEAD 3")
 
     def test_policies_have_to_agree(self) -> None:
         self.serve()

@@ -74,17 +74,6 @@ class ShardedGatewayTest(GatewayTest):
         self.assert_talk(talker, "POLL = ERR 9 held", "TAKE = ERR 9 held", "POLLFOR 0 = ERR 9 held",
                          "DRAIN 5 = DRAINED 0", f"DONE {ids[0]} = DONE {ids[0]}", "POLL = ITEM .*")
 
-    def test_requests_in_one_piece_are_carried_out_in_order(self) -> None:
-        talker = self.talker()
-        talker.send("OFFER 0 a\nOFFER 0 b\nSIZE\nx\nPOLL\nOFFER 0 c\nDONE 5000\nREMOVE 63\nCLEAR\nSIZE\nQUIT\n")
-        self.assertEqual([it.split()[0] for it in talker.rest()],
-                         ["OFFERED", "OFFERED", "SIZE", "ERR", "ITEM", "OFFERED", "ERR", "REMOVED", "CLEARED", "SIZE",
-                          "BYE"])
-
-    def test_ids_of_no_queue_are_not_held(self) -> None:
-        self.assert_talk(self.talker(), "DONE 63 = ERR 5 not-held", "FAIL 62 = ERR 5 not-held",
-                         "REMOVE 61 = REMOVED no", f"DONE {2**64 - 64} = ERR 5 not-held")
-
     def test_an_element_is_removed_by_its_id(self) -> None:
         talker = self.talker()
         ids = list(self.offer(talker, 10, 10**12))
@@ -110,12 +99,6 @@ class ShardedGatewayTest(GatewayTest):
         self.assertEqual({it[4] for it in items}, {f"job-{it}" for it in range(12)})
         for talker, item in zip(waiting, items):
             self.assert_talk(talker, f"DONE {item[1]} = DONE {item[1]}")
-
-    def test_waits_end_at_their_times(self) -> None:
-        talker = self.talker(None, "--wait", "500ms")
-        self.assert_talk(talker, "TAKE = STOPPED", "POLLFOR 0 = NONE", "POLLFOR 100000000 = NONE")
-        self.offer(talker, 3, 200_000_000)
-        self.assert_talk(talker, *["TAKE = ITEM .*"] * 3)
 
     def test_sigterm_ends_it_in_good_order(self) -> None:
         served = self.serve()

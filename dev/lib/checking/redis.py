@@ -28,7 +28,7 @@ SYSTEM_PYTHON = "/usr/bin/python3"  # for which Debian has the package python3-r
 AT_ONCE = int(os.environ.get("RB_BROKER_AT_ONCE", 4))
 PORTS = range(26_000, 27_000)  # of which each process has its own
 LONGEST = [
-    f"test_{it}" for it in ("hostile_day", "script", "lost", "cluster", "redis_faults", "gateway", "load", "types")
+    f"test_{it}" for it in ("hostile_day", "script", "lost", "cluster", "talks", "gateway", "load", "types")
 ]
 
 
