@@ -67,7 +67,6 @@ class Build:
                 self._progress.hear(it.crate, it.output())
                 if has_ended:
                     self._end(it)
-            self._progress.tell()
         return self._progress.seconds()
 
     def _begin_those_that_may(self) -> None:

@@ -29,19 +29,18 @@ class Progress:
 
     def __init__(self, crates: int) -> None:
         self._crates, self._built, self._began = crates, 0, time.monotonic()
-        self._proving: dict[str, float] = {}
+        self._proving: dict[str, float] = {}  # since when
         self._waiting: set[str] = set()
-        self._ended: list[str] = []
-        self._told: tuple[str, ...] = ()
 
     def seconds(self) -> int:
         return int(time.monotonic() - self._began)
 
     def hear(self, crate: str, output: bytes) -> None:
-        """Learns from what rt has written so far whether a crate is being proved, or waits."""
+        """Tells whether a crate is being proved, or waits, as rt has written."""
         waits = WAITS.search(output)
         if crate not in self._proving and BEGINS.search(output):
             self._proving[crate] = time.monotonic()
+            say(f"{self.seconds()} s: proving {crate}")
         elif crate not in self._waiting and waits:
             self._waiting.add(crate)
             say(f"{self.seconds()} s: {crate}: {waits[0].decode(errors='replace')}")
@@ -49,13 +48,5 @@ class Progress:
     def built(self, crate: str) -> None:
         self._built += 1
         if crate in self._proving:
-            self._ended.append(f"{crate} took {time.monotonic() - self._proving.pop(crate):.0f} s")
-
-    def tell(self) -> None:
-        """Says what has changed since it was last told, if something has."""
-        proving = tuple(self._proving)
-        if self._ended or proving != self._told:
-            parts = [*self._ended, f"{self._built} of {self._crates} crates built"]
-            parts += [f"proving {', '.join(proving)}"] if proving else []
-            say(f"{self.seconds()} s: {'; '.join(parts)}")
-            self._ended, self._told = [], proving
+            took = time.monotonic() - self._proving[crate]
+            say(f"{self.seconds()} s: {crate} took {took:.0f} s; {self._built} of {self._crates} crates built")

@@ -15,6 +15,7 @@ import textwrap
 from pathlib import Path
 from typing import Any, Optional
 
+from checking.suites import add
 from checking.tally import Tally
 from common.program import TOP, tested_program
 from serving.server import Server
@@ -73,17 +74,16 @@ def sources(folder: str) -> list[str]:
 
 def build(room: str, tally: Tally) -> Optional[str]:
     """Compiles everything and writes the pages. Gives the class path, or None if something does not compile."""
-    package, tests, example = (f"{room}/{it}" for it in ("package", "tests", "example"))
-    with_jars = os.pathsep.join([package, *JARS])
-    strict = ("javac", "--release", RELEASE, "-Xlint:all", "-Werror", "-d")
-    pages = ("javadoc", "-quiet", "-Xdoclint:all", "-Werror", "-d", f"{room}/pages", *sources("src"))
-    is_compiled = [
-        expect(tally, "javac of the package", *strict, package, *sources("src")),
-        expect(tally, "javac of the example", *strict, example, "-cp", package, *sources("examples")),
-        expect(tally, "javac of the tests", *strict, tests, "-cp", with_jars, *sources("tests")),
-    ]
-    expect(tally, "javadoc", *pages)
-    return os.pathsep.join((package, tests, example, *JARS)) if all(is_compiled) else None
+    strict = ("javac", "--release", RELEASE, "-Xlint:all", "-Werror")
+    expect(tally, "javadoc", "javadoc", "-quiet", "-Xdoclint:all", "-Werror", "-d", f"{room}/src.pages", *sources("src"))
+    seen = [room]  # where there are no classes
+    for name, folder, jars in (("package", "src", ()), ("example", "examples", ()), ("tests", "tests", JARS)):
+        seen += jars
+        words = (*strict, "-d", f"{room}/{folder}", "-cp", os.pathsep.join(seen), *sources(folder))
+        if not expect(tally, f"javac of the {name}", *words):
+            return None
+        seen.append(f"{room}/{folder}")
+    return os.pathsep.join(seen)
 
 
 def run_tests(kind: str, path: str, tally: Tally) -> None:
@@ -97,15 +97,7 @@ def run_tests(kind: str, path: str, tally: Tally) -> None:
             "page": f"{TOP}/docs/OPERATING.md"}
     settings = [f"-Drbbroker.{name}={it}" for name, it in told.items()]
     ran = run("java", "-ea", "-cp", path, *settings, *(f"rbbroker.client.{it}" for it in ["Suite", *names]))
-    *lines, last = ran.stdout.strip().split("\n")
-    found = re.fullmatch(r"(\d+) tests, (\d+) failures", last)
-    for line in lines if found else []:
-        print(line)
-    count, failed = map(int, found.groups()) if found else (0, 0)
-    if count == 0 or (ran.returncode == 0) != (failed == 0):
-        tally.count(f"the tests of {kind}", f"status {ran.returncode}: {ran.stdout.strip()}")
-    else:
-        tally.add(max(0, count - failed), failed)
+    add(tally, f"the tests of {kind}", ran.stdout)
 
 
 def run_example(path: str, tally: Tally) -> None:

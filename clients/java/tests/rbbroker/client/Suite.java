@@ -32,7 +32,8 @@ public final class Suite {
             }
         });
         Result result = core.run(classes);
-        System.out.println(result.getRunCount() + " tests, " + result.getFailureCount() + " failures");
+        int failed = result.getFailureCount();
+        System.out.println(Math.max(0, result.getRunCount() - failed) + " passed, " + failed + " failed");
         System.exit(result.wasSuccessful() ? 0 : 1);
     }
 }
