@@ -23,8 +23,6 @@ PATIENCE = 600  # seconds that a run may take
 MOST_TOLD = 20  # faults of a file that are printed
 MALFORMED = Path(__file__).with_name("malformed.txt")
 
-Finding = str  # what is wrong; empty if nothing is
-
 
 class RbCases:
     """The program to try, and a folder in which it reads tables."""
@@ -40,8 +38,8 @@ class RbCases:
         ran = subprocess.run([self.program, "tried.rows"], **how)
         return ran.returncode, ran.stdout.splitlines(), ran.stderr
 
-    def of_rows(self, path: Path) -> list[Finding]:
-        """What was wrong when each row of a file in turn had another answer."""
+    def of_rows(self, path: Path) -> list[str]:
+        """What was wrong when each row of a file in turn had another answer; empty if nothing was."""
         tried: list[str] = []
         wanted: list[str] = []
         for table in tables_of(path):
@@ -56,7 +54,7 @@ class RbCases:
             return [f"status {status}, {len(lines)} lines, {errors!r}"] * len(wanted)
         return ["" if re.fullmatch(one, line) else line for line, one in zip(lines, wanted)]
 
-    def of_malformed(self) -> Iterator[Finding]:
+    def of_malformed(self) -> Iterator[str]:
         """How each malformed file was refused otherwise than for its flaw."""
         _, *pieces = re.split(r"^== (.*)\n", MALFORMED.read_text("utf-8"), flags=re.M)
         for told, text in zip(pieces[::2], pieces[1::2]):
@@ -81,7 +79,7 @@ def with_other_answer(row: str) -> str:
     return f"{command} = {' or '.join(answer + OTHER for answer in answers.split(' or '))}"
 
 
-def count(tally: Tally, name: str, findings: list[Finding]) -> None:
+def count(tally: Tally, name: str, findings: list[str]) -> None:
     """Counts what was tried in a file, and prints the first of what is wrong."""
     faults = [it for it in findings if it]
     tally.add(len(findings) - len(faults), len(faults))
