@@ -57,42 +57,36 @@ class WorkerTest(ServingTest):
         self.expect_end(server, "sessions 2 faults 0 lost 0", given=5)
 
     def test_it_stops(self) -> None:
-        with_a_job = self.serve("--sessions", 2)
+        with_a_job, idle = self.serve("--sessions", 2), self.serve("--sessions", 1)
+        behind_others = self.serve("--sessions", 2, "--workers", 1)
         say(with_a_job, "OFFER 0 job")
         worker = Worker(with_a_job.port, *TELLS)
         self.assertEqual(worker.line(), "begun")
         self.assertEqual(worker.stop(), ended(0, "job, attempt 1: done", done=1))
-        idle = self.serve("--sessions", 1)
         self.expect_stop_within(idle)
-        behind_others = self.serve("--sessions", 2, "--workers", 1)
         with Session(behind_others.port) as silent:
             silent.ask("SIZE")
             self.expect_stop_within(behind_others)
-        for server in (with_a_job, idle, behind_others):
-            self.assertEqual(server.end().status, 0)
+        self.assertEqual([it.end().status for it in (with_a_job, idle, behind_others)], [0, 0, 0])
 
-    def test_it_leaves_a_full_run(self) -> None:
-        server = self.serve("--sessions", 100, "--calls", 2)
-        say(server, "OFFER 0 job")
-        told = f"worker.pl: no server at port {server.port} has served it for 1 s\n"
-        end = Worker(server.port, "true", patience=1).end()
-        self.assertEqual(end, ended(1, "job, attempt 1: done", done=1)._replace(errors=told))
-
-    def test_it_tells_of_a_lost_job(self) -> None:
-        server = self.serve("--sessions", 2, "--calls", 2)
-        say(server, "OFFER 0 bad")
-        end = Worker(server.port, *FAILS_BAD, patience=1).end()
-        self.assertEqual(end._replace(errors=""), ended(1, "bad, attempt 1: lost", lost=1))
-        self.assertEqual(end.errors.splitlines()[0], "worker.pl: bad was lost: ERR 6 full")
-        self.assertEqual(server.end().lines[0], "sessions 2 faults 0 lost 1")
-
-    def test_it_tells_of_an_unheard_job(self) -> None:
-        server = self.serve("--sessions", 2)
-        say(server, "OFFER 0 job")
-        worker = Worker(server.port, *TELLS, patience=1)
-        worker.line()
-        server.kill()
-        self.assertEqual(worker.end()._replace(errors=""), ended(1, "job, attempt 1: unheard", unheard=1))
+    def test_it_ends_without_a_server_that_serves_it(self) -> None:
+        unserved = "worker.pl: no server at port {port} has served it for 1 s\n"
+        for payload, sessions, calls, end, errors in (
+            ("job", 100, 2, "done", unserved),  # a full run
+            ("bad", 2, 2, "lost", f"worker.pl: bad was lost: ERR 6 full\n{unserved}"),
+            ("job", 2, 9, "unheard", unserved),  # the server is killed
+        ):
+            with self.subTest(end=end):
+                server = self.serve("--sessions", sessions, "--calls", calls)
+                say(server, f"OFFER 0 {payload}")
+                worker = Worker(server.port, *(TELLS if end == "unheard" else FAILS_BAD), patience=1)
+                if end == "unheard":
+                    worker.line()
+                    server.kill()
+                told = ended(1, f"{payload}, attempt 1: {end}", **{end: 1})
+                self.assertEqual(worker.end(), told._replace(errors=errors.format(port=server.port)))
+                if end == "lost":
+                    self.assertEqual(server.end().lines[0], "sessions 2 faults 0 lost 1")
 
     def test_it_goes_on_behind_a_cut(self) -> None:
         server = self.serve("--sessions", 3, "--delay", 0)
