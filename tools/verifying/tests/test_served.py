@@ -1,5 +1,4 @@
 """Runs of the program: clients that do anything, and clients of tools/load, over each timer."""
-import io
 import os
 import subprocess
 import threading
@@ -7,15 +6,16 @@ import time
 from concurrent.futures import ThreadPoolExecutor
 
 import verifying.tests  # noqa: F401  # which says where the client package is
+from checking.server.clients import Client
 from checking.testing import run_tool, tool
 from rb_broker_client import Job, Producer, Worker
+from serving.recorded import RecordedSession
 from serving.server import Server
 from serving.testing import ServingTest
-from verifying.tests.recording_client import RecordingClient
 from verifying.tests.support import RunTest
 
 TIMERS = ("list", "heap", "pairing", "wheel")
-WORKERS, SESSIONS, ROUNDS = 6, 60, 60
+WORKERS, SESSIONS = 6, 120
 
 
 class ServedTest(RunTest, ServingTest):
@@ -35,18 +35,14 @@ class ServedTest(RunTest, ServingTest):
             with self.subTest(timer=timer):
                 server = self.serve_over(timer, "--workers", WORKERS, "--sessions", SESSIONS, "--calls", 100_000,
                                          "--turns", 2, "--delay", 100_000, "--attempts", 4)
+                clients = [Client(it, timer) for it in range(SESSIONS)]
                 with ThreadPoolExecutor(WORKERS) as pool:
-                    records = pool.map(lambda number: self.record_of_visits(server.port, number, timer), range(WORKERS))
-                lines = self.expect_no_fault(server, *records)
-                says = rf"^[\d,]+ events at {WORKERS} seats; [\d,]+ requests of {SESSIONS} sessions$"
+                    self.assertEqual({*pool.map(lambda it: it.run(server.port), clients)}, {""})
+                record = self.file("clients.jsonl", "".join(line for it in clients for line in it.record()))
+                sessions = sum(it.asked != [] for it in clients)  # some say nothing
+                lines = self.expect_no_fault(server, record)
+                says = rf"^\d,\d+ events at [1-{WORKERS}] seats; [\d,]+ requests of {sessions} sessions$"
                 self.assertRegex(lines[0], says)
-
-    def record_of_visits(self, port: int, number: int, timer: str) -> str:
-        """The path of the record of clients that visit a server one after the other."""
-        record = io.StringIO()
-        for visit in range(SESSIONS // WORKERS):
-            RecordingClient(f"{number}-{visit}", port, record, timer).run(ROUNDS)
-        return self.file(f"{number}.jsonl", record.getvalue())
 
     def test_clients_of_the_load(self) -> None:
         for timer in TIMERS:
@@ -90,20 +86,21 @@ class ServedTest(RunTest, ServingTest):
 
     def test_a_client_that_is_killed_while_its_poll_waits(self) -> None:
         """It holds a job. Its poll is then given another one, and both come back."""
-        record = io.StringIO()
+        record: list[str] = []
         server = self.serve_over("heap", "--workers", 2, "--sessions", 2, "--turns", 500)
-        killed, other = (RecordingClient(it, server.port, record, "") for it in ("killed", "other"))
-        other.ask("OFFER 0 x")
-        killed.ask("TAKE")
-        killed.vanish("POLLFOR 9000000000")
-        other.ask("OFFER 0 y")
+        killed, other = (RecordedSession(server.port, it, record.append) for it in ("killed", "other"))
+        other.exchange("OFFER 0 x")
+        killed.exchange("TAKE")
+        killed.send("POLLFOR 9000000000")
+        killed.hang_up()
+        other.exchange("OFFER 0 y")
         for _ in range(1_000):
-            if other.ask("SIZE") == ["SIZE 2"]:
+            if other.exchange("SIZE") == [["SIZE 2"]]:
                 break
             time.sleep(0.01)
-        other.ask("POLL", "POLL", "QUIT")
+        other.exchange("POLL", "POLL", "QUIT")
         self.assertEqual(server.end()[0], 0)
-        path = self.file("record.jsonl", record.getvalue())
+        path = self.file("record.jsonl", "".join(f"{it}\n" for it in record))
         ran = self.verify(f"{self.room}/run.txt", path)
         self.assertEqual((ran.returncode, ran.stdout.splitlines()[-1]), (0, "0 faults"), ran.stdout)
         self.assertIn("4 jobs came back at the end of a session; 0 did not", ran.stdout)
