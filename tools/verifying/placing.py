@@ -4,8 +4,8 @@ from __future__ import annotations
 from array import array
 from bisect import bisect_left
 from collections import Counter
-from itertools import islice
-from typing import Iterator, List, Optional, Sequence
+from itertools import islice, takewhile
+from typing import List, Optional, Sequence
 
 from verifying.calls import Calls, Session
 from verifying.history import NONE
@@ -77,7 +77,7 @@ class Alignment:
 
     def align(self, calls: Sequence[int]) -> None:
         """Places the calls, which are in the order of their requests, and some of which have an event."""
-        events, places = self._calls.events, self._calls.history.places
+        events, places, astray = self._calls.events, self._calls.history.places, self._calls.astray
         last: Optional[int] = None
         waiting: List[int] = []
         for call in calls:
@@ -86,63 +86,47 @@ class Alignment:
                 continue
             place = places[events[call]]
             if last is None:
-                self._place_outside(waiting[::-1], range(place - 1, -1, -1))
+                self._place(waiting[::-1], self._free(range(place - 1, -1, -1), len(waiting)), is_between=False)
             elif waiting or place != last + 1:
-                self._place_between(waiting, last, place)
+                between = [it for it in self._row[last + 1:place] if it not in astray]
+                self._place(waiting, between, is_between=True)
             last, waiting = place, []
         assert last is not None
-        self._session.end = last + 1 + self._place_outside(waiting, range(last + 1, len(self._row)))
+        behind = self._free(range(last + 1, len(self._row)), len(waiting))
+        taken = self._place(waiting, behind, is_between=False)
+        self._session.end = 1 + (last if taken == NONE else places[taken])
         self._tell()
 
-    def _place_outside(self, calls: Sequence[int], places: range) -> int:
-        """Places the calls before the first one with an event, or behind the last one, going outwards. Returns how
-        many places that takes."""
-        used = 0
-        for call in calls:
-            ahead: List[int] = []  # places that are passed over
-            for place in islice(self._free(places[used:]), AHEAD):
-                if self._calls.may_be(call, self._row[place]):
-                    break
-                ahead.append(place)
-            else:
-                if not ahead or not self._is_of_kind(call, self._row[ahead[0]]):
-                    self._missing.append(call)
-                    continue
-                place, ahead = ahead[0], []
-            self._strangers += [self._row[it] for it in ahead]
-            self._calls.settle(call, self._row[place])
-            used = places.index(place) + 1
-        return used
+    def _free(self, places: range, calls: int) -> List[int]:
+        """The events at the next places that are nobody's, as many as so many calls look at. Calls of this session that
+        are out of order are passed over."""
+        claims, events = self._calls.claims, (self._row[it] for it in places)
+        own = takewhile(lambda it: claims[it] == NONE or it in self._calls.astray, events)
+        return list(islice((it for it in own if claims[it] == NONE), AHEAD * calls))
 
-    def _free(self, places: range) -> Iterator[int]:
-        """The next places whose events are nobody's. Calls of this session that are out of order are passed over."""
-        for place in places:
-            event = self._row[place]
-            if self._calls.claims[event] == NONE:
-                yield place
-            elif event not in self._calls.astray:
-                return
-
-    def _place_between(self, calls: List[int], first: int, last: int) -> None:
-        """Places the calls between two that have events."""
-        events = [it for it in self._row[first + 1:last] if it not in self._calls.astray]
-        if len(events) == len(calls):
-            for call, event in zip(calls, events):
-                if self._calls.claims[event] == NONE:
-                    self._calls.settle(call, event)
-                else:
-                    self._missing.append(call)
-                    self._strangers.append(event)
-            return
+    def _place(self, calls: Sequence[int], events: Sequence[int], is_between: bool) -> int:
+        """Places the calls at events, both in their order, and returns the last event that one got, or NONE. All events
+        between two calls that have theirs are the session's; if they are as many as the calls, each has its own."""
+        at, taken, is_even = 0, NONE, is_between and len(calls) == len(events)
+        reach = 1 if is_even else len(events) if is_between else AHEAD
         for call in calls:
-            found = next((it for it, event in enumerate(events) if self._calls.may_be(call, event)), None)
-            if found is None:
-                self._missing.append(call)
+            ahead = range(at, min(at + reach, len(events)))
+            found = next((it for it in ahead if self._calls.may_be(call, events[it])), None)
+            if found is None and ahead and self._calls.claims[events[at]] == NONE and (
+                    is_even or not is_between and self._is_of_kind(call, events[at])):
+                found = at  # and its reply says something else
+            if found is not None:
+                self._strangers += events[at:found]
+                taken, at = events[found], found + 1
+                self._calls.settle(call, taken)
                 continue
-            self._strangers += events[:found]
-            self._calls.settle(call, events[found])
-            events = events[found + 1:]
-        self._strangers += events
+            self._missing.append(call)
+            if is_even:
+                self._strangers.append(events[at])
+                at += 1
+        if is_between:
+            self._strangers += events[at:]
+        return taken
 
     def _is_of_kind(self, call: int, event: int) -> bool:
         """Whether an event did the same kind of thing as a call."""
