@@ -4,6 +4,7 @@ from __future__ import annotations
 import re
 from array import array
 from bisect import bisect_left, bisect_right
+from functools import lru_cache
 from typing import BinaryIO, Dict, List, Match, NamedTuple, Optional, Sequence
 
 from histories.faults import Damaged
@@ -17,6 +18,8 @@ NOWHERE = (1 << 32) - 1
 
 # The acts that name no element which comes or leaves. A fetch of a client of several queues may ask one in vain.
 IN_VAIN = re.compile(rb"\S+ \S+ \S+ (?:poll none|pollfor \S+ \S+ none|drain \S+|peek \S+|size \S+)\n")
+
+GIVING = frozenset(("take", "poll", "pollfor", "drain"))  # acts that give elements
 
 # In the words of an act, what is not told.
 ANY = "…"
@@ -76,6 +79,7 @@ class History:
         self.seats = array("H")  # by an index into the names
         self.rows: List[array[int]] = []  # the events of each seat
         self.places = array("I")  # of each event in its seat's row
+        # The event that offered an element, the one that took it out, and the one that offered its job again.
         self.offers = self.exits = self.returns = EventsById(0)
         self.kept: Dict[int, Element] = {}  # the elements of the opening
         self.files = array("I")  # the first event of each file, whose clock may be another than that of the one before
@@ -83,7 +87,6 @@ class History:
         self._last = 0  # the moment of the last event
         self._latest: Dict[int, int] = {}  # the id of the latest attempt of each job that was offered again
         self._seat_indexes: Dict[bytes, int] = {}
-        self._looked_at, self._seen = NONE, [""]  # the event whose words were asked for last, and these
 
     def __len__(self) -> int:
         return len(self.seats)
@@ -100,9 +103,7 @@ class History:
         self._last = head.opened_at
         if is_first:
             self.version = head.version
-            self.offers = EventsById(head.next_id)
-            self.exits = EventsById(head.next_id)  # which events took an element out, by its id
-            self.returns = EventsById(head.next_id)  # which offered a job again, by the id of its attempt before
+            self.offers, self.exits, self.returns = (EventsById(head.next_id) for _ in range(3))
         for _, line in text.kept():
             if is_first:
                 self._keep(element_of(line.string[:-1].decode("ascii").split(" ")[1:]))
@@ -155,12 +156,10 @@ class History:
         event = self.offers[id]
         return self.kept.get(id) if event == NONE else element_of(self.act(event).split(" ")[1:])
 
+    @lru_cache(1)  # an event is often looked at several times, one time after the other
     def _words(self, event: int) -> List[str]:
-        """Seat, moments and act. One event is often looked at several times, one time after the other."""
-        if event != self._looked_at:
-            line = self.text[self.starts[event]:self.starts[event + 1] - 1]
-            self._looked_at, self._seen = event, line.decode("ascii").split(" ", 3)
-        return self._seen
+        """Seat, moments and act."""
+        return self.text[self.starts[event]:self.starts[event + 1] - 1].decode("ascii").split(" ", 3)
 
     def _keep(self, element: Element) -> None:
         """Adds an element of the opening."""
@@ -188,13 +187,11 @@ class History:
         act = line.lastgroup
         if act == "offer":
             self._offer(event, line, number)
-        elif act in ("take", "poll", "pollfor"):
-            if line[act] != b"none":
-                self.exits[self._id(line[act], number)] = event
-        elif act == "drain":
-            for id in line["drain"].split():
-                self.exits[self._id(id, number)] = event
-        elif act == "remove" and line["remove"] == b"yes":
+        elif act in GIVING:
+            for id in line[act].split():
+                if id != b"none":
+                    self.exits[self._id(id, number)] = event
+        elif act == "remove" and line[act] == b"yes":
             self.exits[self._id(line["removed"], number)] = event
 
     def _offer(self, event: int, line: Match[bytes], number: int) -> None:
