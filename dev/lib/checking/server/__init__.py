@@ -8,10 +8,11 @@ expiry, and each job must have been finished, or have come back unless it was gi
 what the clients' choices follow from.
 """
 import concurrent.futures
+import json
 import os
 import subprocess
 import tempfile
-from typing import Iterator
+from typing import Any, Iterator
 
 from checking.server.clients import Client, early
 from checking.tally import Tally
@@ -46,26 +47,26 @@ def check_end(tally: Tally, server: Server, clients: list[Client], history: str)
     tally.count("the audit line", None if lines[1:] == told else f"{lines[1:]}, but the replay's is {told}")
 
 
-def check_clients(tally: Tally, clients: list[Client], faults: list[str], history: str, room: str) -> None:
-    """What went wrong at each client, and what it saw."""
-    for client, fault in zip(clients, faults):
-        tally.count(f"client {client.number}, which {client.does}", fault)
-    record = f"{room}/record"
-    with open(record, "w", encoding="ascii") as file:
-        file.writelines(line for client in clients for line in client.record())
-    verdict = run_tool("verify", history, record, "--all")
+def check_records(tally: Tally, record: list[str], history: str) -> None:
+    """What the clients saw, by the lines of a record of all."""
+    with tempfile.NamedTemporaryFile("w", encoding="ascii") as file:
+        file.writelines(f"{line}\n" for line in record)
+        file.flush()
+        verdict = run_tool("verify", history, file.name, "--all")
     tally.count("the records of the clients", f"{verdict.stdout}{verdict.stderr}" if verdict.returncode else None)
-    refused = {it for it in first_lines(clients) if it.startswith("ERR ")} - REFUSALS
+    asked = [json.loads(it) for it in record]
+    refused = {it for it in first_lines(asked) if it.startswith("ERR ")} - REFUSALS
     tally.count("refusals", ", ".join(sorted(refused)))
-    tally.count("the machine's clock", "\n    ".join(early(clients)))
+    tally.count("the machine's clock", "\n    ".join(early(asked)))
+    check_jobs(tally, {int(it[5:]) for it in first_lines(asked) if it.startswith("DONE ")}, history)
 
 
-def first_lines(clients: list[Client]) -> Iterator[str]:
+def first_lines(asked: list[dict[str, Any]]) -> Iterator[str]:
     """The first lines of all replies."""
-    return (it.reply[0] for client in clients for it in client.asked if it.reply)
+    return (it["reply"][0] for it in asked if it["reply"])
 
 
-def check_jobs(tally: Tally, clients: list[Client], path: str) -> None:
+def check_jobs(tally: Tally, done: set[int], path: str) -> None:
     """What became of elements and jobs. That none left twice or early is tested as the history is read."""
     try:
         with open(path, "rb") as file:
@@ -75,12 +76,11 @@ def check_jobs(tally: Tally, clients: list[Client], path: str) -> None:
         return
     seats = {*history.events.seats}
     tally.count("seats", f"{sorted(seats)} of {WORKERS} workers" if len(seats) > WORKERS else None)
-    tally.count("jobs", "\n    ".join(jobs_that_differ(history, clients)))
+    tally.count("jobs", "\n    ".join(jobs_that_differ(history, done)))
 
 
-def jobs_that_differ(history: History, clients: list[Client]) -> Iterator[str]:
+def jobs_that_differ(history: History, done: set[int]) -> Iterator[str]:
     """Which jobs were given, were neither done nor at their last attempt, and did not come back; or did all the same."""
-    done = {int(it[5:]) for it in first_lines(clients) if it.startswith("DONE ")}
     elements = [history.elements.element(row) for row in range(len(history.elements))]
     attempts = {(it.origin, it.attempt) for it in elements}
     for element, left in zip(elements, history.elements.left_in):
@@ -101,5 +101,6 @@ def check(tally: Tally) -> None:
         with concurrent.futures.ThreadPoolExecutor(AT_ONCE) as pool:
             faults = [*pool.map(lambda it: it.run(server.port), clients)]
         check_end(tally, server, clients, f"{room}/history")
-        check_clients(tally, clients, faults, f"{room}/history", room)
-        check_jobs(tally, clients, f"{room}/history")
+        for client, fault in zip(clients, faults):
+            tally.count(f"client {client.number}, which {client.does}", fault)
+        check_records(tally, [line for client in clients for line in client.record], f"{room}/history")

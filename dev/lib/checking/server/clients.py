@@ -1,12 +1,10 @@
 """Clients of a server, good and bad, which keep what they sent and what they were answered."""
-import json
 import random
 import socket
 import time
-from dataclasses import asdict, dataclass, field
-from typing import Iterable, Iterator, Optional
+from typing import Any, Iterable, Iterator
 
-from serving.session import Session
+from serving.recorded import RecordedSession
 
 # A client's first request removes the element of this id and its own number. There is none, so nothing changes,
 # but the history tells by that event where the client's own begin.
@@ -36,33 +34,24 @@ MORE = ("works", "gives", "works", "works")  # of these there are more than of o
 LOOKS = ("SIZE", "PEEK", "POLLFOR 0", "AT 5", "DONE 7", "FAIL 7", "poll", "")
 
 
-@dataclass
-class Asked:
-    """A request, when it was sent, and the lines that answer it, if they have come, as tools/verify reads them."""
-
-    request: str
-    sent: int
-    received: Optional[int] = None
-    reply: list[str] = field(default_factory=list)
-
-
 class Client:
     """One client's session: what it sent, and what it was answered."""
 
-    session: Session
+    session: RecordedSession
 
     def __init__(self, number: int, seed: str) -> None:
         kinds = [*SCRIPTS, *MORE]
         self.number, self.does, self.rng = number, kinds[number % len(kinds)], random.Random(f"{seed} {number}")
-        self.asked: list[Asked] = []
-        self.offered = self.read = 0  # how many elements it offered, and how many replies it has read
+        self.record: list[str] = []  # its lines, as tools/verify reads them
+        self.waiting: list[tuple[int, str]] = []  # the requests that have no reply yet, and when they were sent
+        self.offered = 0  # how many elements
         self.is_heard = True  # whether it read all that it was answered
         self.is_reset = False  # whether its session surely ended by a fault
 
     def run(self, port: int) -> str:
         """Runs it to its end. Gives what went wrong; nothing if all went well."""
         try:
-            self.session = Session(port)
+            self.session = RecordedSession(port, str(self.number), self.record.append)
             if self.does != "says_nothing":
                 self.ask(f"REMOVE {FIRST_MARK + self.number}")
             for step in SCRIPTS[self.does].split("; "):
@@ -74,6 +63,9 @@ class Client:
         except Exception as fault:  # whatever it is, it is told
             self.is_heard = False
             return f"{type(fault).__name__}: {fault}"
+        finally:
+            for sent, request in self.waiting:
+                self.session.note(sent, None, request)
 
     def some(self, told: str) -> int:
         """A number from the first to the last of these; 1 if none is told."""
@@ -103,74 +95,65 @@ class Client:
                 return f"{asked} {self.number}-{self.offered}"
         return told
 
-    def note(self, *requests: str) -> None:
+    def await_replies(self, *requests: str) -> None:
         """Notes requests that are sent next."""
-        now = time.monotonic_ns()
-        self.asked += [Asked(request, now) for request in requests]
-
-    def record(self) -> Iterator[str]:
-        """The lines of a record on all requests."""
-        return (json.dumps({"session": self.number, **asdict(it)}) + "\n" for it in self.asked)
+        self.waiting += [(time.monotonic_ns(), it) for it in requests]
 
     def hear(self) -> list[str]:
-        """Reads the reply to the first request that has none yet. Returns the words of its first line."""
-        it = self.asked[self.read]
+        """Reads the reply to the first request that has none yet. Returns its lines."""
+        sent, request = self.waiting[0]
         try:
-            it.reply = self.session.reply()
+            reply = self.session.reply()
         except EOFError:
-            raise EOFError(f"the connection ended where the reply to {it.request!r} was due") from None
-        it.received = time.monotonic_ns()
-        self.read += 1
-        return it.reply[0].split(" ")
+            raise EOFError(f"the connection ended where the reply to {request!r} was due") from None
+        self.session.note(sent, time.monotonic_ns(), request, *reply)
+        self.waiting.pop(0)
+        return reply
 
-    def hear_all(self) -> list[str]:
-        """Reads the replies that are left. Returns the words of the last one's first line."""
-        words: list[str] = []
-        while self.read < len(self.asked):
-            words = self.hear()
-        return words
+    def hear_all(self) -> list[list[str]]:
+        """Reads the replies that are left."""
+        return [self.hear() for _ in [*self.waiting]]
 
-    def ask(self, *requests: str) -> list[str]:
-        """Sends requests in one piece, and reads all replies. Returns the words of the last one's first line."""
-        self.note(*requests)
+    def ask(self, *requests: str) -> list[list[str]]:
+        """Sends requests in one piece, and reads all replies."""
+        self.await_replies(*requests)
         self.session.send(*requests)
         return self.hear_all()
 
     def send(self, *requests: str) -> None:
         """Sends requests in one piece, whose replies it will not all read."""
         self.is_heard = False
-        self.note(*requests)
+        self.await_replies(*requests)
         self.session.send(*requests)
 
     def dribble(self, *requests: str) -> None:
         """Asks one request after the other, byte by byte."""
         for request in requests:
-            self.note(request)
+            self.await_replies(request)
             for byte in f"{request}\n".encode():
                 self.session.socket.sendall(bytes([byte]))
             self.hear()
 
     def work(self) -> None:
         """Asks for a job in some way, and ends it; or offers one, if there is none."""
-        words = self.ask(self.rng.choice(["TAKE", "TAKE", "POLL", "POLLFOR 20000000", "DRAIN 1"]))
-        if words == ["DRAINED", "1"]:
-            words = self.asked[-1].reply[1].split(" ")
+        [reply] = self.ask(self.rng.choice(["TAKE", "TAKE", "POLL", "POLLFOR 20000000", "DRAIN 1"]))
+        kind, *words = reply[-1].split(" ")
         end = "DONE" if self.rng.random() < 0.7 else "FAIL"
-        self.ask(f"{end} {words[1]}" if words[0] == "ITEM" else self.request("any"))
+        self.ask(f"{end} {words[0]}" if kind == "ITEM" else self.request("any"))
 
     def work_off(self) -> None:
         """Offers jobs, fetches what is due, and ends all of it, each in one piece."""
-        self.ask(*self.requests("offer*8, SIZE, DRAIN 40, PEEK, DRAIN 0"))
-        held = [it.split(" ")[1] for it in self.asked[-3].reply[1:]]
+        *_, drained, _, _ = self.ask(*self.requests("offer*8, SIZE, DRAIN 40, PEEK, DRAIN 0"))
+        held = [it.split(" ")[1] for it in drained[1:]]
         self.ask(*[f"DONE {it}" for it in held[::2]], *[f"FAIL {it}" for it in held[1::2]])
 
     def send_half(self) -> None:
-        self.note("DONE (half)")
+        self.await_replies("DONE (half)")
         self.session.socket.sendall(b"DONE")
 
     def send_noise(self) -> None:
         noise = self.rng.randbytes(self.rng.randrange(1, 100_000)) + b"\n" + b"x" * 100_000 + b"\nOFFER 1 \xff"
-        self.note(*noise.decode("latin-1").split("\n"))
+        self.await_replies(*noise.decode("latin-1").split("\n"))
         self.session.socket.sendall(noise)
 
     def fill(self) -> None:
@@ -204,12 +187,12 @@ class Client:
         self.session.reset()
 
 
-def early(clients: Iterable[Client]) -> Iterator[str]:
-    """Which payloads came before their delay had passed, by the machine's clock. Only first attempts count."""
-    asked = [it for client in clients for it in client.asked]
-    offers = [(it.sent, *it.request.split(" ")) for it in asked if it.request.startswith("OFFER ")]
+def early(asked: Iterable[dict[str, Any]]) -> Iterator[str]:
+    """Which payloads came before their delay had passed, by the machine's clock, as the lines of records tell. Only
+    first attempts count."""
+    offers = [(it["sent"], *it["request"].split(" ")) for it in asked if it["request"].startswith("OFFER ")]
     due = {payload: (sent, int(delay)) for sent, _, delay, payload in offers}
-    got = [(it.received, line.split(" ")) for it in asked for line in it.reply if line.startswith("ITEM ")]
+    got = [(it["received"], line.split(" ")) for it in asked for line in it["reply"] if line.startswith("ITEM ")]
     for received, (_, _, _, attempt, payload) in got:
         sent, delay = due.get(payload, (0, 0))
         if attempt == "1" and received - sent < delay:
