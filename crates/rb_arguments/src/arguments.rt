@@ -36,7 +36,7 @@ pub(crate) fn timer_option<'a>(alloc: Global) -> Arg<'a>
         .value_name("T")
         .help("which timer the queue uses")
         .value_parser(TimerKind::NAMES.as_slice())
-        .default_value(TimerKind::DEFAULT_NAME)
+        .default_value("heap")
 }
 
 /// `--delay N`

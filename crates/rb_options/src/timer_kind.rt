@@ -17,9 +17,6 @@ impl TimerKind {
     /// The names that the command line accepts.
     pub const NAMES: [&'static str; 4] = ["list", "heap", "pairing", "wheel"];
 
-    /// The name of the default kind.
-    pub const DEFAULT_NAME: &'static str = "heap";
-
     /// The kind of that name, if there is one.
     pub fn named(name: &str) -> Option<TimerKind>
         ensures list { result ≡ Some TimerKind.List ↔ name.now ≡ codes "list" }
