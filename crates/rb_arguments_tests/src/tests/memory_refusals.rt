@@ -8,7 +8,7 @@ use rb_retry::Policy;
 use std::alloc::Global;
 use std::process::Abort;
 
-// The number of refusals that the test meets. `tools/refuse_allocations` sets 1 and refuses each
+// The number of refusals that the test meets. `dev/refuse_allocations` sets 1 and refuses each
 // allocation of the test in turn.
 const REFUSALS: u32 = 0;
 

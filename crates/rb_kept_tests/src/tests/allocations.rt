@@ -1,6 +1,6 @@
 // Calls that take no memory. Both tests of this file make the same things, and only
 // `each_of_the_calls` makes the calls, so both have to allocate equally often.
-// `tools/count_allocations` counts their allocations. All things are made before the first call, so
+// `dev/refuse_allocations` counts their allocations. All things are made before the first call, so
 // that the tool can also refuse every allocation from that call on.
 
 use crate::tests::fixtures::{expect, expect_number, payload};

@@ -1,6 +1,6 @@
 // Calls that take no memory, at desks and through passes. Both tests of this file make the same
 // things, and only `each_of_the_calls` makes the calls, so both have to allocate equally often.
-// `tools/count_allocations` counts their allocations.
+// `dev/refuse_allocations` counts their allocations.
 
 ghost use Rattle.std.specs.Prelude.{◌≡◌};
 

@@ -12,7 +12,7 @@ use rb_timer::Timer;
 use std::alloc::Global;
 use std::process::Abort;
 
-// Each queue is made once more if memory is refused, since `tools/refuse_allocations` refuses the
+// Each queue is made once more if memory is refused, since `dev/refuse_allocations` refuses the
 // allocations of fixtures too.
 
 /// Makes a kept queue with room for `calls` calls, and tries once more if memory is refused.

@@ -17,7 +17,7 @@ use std::test::Fail;
 use std::thread::Threads;
 use std::time;
 
-// The number of refusals that the test meets. `tools/refuse_allocations` sets 1 and refuses each
+// The number of refusals that the test meets. `dev/refuse_allocations` sets 1 and refuses each
 // allocation of the test in turn.
 const REFUSALS: u32 = 0;
 
