@@ -10,6 +10,8 @@ use Rattle.rb_queue.proofs.Leavings.{is_balanced}
 use Rattle.rb_replay.specs.declared.chain_fault.ChainFault.TheVariants.{At, Memory}
 use Rattle.rb_jobs.specs.Continued.{JobsAreAccepted, JobsGoOn, NoneAreJobs}
 use Rattle.rb_jobs.specs.Places.{AreJobs}
+use Rattle.rb_jobs.specs.QueueSums.{waiting_sum}
+use Rattle.rb_jobs.proofs.Accounts.{start_sum}
 
 pub jobs_are_accepted : JobsAreAccepted
 jobs_are_accepted policy opening history (Ok tt) keeps chains = inl refl
@@ -35,4 +37,6 @@ jobs_go_on policy opening next history keeps (legal, same) =
     let start = is_balanced next [] tt in (
       subst (λ (s : State). AreJobs s.queue) (sym same) keeps.left,
       ap (λ (s : State). map.len s.queue.bag) (sym same) ∙ omega (arith, start),
+      λ amount. ap (λ (s : State). waiting_sum amount s.queue) (sym same)
+          ∙ start_sum amount next.elements next.next_id next.opening.order,
     )

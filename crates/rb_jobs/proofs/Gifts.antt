@@ -1,7 +1,6 @@
 -- What an event that offers nothing takes out of the queue, and what it hands out.
 use Rattle.std.proofs.Common.{◌≡◌, ◌≢◌, ℕ, ◌<◌, ◌≤◌, ◌⊎◌, inl, inr, List, [], ◌∷◌, ◌++◌, refl, sym, ap, ap₂, subst, ◌∙◌, arith, length, Bool, true, false, Option, Some, None}
 use Rattle.std.proofs.lemmas.Bool.Decides.{nat_tests}
-use Rattle.std.proofs.lemmas.List.{length-map}
 use Rattle.std.proofs.lemmas.Option.{same_Some}
 use Rattle.std.specs.Prelude.{IsSome, is_some, nat_eq, option_map, option_and_then}
 use Rattle.std.specs.List.{filter_map, cons_option}
@@ -165,10 +164,10 @@ elements_taken bag (id ∷ ids) named taken =
     stands first found rest element (inr later) =
         there_before element (rest.stand element later) (same_or_not element.id id)
 
--- how many elements a reply says to be offered
-abbrev pub offered_by : Option Reply → ℕ
-offered_by (Some (replies.Offered element)) = 1
-offered_by _ = 0
+-- the element that a reply says to be offered
+abbrev pub offered_by : Option Reply → List Element
+offered_by (Some (replies.Offered element)) = element ∷ []
+offered_by _ = []
 
 -- An act that offers nothing: these elements are handed out by its reply, and leave. Nothing comes in.
 pub record Leaves (queue : Queue) (all : Bag) (act : Act) : Type 1 where
@@ -177,13 +176,13 @@ pub record Leaves (queue : Queue) (all : Bag) (act : Act) : Type 1 where
   pub once : AreHeldOnce elements
   pub left : (element : Element) → Stands (queue_after queue (effect_of act)).bag element
       → Stands queue.bag element × (has_id element.id elements ≡ false)
-  pub counted : length (given (effect_of act)) ≡ length elements
+  pub ids : given (effect_of act) ≡ ids_of elements
   pub given : filter_map (map.get all) (given (effect_of act)) ≡ elements
   pub none_in : inserted (effect_of act) ≡ []
   pub next : (queue_after queue (effect_of act)).next_id ≡ queue.next_id
   pub reply : Reply
   pub told : reply_in queue.bag act ≡ Some reply
-  pub quiet : offered_by (Some reply) ≡ 0
+  pub quiet : offered_by (Some reply) ≡ []
   pub hands : reply_elements (Some reply) ≡ elements
   pub plain : (policy : Policy) (held : List Element) (moment : ℕ) (between : List Element)
       → Handles policy held moment (Some reply) between → between ≡ held ++ elements
@@ -202,7 +201,7 @@ module _ (queue : Queue) (all : Bag) (within : IsWithin queue.bag all) where
   pub leaves_given : (act : Act) (elements : List Element) → effect_of act ≡ gives (ids_of elements)
       → ((element : Element) → IsAmong element elements → Stands queue.bag element)
       → AreTaken queue.bag (ids_of elements) → (reply : Reply) → reply_in queue.bag act ≡ Some reply
-      → offered_by (Some reply) ≡ 0 → reply_elements (Some reply) ≡ elements
+      → offered_by (Some reply) ≡ [] → reply_elements (Some reply) ≡ elements
       → ((policy : Policy) (held : List Element) (moment : ℕ) (between : List Element)
       → Handles policy held moment (Some reply) between → between ≡ held ++ elements)
       → Leaves queue all act
@@ -218,7 +217,7 @@ module _ (queue : Queue) (all : Bag) (within : IsWithin queue.bag all) where
     next = ap (λ (effect : Effect). (queue_after queue effect).next_id) is;
     reply = reply;
     told = told;
-    counted = ap (λ (effect : Effect). length (given effect)) is ∙ length-map elements (λ (e : Element). e.id);
+    ids = ap given is;
     quiet = quiet;
     hands = hands;
     plain = plain;
@@ -233,7 +232,7 @@ module _ (queue : Queue) (all : Bag) (within : IsWithin queue.bag all) where
 
   -- nothing is given
   leaves_none : (act : Act) → effect_of act ≡ gives [] → (reply : Reply) → reply_in queue.bag act ≡ Some reply
-      → offered_by (Some reply) ≡ 0 → reply_elements (Some reply) ≡ [] → ((policy : Policy) (held : List Element) (moment : ℕ) (between : List Element)
+      → offered_by (Some reply) ≡ [] → reply_elements (Some reply) ≡ [] → ((policy : Policy) (held : List Element) (moment : ℕ) (between : List Element)
       → Handles policy held moment (Some reply) between → between ≡ held ++ []) → Leaves queue all act
   leaves_none act is reply told quiet hands plain =
       leaves_given act [] is (λ element among. absurd among) tt reply told quiet hands plain
@@ -260,7 +259,7 @@ module _ (queue : Queue) (all : Bag) (within : IsWithin queue.bag all) where
   leaves_away : (act : Act) (reply : Reply) → given (effect_of act) ≡ [] → inserted (effect_of act) ≡ []
       → (queue_after queue (effect_of act)).next_id ≡ queue.next_id
       → ((element : Element) → Stands (queue_after queue (effect_of act)).bag element → Stands queue.bag element)
-      → reply_in queue.bag act ≡ Some reply → offered_by (Some reply) ≡ 0 → reply_elements (Some reply) ≡ []
+      → reply_in queue.bag act ≡ Some reply → offered_by (Some reply) ≡ [] → reply_elements (Some reply) ≡ []
       → ((policy : Policy) (held : List Element) (moment : ℕ) (between : List Element)
       → Handles policy held moment (Some reply) between → between ≡ held ++ []) → Leaves queue all act
   leaves_away act reply none none_in next left told quiet hands plain = record {
@@ -273,7 +272,7 @@ module _ (queue : Queue) (all : Bag) (within : IsWithin queue.bag all) where
     next = next;
     reply = reply;
     told = told;
-    counted = ap length none;
+    ids = none;
     quiet = quiet;
     hands = hands;
     plain = plain;

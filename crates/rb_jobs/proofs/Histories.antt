@@ -73,20 +73,20 @@ reply_last opening front event =
     ap (option_and_then (λ (e : Event). reply_in (offered opening (front ++ event ∷ [])) e.act)) (last_of front event)
 
 -- the elements of an opening stand in its bag, and no others
-place_among : (element : Element) (elements : List Element) → IsAmong element elements
+pub place_among : (element : Element) (elements : List Element) → IsAmong element elements
     → (place : ℕ) × (place < length elements) × (slice_index (ids_of elements) place ≡ element.id)
 place_among element [] among = absurd among
 place_among element (first ∷ elements) (inl is) = (0, omega arith, ap (λ (e : Element). e.id) (sym is))
 place_among element (first ∷ elements) (inr later) =
     let (place, within, named) = place_among element elements later in (suc place, omega (arith, within), named)
 
-rest_order : (first : Element) (rest : List Element) (end : ℕ) → AreInOrder (first ∷ rest) end → AreInOrder rest end
+pub rest_order : (first : Element) (rest : List Element) (end : ℕ) → AreInOrder (first ∷ rest) end → AreInOrder rest end
 rest_order first rest end order = record {
   rising = λ one other before within. order.rising (suc one) (suc other) (omega arith) (omega arith);
   below = λ place within. order.below (suc place) (omega arith);
 }
 
-among_stands : (elements : List Element) (end : ℕ) (element : Element) → AreInOrder elements end
+pub among_stands : (elements : List Element) (end : ℕ) (element : Element) → AreInOrder elements end
     → IsAmong element elements → Stands (bag_from elements) element
 among_stands [] end element order among = absurd among
 among_stands (first ∷ rest) end element order (inl is) =
@@ -97,7 +97,7 @@ among_stands (first ∷ rest) end element order (inr later) =
     get_inserted_other (bag_from rest) first.id element.id first (λ same. omega (arith, rises, named, same))
     ∙ among_stands rest end element (rest_order first rest end order) later
 
-stands_among : (elements : List Element) (element : Element) → Stands (bag_from elements) element
+pub stands_among : (elements : List Element) (element : Element) → Stands (bag_from elements) element
     → IsAmong element elements
 stands_among [] element there = let none = get-empty {X = Element} nat_cmp element.id in absurd (cc)
 stands_among (first ∷ rest) element there = by_id (same_or_not element.id first.id) (stands_among rest element)

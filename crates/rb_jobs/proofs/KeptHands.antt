@@ -29,17 +29,17 @@ use Rattle.rb_protocol.specs.declared.line_fault.LineFault.{LineFault}
 use Rattle.rb_protocol.specs.declared.line_reply.LineReply.{LineReply}
 use Rattle.rb_session.specs.Rules.{SessionRules, session_rules}
 use Rattle.rb_session.specs.Served.{Served}
-use Rattle.rb_session.specs.Turn.{Point, point, IsTurn}
+use Rattle.rb_session.specs.Turn.{Point, point}
 use Rattle.rb_session.specs.declared.delivery.Delivery.{Delivery}
 use Rattle.rb_session.specs.declared.delivery.Delivery.TheVariants.{AtOnce}
-use Rattle.rb_session.proofs.Events.{Way, way_of}
+use Rattle.rb_session.proofs.Ways.{Way, did_nothing, did_end, did_call, did_retry, did_set}
 use Rattle.rb_session.proofs.KeptEvents.{whole_mine, makes_whole, refuses_whole, stays_whole}
 use Rattle.rb_runs.specs.Script.{IsNew, RanSession, script_terms}
 use Rattle.rb_jobs.specs.Hands.{HandlesAll, AreHands}
 use Rattle.rb_jobs.specs.SessionHands.{LeadsOn}
 use Rattle.rb_jobs.specs.RunJobs.{LinesKeepJobs, ScriptKeepsJobs, empty_hands, only_hands}
 use Rattle.rb_jobs.proofs.Histories.{jobs_are_kept}
-use Rattle.rb_jobs.proofs.SessionHands.{goes_same, goes_then, goes_line, goes_ends}
+use Rattle.rb_jobs.proofs.SessionHands.{goes_same, goes_then, goes_way, goes_ends}
 use Rattle.rb_jobs.proofs.Sessions.{along_lines, along_run}
 
 -- each event is of this seat
@@ -117,18 +117,16 @@ module _ (opening : Opening) where
   own_then : (one two three : Point KeptState) → StaysOwn one two → StaysOwn two three → StaysOwn one three
   own_then one two three first second own = second (first own)
 
-  own_way : (policy : Policy) (old new : KeptState) (reading : Result Request LineFault) (replies : List LineReply)
-      → Way (kept_rules policy) reading replies old new → IsOwn opening old → IsOwn opening new
-  own_way policy old new reading replies (inl leaves) own = subst (IsOwn opening) (sym leaves.same) own
-  own_way policy old new reading replies (inr (inl calls)) own =
-      own_steps old new calls.handed calls.ask calls.answer calls.steps own
-  own_way policy old new reading replies (inr (inr sets)) own =
-      own_log old new (ap (λ (s : KeptState). s.log) sets.sets.1) own
-
-  own_line : (policy : Policy) (from to : Point KeptState) (reading : Result Request LineFault) (replies : List LineReply)
-      → IsTurn (kept_rules policy) from reading replies to → StaysOwn from to
-  own_line policy from to reading replies turn =
-      own_way policy from.desk to.desk reading replies (way_of (kept_rules policy) reading from to replies turn)
+  own_way : (policy : Policy) (old new : Point KeptState) (reading : Result Request LineFault) (replies : List LineReply)
+      → Way (kept_rules policy) reading replies old new → StaysOwn old new
+  own_way policy old new reading replies (did_nothing nothing) own = own_same old new nothing.same own
+  own_way policy old new reading replies (did_end end) own = subst (IsOwn opening) (sym end.same) own
+  own_way policy old new reading replies (did_call call) own =
+      own_steps old.desk new.desk call.handed call.ask call.answer call.steps own
+  own_way policy old new reading replies (did_retry retry) own =
+      own_steps old.desk new.desk retry.now _ _ retry.steps own
+  own_way policy old new reading replies (did_set set) own =
+      own_log old.desk new.desk (ap (λ (s : KeptState). s.log) set.sets.1) own
 
   own_ends : (policy : Policy) (from to : KeptState) (element : Element) (held : List Element) (now : ℕ)
       (result : Result Verdict (Element × CallFault)) → FailsTo (kept_rules policy) element now from result to
@@ -179,10 +177,10 @@ lines_keep_jobs policy calls opening from to turns jobs new serves =
     let goes = along_lines rules (LeadsOn policy whole_mine)
     (goes_same (kept_rules policy) whole_mine makes_whole refuses_whole stays_whole)
     (goes_then (kept_rules policy) whole_mine makes_whole refuses_whole stays_whole)
-    (goes_line (kept_rules policy) whole_mine makes_whole refuses_whole stays_whole)
+    (goes_way (kept_rules policy) whole_mine makes_whole refuses_whole stays_whole)
     (goes_ends (kept_rules policy) whole_mine makes_whole refuses_whole stays_whole)
     (point from []) to turns serves in
-    let own = along_lines rules (StaysOwn opening) (own_same opening) (own_then opening) (own_line opening policy)
+    let own = along_lines rules (StaysOwn opening) (own_same opening) (own_then opening) (own_way opening policy)
     (own_ends opening policy) (point from []) to turns serves (own_new opening from calls new) in
     let hands : AreHands policy opening to.desk.log.history (only_hands to.held) =
     λ seat. hands_at opening policy to.desk.log.history to.held own.own
@@ -197,7 +195,7 @@ own_script : {W : Type 0} (sends : W → Option (List ℕ)) (got : Option (List 
     → RanSession (script_terms sends got policy calls delivery opening) (IsAtEnd rest) served to → IsOwn opening to
 own_script sends got policy calls delivery rest opening served to ran =
     along_run (script_terms sends got policy calls delivery opening).rules (StaysOwn opening) (own_same opening)
-    (own_then opening) (own_line opening policy) (own_ends opening policy) (IsAtEnd rest) ran.from to served ran.ran
+    (own_then opening) (own_way opening policy) (own_ends opening policy) (IsAtEnd rest) ran.from to served ran.ran
     (own_new opening ran.from calls ran.new)
 
 pub legal_script : {W : Type 0} (sends : W → Option (List ℕ)) (got : Option (List ℕ)) (policy : Policy) (calls : ℕ)
@@ -213,7 +211,7 @@ script_keeps_jobs sends got policy calls delivery rest opening served to jobs ra
     let goes = along_run rules (LeadsOn policy whole_mine)
     (goes_same (kept_rules policy) whole_mine makes_whole refuses_whole stays_whole)
     (goes_then (kept_rules policy) whole_mine makes_whole refuses_whole stays_whole)
-    (goes_line (kept_rules policy) whole_mine makes_whole refuses_whole stays_whole)
+    (goes_way (kept_rules policy) whole_mine makes_whole refuses_whole stays_whole)
     (goes_ends (kept_rules policy) whole_mine makes_whole refuses_whole stays_whole)
     (IsAtEnd rest) ran.from to served ran.ran in
     let own = own_script sends got policy calls delivery rest opening served to ran in

@@ -8,6 +8,8 @@ pub mod Sessions
 pub mod SessionHands
 pub mod KeptHands
 pub mod ServedHands
+pub mod QueueSums
+pub mod EachOnce
 pub mod Accounts
 pub mod RunAccounts
 pub mod Continued

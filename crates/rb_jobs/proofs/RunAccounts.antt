@@ -1,5 +1,5 @@
 -- Scripts and servers account for each job.
-use Rattle.std.proofs.Common.{◌≡◌, ◌≢◌, ℕ, zero, suc, ◌+◌, ◌<◌, ◌⊎◌, inl, inr, List, [], ◌∷◌, ◌++◌, Bool, cond, Option, None, Some, refl, sym, ap, subst, ◌∙◌, arith, eq-eqb, ne_eqb, Contains}
+use Rattle.std.proofs.Common.{◌≡◌, ◌≢◌, ℕ, zero, suc, ◌+◌, ◌<◌, ◌≤◌, ◌⊎◌, inl, inr, List, [], ◌∷◌, ◌++◌, Bool, cond, Option, None, Some, refl, sym, ap, subst, ◌∙◌, arith, eq-eqb, ne_eqb, Contains}
 use Rattle.std.proofs.lemmas.List.Elements.{Contains-append_right}
 use Rattle.std.proofs.lemmas.List.Sums.{sum_by-append, sum_by-cons}
 use Rattle.std.specs.Prelude.{filter, sum_by, ◌==◌}
@@ -17,11 +17,10 @@ use Rattle.rb_session.specs.Served.{Served}
 use Rattle.rb_runs.proofs.ScriptEvents.{records_by_script}
 use Rattle.rb_serving.specs.ServerEvents.{GrowsByVisits, IsOfSessions}
 use Rattle.rb_serving.specs.Terms.{Terms}
-use Rattle.rb_serving.specs.Visits.{all_visits}
 use Rattle.rb_serving.proofs.GatheredNames.{of_history}
 use Rattle.rb_serving.proofs.ServerEvents.{gathers_sessions}
-use Rattle.rb_jobs.specs.JobCounts.{CountsVisits, JobCounts, ScriptAccounts, ServerAccounts, both_jobs, jobs_of, no_jobs}
-use Rattle.rb_jobs.proofs.Accounts.{accounts, gifts_in, gifts_of, offers_in, offers_of, run_counted}
+use Rattle.rb_jobs.specs.JobCounts.{JobCounts, ScriptAccounts, ServerAccounts, jobs_of, jobs_of_visits, jobs_of_workers}
+use Rattle.rb_jobs.proofs.Accounts.{Balance, accounts, gifts_in, gifts_of, named_in, named_of, offers_in, offers_of, run_told}
 use Rattle.rb_jobs.proofs.KeptHands.{legal_script}
 
 pub script_accounts : {W : Type 0} (sends : W → Option (List ℕ)) → ScriptAccounts sends
@@ -30,70 +29,47 @@ script_accounts sends got policy calls delivery rest opening served to ran =
     let all : run.by_lines ++ run.by_closing ≡ made_after opening [] to.log.history =
     sym run.grows ∙ ap (λ (o : Opening). made_after o [] to.log.history) begun in (
       run,
-      accounts opening to.log.history (jobs_of run)
+      accounts opening to.log.history (λ amount. jobs_of amount run)
           (legal_script sends got policy calls delivery rest opening served to ran)
-          (omega (arith, run_counted run, ap gifts_in all, ap offers_in all)),
+          (λ amount. subst (λ mades. Balance (gifts_in amount mades) (offers_in amount mades) (named_in amount mades) (jobs_of amount run))
+          all (run_told amount run)),
     )
 
--- a run, whatever it added to
-abbrev plain_run : {policy : Policy} {Over : Type 0} {served : Served} {Grows : List Made → Type 0}
-    → MadeByRun policy Over served Grows → MadeByRun policy Over served (λ made. Unit {0})
-plain_run run = record {
-  lines = run.lines;
-  stand = run.stand;
-  unsent = run.unsent;
-  answers = run.answers;
-  all_sent = run.all_sent;
-  by_lines = run.by_lines;
-  of_lines = run.of_lines;
-  held = run.held;
-  handed = run.handed;
-  parted = run.parted;
-  by_closing = run.by_closing;
-  of_closing = run.of_closing;
-  closed = run.closed;
-  grows = tt;
-}
+module _ (amount : ℕ → ℕ) (policy : Policy) where
+  -- what visits add to the balance
+  record Adds (old new : List Made) (jobs : JobCounts) : Type 0 where
+    even : gifts_in amount new + offers_in amount old + jobs.begun
+        ≡ offers_in amount new + gifts_in amount old + jobs.done + jobs.dead + jobs.lost
+    few : jobs.begun + named_in amount old ≤ named_in amount new
 
--- visits behind visits
-counts_then : (policy : Policy) (one two three : JobCounts) (visits more : List (Option Served))
-    → CountsVisits policy one visits two → CountsVisits policy two more three
-    → CountsVisits policy one (visits ++ more) three
-counts_then policy one two three [] more same rest =
-    subst (λ jobs. CountsVisits policy jobs more three) same rest
-counts_then policy one two three (None ∷ visits) more first rest = counts_then policy one two three visits more first rest
-counts_then policy one two three (Some served ∷ visits) more (at, run, first) rest =
-    (at, run, counts_then policy (both_jobs one (jobs_of run)) two three visits more first rest)
-
--- What visits were handed and began is what they offered and ended.
-abbrev AreEven : ℕ → ℕ → JobCounts → JobCounts → Type 0
-AreEven gifts offers before after =
-    gifts + after.begun + (before.done + before.dead + before.lost)
-    ≡ offers + after.done + after.dead + after.lost + before.begun
-
-visits_counted : (policy : Policy) (old new : List Made) (visits : List (Option Served)) (before : JobCounts)
-    → GrowsByVisits policy old visits new
-    → (after : JobCounts) × CountsVisits policy before visits after
-    × AreEven (gifts_in new + offers_in old) (offers_in new + gifts_in old) before after
-visits_counted policy old new [] before same =
-    (before, refl, omega (arith, ap gifts_in same, ap offers_in same))
-visits_counted policy old new (None ∷ visits) before grows = visits_counted policy old new visits before grows
-visits_counted policy old new (Some served ∷ visits) before (between, (rest, run), grows) =
-    let made : List Made = run.by_lines ++ run.by_closing in
-    let (after, counts, even) =
-    visits_counted policy between new visits (both_jobs before (jobs_of run)) grows in (
-      after,
-      (rest, plain_run run, counts),
-      omega (
-        arith,
-        even,
-        run_counted run,
-        ap gifts_in run.grows,
-        ap offers_in run.grows,
-        sum_by-append gifts_of old made,
-        sum_by-append offers_of old made,
-      ),
-    )
+  visits_told : (old new : List Made) (visits : List (Option Served)) → (grows : GrowsByVisits policy old visits new)
+      → Adds old new (jobs_of_visits amount policy old visits new grows)
+  visits_told old new [] same = record {
+    even = omega (arith, ap (gifts_in amount) same, ap (offers_in amount) same);
+    few = omega (arith, ap (named_in amount) same);
+  }
+  visits_told old new (None ∷ visits) grows = visits_told old new visits grows
+  visits_told old new (Some served ∷ visits) (between, (rest, run), grows) =
+      let made : List Made = run.by_lines ++ run.by_closing in
+      let adds = visits_told between new visits grows in
+      let told = run_told amount run in record {
+        even = omega (
+          arith,
+          adds.even,
+          told.even,
+          ap (gifts_in amount) run.grows,
+          ap (offers_in amount) run.grows,
+          sum_by-append (gifts_of amount) old made,
+          sum_by-append (offers_of amount) old made,
+        );
+        few = omega (
+          arith,
+          adds.few,
+          told.few,
+          ap (named_in amount) run.grows,
+          sum_by-append (named_of amount) old made,
+        );
+      }
 
 -- a number that stands in a list is there
 times_from : (number : ℕ) (numbers : List ℕ) → Contains numbers number → 0 < times_in number numbers
@@ -180,41 +156,51 @@ module _ (f : Made → ℕ) where
         sum_by-cons f made mades,
       )
 
-workers_counted : (policy : Policy) (begun : Opening) (history : List Event) (names : List ℕ)
-    (visits : List (List (Option Served))) (before : JobCounts)
-    → AllZip (λ (name : ℕ) (own : List (Option Served)). GrowsByVisits policy [] own (made_by name begun history)) names visits
-    → (after : JobCounts) × CountsVisits policy before (all_visits visits) after
-    × AreEven (names_sum gifts_of names (made_after begun [] history)) (names_sum offers_of names (made_after begun [] history))
-    before after
-workers_counted policy begun history [] [] before zip = (before, refl, omega arith)
-workers_counted policy begun history [] (own ∷ visits) before zip = absurd zip
-workers_counted policy begun history (name ∷ names) [] before zip = absurd zip
-workers_counted policy begun history (name ∷ names) (own ∷ visits) before (first, rest) =
-    let (between, counts, even) = visits_counted policy [] (made_by name begun history) own before first in
-    let (after, more, all) = workers_counted policy begun history names visits between rest in (
-      after,
-      counts_then policy before between after own (all_visits visits) counts more,
-      omega (arith, even, all),
-    )
+-- the balance of these names' events
+abbrev NamesBalance : (ℕ → ℕ) → List ℕ → List Made → JobCounts → Type 0
+NamesBalance amount names mades jobs =
+    Balance (names_sum (gifts_of amount) names mades) (names_sum (offers_of amount) names mades)
+    (names_sum (named_of amount) names mades) jobs
+
+workers_told : (amount : ℕ → ℕ) (policy : Policy) (begun : Opening) (history : List Event) (names : List ℕ)
+    (visits : List (List (Option Served)))
+    → (all : AllZip (λ (name : ℕ) (own : List (Option Served)). GrowsByVisits policy [] own (made_by name begun history))
+    names visits)
+    → NamesBalance amount names (made_after begun [] history) (jobs_of_workers amount policy begun history names visits all)
+workers_told amount policy begun history [] [] zip = record { even = refl; few = omega arith }
+workers_told amount policy begun history [] (own ∷ visits) zip = absurd zip
+workers_told amount policy begun history (name ∷ names) [] zip = absurd zip
+workers_told amount policy begun history (name ∷ names) (own ∷ visits) (first, rest) =
+    let adds = visits_told amount policy [] (made_by name begun history) own first in
+    let others = workers_told amount policy begun history names visits rest in record {
+      even = omega (arith, adds.even, others.even);
+      few = omega (arith, adds.few, others.few);
+    }
 
 module _ {I O G C : Type 0} (terms : Terms I O G C) {T : Type 0} where
   pub server_accounts : ServerAccounts terms T
   server_accounts begun options report run =
       let history = report.kept.history in
       let sessions = gathers_sessions terms {T = T} begun options report run in
-      let (jobs, counts, even) =
-      workers_counted terms.rules.policy begun history sessions.names run.visits no_jobs sessions.workers in
       let once = (λ (made : Made) (has : Contains (made_after begun [] history) made).
       once_named sessions made has) in (
-        jobs,
-        counts,
-        accounts begun history jobs (subst (λ o. IsLegal o history) run.opening run.holds.legal)
-            (omega (
-              arith,
-              even,
-              names_weigh gifts_of sessions.names (made_after begun [] history) once,
-              names_weigh offers_of sessions.names (made_after begun [] history) once,
-            )),
+        sessions,
+        accounts begun history
+            (λ amount. jobs_of_workers amount terms.rules.policy begun history sessions.names run.visits sessions.workers)
+            (subst (λ o. IsLegal o history) run.opening run.holds.legal)
+            (λ amount. record {
+              even = omega (
+                arith,
+                (workers_told amount terms.rules.policy begun history sessions.names run.visits sessions.workers).even,
+                names_weigh (gifts_of amount) sessions.names (made_after begun [] history) once,
+                names_weigh (offers_of amount) sessions.names (made_after begun [] history) once,
+              );
+              few = omega (
+                arith,
+                (workers_told amount terms.rules.policy begun history sessions.names run.visits sessions.workers).few,
+                names_weigh (named_of amount) sessions.names (made_after begun [] history) once,
+              );
+            }),
       )
     where
       once_named : (sessions : IsOfSessions terms.rules.policy begun report.kept.history run.visits) → (made : Made)

@@ -33,7 +33,7 @@ use Rattle.rb_jobs.specs.Hands.{HandlesAll, AreHands}
 use Rattle.rb_jobs.specs.RunJobs.{ServerKeepsJobs, empty_hands}
 use Rattle.rb_jobs.specs.SessionHands.{LeadsOn}
 use Rattle.rb_jobs.proofs.Histories.{jobs_are_kept}
-use Rattle.rb_jobs.proofs.SessionHands.{goes_same, goes_then, goes_line, goes_ends, handles_then}
+use Rattle.rb_jobs.proofs.SessionHands.{goes_same, goes_then, goes_way, goes_ends, handles_then}
 use Rattle.rb_jobs.proofs.Sessions.{along_run}
 
 module _ {C G : Type 0} where
@@ -47,7 +47,7 @@ module _ {C G : Type 0} where
         along_run (session_rules (shared_rules waits policy) delivery HadGot) (LeadsOn policy whole_mine)
         (goes_same (shared_rules waits policy) whole_mine (makes_whole waits) (refuses_whole waits) (stays_whole waits))
         (goes_then (shared_rules waits policy) whole_mine (makes_whole waits) (refuses_whole waits) (stays_whole waits))
-        (goes_line (shared_rules waits policy) whole_mine (makes_whole waits) (refuses_whole waits) (stays_whole waits))
+        (goes_way (shared_rules waits policy) whole_mine (makes_whole waits) (refuses_whole waits) (stays_whole waits))
         (goes_ends (shared_rules waits policy) whole_mine (makes_whole waits) (refuses_whole waits) (stays_whole waits))
         Over from to served ran
 

@@ -1,8 +1,7 @@
 -- What a line, and the end of a held job, do with what is held.
-use Rattle.std.proofs.Common.{◌≡◌, ℕ, ◌+◌, ◌-◌, List, [], ◌∷◌, ◌++◌, length, inl, inr, Option, Some, Result, Ok, Err, refl, sym, ap, subst, ◌∙◌, append-nil, append_assoc, remove}
-use Rattle.std.specs.Prelude.{nat_le, nat_lt, min, unwrap_or, slice_get}
+use Rattle.std.proofs.Common.{◌≡◌, ℕ, ◌+◌, List, [], ◌∷◌, ◌++◌, inl, inr, Option, Some, Result, Ok, Err, refl, sym, ap, subst, ◌∙◌, append-nil, append_assoc, remove}
+use Rattle.std.specs.Prelude.{unwrap_or, slice_get}
 use Rattle.rb_delayed.specs.declared.element.Element.{Element}
-use Rattle.rb_delayed.specs.declared.moment.TheConstants.{GREATEST_MOMENT}
 use Rattle.rb_queue.specs.Draft.{IsDrafted}
 use Rattle.rb_queue.specs.declared.ask.Ask.{Ask}
 use Rattle.rb_queue.specs.declared.ask.Ask.TheVariants as asks
@@ -10,9 +9,9 @@ use Rattle.rb_queue.specs.declared.draft.Draft.{Draft}
 use Rattle.rb_queue.specs.declared.reply.Reply.{Reply}
 use Rattle.rb_queue.specs.declared.reply.Reply.TheVariants.{Offered, Item, Nothing, Head, Removed, Drained, Cleared, Size}
 use Rattle.rb_kept.specs.declared.fault.CallFault.{CallFault}
-use Rattle.rb_retry.specs.Asked.{Makes, MayGet, IsReplyTo}
+use Rattle.rb_retry.specs.Asked.{Makes, MayGet}
 use Rattle.rb_retry.specs.DeskRules.{DeskRules}
-use Rattle.rb_retry.specs.Jobs.{FailsTo}
+use Rattle.rb_retry.specs.Jobs.{FailsTo, offer_answer}
 use Rattle.rb_retry.specs.KeptSteps.{fault_of}
 use Rattle.rb_retry.specs.Made.{Made}
 use Rattle.rb_retry.specs.Retry.{IsRetry, next_expiry}
@@ -21,17 +20,13 @@ use Rattle.rb_retry.specs.declared.policy.Policy.{Policy}
 use Rattle.rb_retry.specs.declared.verdict.Verdict.{Verdict}
 use Rattle.rb_retry.specs.declared.verdict.Verdict.TheVariants.{Again, Dead}
 use Rattle.rb_protocol.specs.declared.request.Request.{Request}
-use Rattle.rb_protocol.specs.declared.request.Request.TheVariants as requests
 use Rattle.rb_protocol.specs.declared.line_fault.LineFault.{LineFault}
 use Rattle.rb_protocol.specs.declared.line_reply.LineReply.{LineReply}
-use Rattle.rb_protocol.specs.declared.line_reply.LineReply.TheVariants as lines
-use Rattle.rb_protocol.specs.declared.err_word.ErrWord.TheVariants as words
-use Rattle.rb_session.specs.Held.{place_of}
+use Rattle.rb_session.specs.Events.{BeginsOne}
 use Rattle.rb_session.specs.RunEvents.{AreSomeOf}
-use Rattle.rb_session.specs.Turn.{Point, point, IsTurn, IsServed, IsCall, IsFetch, IsFailure, AnswersAlone, IsFirstDraft, fetched_by, word_for}
-use Rattle.rb_session.specs.declared.held_jobs.TheConstants.{MOST_HELD}
-use Rattle.rb_session.proofs.Events.{of_bool, of_place}
+use Rattle.rb_session.specs.Turn.{Point, point, fetched_by}
 use Rattle.rb_session.proofs.HandedOut.{some_all, some_removed, some_trans}
+use Rattle.rb_session.proofs.Ways.{Begins, Retried, Way, did_nothing, did_end, did_call, did_retry, did_set}
 use Rattle.rb_jobs.specs.Hands.{BeginsJob, RetriesJob, Handles, HandlesAll}
 use Rattle.rb_jobs.specs.SessionHands.{LeadsOn}
 
@@ -48,44 +43,18 @@ handles_then policy one two three [] more some rest = handles_more policy one tw
 handles_then policy one two three (made ∷ mades) more (kept, are, between, handles, rest) behind =
     (kept, are, between, handles, handles_then policy between two three mades more rest behind)
 
--- the ask offers nothing
-abbrev IsQuiet : Ask → Type 0
-IsQuiet (asks.Offer draft) = ⊥
-IsQuiet _ = Unit {0}
-
-only_offers : (ask : Ask) (element : Element) → IsQuiet ask → IsReplyTo ask (Offered element) → ⊥
-only_offers (asks.Offer draft) element quiet answered = quiet
-only_offers _ element quiet answered = answered
-
--- what such an ask is answered is held
-answer_held : (policy : Policy) (ask : Ask) (held : List Element) (moment : ℕ) (reply : Reply) → IsQuiet ask
-    → IsReplyTo ask reply → Handles policy held moment (Some reply) (held ++ fetched_by (Ok reply))
-answer_held policy ask held moment (Offered element) quiet answered = absurd (only_offers ask element quiet answered)
-answer_held policy ask held moment (Item element) quiet answered = refl
-answer_held policy ask held moment Nothing quiet answered = refl
-answer_held policy ask held moment (Head element) quiet answered = refl
-answer_held policy ask held moment (Removed found) quiet answered = refl
-answer_held policy ask held moment (Drained items) quiet answered = refl
-answer_held policy ask held moment Cleared quiet answered = refl
-answer_held policy ask held moment (Size count) quiet answered = refl
-
--- an offer of a first draft begins a job
-begins_job : (draft : Draft) (expiry : ℕ) (payload : List ℕ) (element : Element) → IsFirstDraft draft expiry payload
-    → IsDrafted draft element → BeginsJob element
-begins_job draft expiry payload element first drafted = record {
-  attempt = drafted.attempt ∙ first.attempt;
-  begins = record {
-    origin = drafted.origin ∙ ap (λ (o : Option ℕ). unwrap_or o element.id) first.origin;
-    first = drafted.first ∙ ap (λ (o : Option ℕ). unwrap_or o element.expiry) first.first;
-  };
-}
-
-offer_held : (policy : Policy) (draft : Draft) (expiry : ℕ) (payload : List ℕ) (held : List Element) (moment : ℕ)
-    (reply : Reply) → IsFirstDraft draft expiry payload → IsReplyTo (asks.Offer draft) reply
+-- what a call is answered is held, if it hands something out
+answer_held : (policy : Policy) (held : List Element) (moment : ℕ) (reply : Reply) → BeginsOne reply
     → Handles policy held moment (Some reply) (held ++ fetched_by (Ok reply))
-offer_held policy draft expiry payload held moment (Offered element) first drafted =
-    inl (begins_job draft expiry payload element first drafted, append-nil held)
-offer_held policy draft expiry payload held moment _ first answered = absurd answered
+answer_held policy held moment (Offered element) (origin, first, attempt) =
+    inl (record { attempt = attempt; begins = record { origin = origin; first = first } }, append-nil held)
+answer_held policy held moment (Item element) begins = refl
+answer_held policy held moment Nothing begins = refl
+answer_held policy held moment (Head element) begins = refl
+answer_held policy held moment (Removed found) begins = refl
+answer_held policy held moment (Drained items) begins = refl
+answer_held policy held moment Cleared begins = refl
+answer_held policy held moment (Size count) begins = refl
 
 -- what the policy offers again is the job's next attempt
 goes_again : (policy : Policy) (element : Element) (now moment : ℕ) (draft : Draft) (again : Element)
@@ -136,42 +105,6 @@ module _ {S : Type 0} (rules : DeskRules S) (mine : S → List Made)
     (from.held, some_all from.held, to.held, handles, some_all to.held),
   )
 
-  -- a call, whose answer is held if it hands something out
-  call : (ask : Ask) → ((held : List Element) (moment : ℕ) (reply : Reply) → IsReplyTo ask reply
-      → Handles rules.policy held moment (Some reply) (held ++ fetched_by (Ok reply)))
-      → (from to : Point S) (handed : ℕ) (replies : List LineReply) → IsCall rules.Steps from handed ask replies to
-      → Along from to
-  call ask holds from to handed replies (Ok reply, steps, are, held) =
-      let made = makes from.desk to.desk handed ask reply steps in
-      goes_one from to handed ask reply made
-      (subst (Handles rules.policy from.held made.event.asked (Some reply)) (sym held)
-      (holds from.held made.event.asked reply made.answered))
-  call ask holds from to handed replies (Err fault, steps, are, held) =
-      goes_none from to (refuses from.desk to.desk handed ask fault steps).1
-      (subst (λ some. AreSomeOf some from.held) (sym (held ∙ append-nil from.held)) (some_all from.held))
-
-  alone : (due : LineReply) (from to : Point S) (replies : List LineReply) → AnswersAlone due from replies to
-      → Along from to
-  alone due from to replies (are, same) = goes_same from to same
-
-  quiet_call : (ask : Ask) → IsQuiet ask → (from to : Point S) (handed : ℕ) (replies : List LineReply)
-      → IsCall rules.Steps from handed ask replies to → Along from to
-  quiet_call ask quiet =
-      call ask (λ held moment reply answered. answer_held rules.policy ask held moment reply quiet answered)
-
-  fetch : (ask : Ask) → IsQuiet ask → (from to : Point S) (handed : ℕ) (replies : List LineReply)
-      → IsFetch rules.Steps from handed ask replies to → Along from to
-  fetch ask quiet from to handed replies =
-      of_bool (nat_lt (length from.held) MOST_HELD) _ _ _ (quiet_call ask quiet from to handed replies)
-      (alone (lines.Err words.Held) from to replies)
-
-  first_call : (draft : Draft) (expiry : ℕ) (payload : List ℕ) → IsFirstDraft draft expiry payload
-      → (from to : Point S) (handed : ℕ) (replies : List LineReply)
-      → IsCall rules.Steps from handed (asks.Offer draft) replies to → Along from to
-  first_call draft expiry payload first =
-      call (asks.Offer draft) (λ held moment reply answered.
-      offer_held rules.policy draft expiry payload held moment reply first answered)
-
   -- a job that is held fails
   fails : (from to : S) (held : List Element) (place : ℕ) (element : Element) (now : ℕ)
       (result : Result Verdict (Element × CallFault)) → slice_get held place ≡ Some element
@@ -193,16 +126,6 @@ module _ {S : Type 0} (rules : DeskRules S) (mine : S → List Made)
   fails from to held place element now (Err (back, fault)) at (draft, retry, steps, is_back) after gone some =
       goes_none (point from held) (point to after) (refuses from to now (asks.Offer draft) (fault_of fault) steps).1 some
 
-  failure : (from to : Point S) (now place : ℕ) (replies : List LineReply)
-      → IsFailure rules from now place replies to → Along from to
-  failure from to now place replies (element, at, Ok verdict, failed, are, held) =
-      fails from.desk to.desk from.held place element now (Ok verdict) at failed to.held (λ other is. held)
-      (subst (λ some. AreSomeOf some from.held) (sym held) (some_removed from.held place))
-  failure from to now place replies (element, at, Err (back, fault), failed, are, held) =
-      fails from.desk to.desk from.held place element now (Err (back, fault)) at failed to.held
-      (λ other is. absurd (cc))
-      (subst (λ some. AreSomeOf some from.held) (sym held) (some_all from.held))
-
   pub goes_ends : (from to : S) (element : Element) (held : List Element) (now : ℕ)
       (result : Result Verdict (Element × CallFault)) → FailsTo rules element now from result to
       → Along (point from (element ∷ held)) (point to held)
@@ -210,36 +133,40 @@ module _ {S : Type 0} (rules : DeskRules S) (mine : S → List Made)
       fails from to (element ∷ held) 0 element now result refl failed held (λ other is. refl)
       (some_removed (element ∷ held) 0)
 
-  served : (request : Request) (from to : Point S) (now : ℕ) (replies : List LineReply)
-      → IsServed rules from now request replies to → Along from to
-  served (requests.Offer delay payload) from to now replies =
-      of_bool (nat_le (now + delay) GREATEST_MOMENT) _ _ _
-      (λ offers. first_call offers.0 (now + delay) payload offers.1 from to now replies offers.2)
-      (alone (lines.Err words.Range) from to replies)
-  served (requests.OfferAt expiry payload) from to now replies =
-      λ offers. first_call offers.0 expiry payload offers.1 from to now replies offers.2
-  served requests.Poll from to now replies = fetch asks.Poll tt from to now replies
-  served (requests.PollFor timeout) from to now replies = fetch (asks.PollFor now timeout) tt from to now replies
-  served requests.Take from to now replies = fetch asks.Take tt from to 0 replies
-  served requests.Peek from to now replies = quiet_call asks.Peek tt from to now replies
-  served (requests.Remove id) from to now replies = quiet_call (asks.Remove id) tt from to now replies
-  served (requests.Drain most) from to now replies =
-      quiet_call (asks.Drain (min most (MOST_HELD - length from.held))) tt from to now replies
-  served requests.Clear from to now replies = quiet_call asks.Clear tt from to now replies
-  served requests.Size from to now replies = quiet_call asks.Size tt from to now replies
-  served (requests.Done id) from to now replies =
-      of_place (place_of from.held id) _ _ _ (alone (lines.Err words.NotHeld) from to replies)
-      (λ place done. goes_none from to (ap mine done.1)
-      (subst (λ some. AreSomeOf some from.held) (sym done.2) (some_removed from.held place)))
-  served (requests.Fail id) from to now replies =
-      of_place (place_of from.held id) _ _ _ (alone (lines.Err words.NotHeld) from to replies)
-      (λ place. failure from to now place replies)
-  served (requests.At moment) from to now replies =
-      λ setting. goes_none from to (stays from.desk to.desk moment setting.0 setting.1)
-      (subst (λ some. AreSomeOf some from.held) (sym setting.3) (some_all from.held))
-  served requests.Quit from to now replies = alone lines.Bye from to replies
+  call : (from to : Point S) (handed : ℕ) (ask : Ask) (answer : Result Reply DeskFault) → Begins ask
+      → rules.Steps from.desk handed ask answer to.desk → to.held ≡ from.held ++ fetched_by answer → Along from to
+  call from to handed ask (Ok reply) begins steps held =
+      let made = makes from.desk to.desk handed ask reply steps in
+      goes_one from to handed ask reply made
+      (subst (Handles rules.policy from.held made.event.asked (Some reply)) (sym held)
+      (answer_held rules.policy from.held made.event.asked reply (begins reply made.answered)))
+  call from to handed ask (Err fault) begins steps held =
+      goes_none from to (refuses from.desk to.desk handed ask fault steps).1
+      (subst (λ some. AreSomeOf some from.held) (sym (held ∙ append-nil from.held)) (some_all from.held))
 
-  pub goes_line : (from to : Point S) (reading : Result Request LineFault) (replies : List LineReply)
-      → IsTurn rules from reading replies to → Along from to
-  goes_line from to (Err fault) replies = alone (lines.Err (word_for fault)) from to replies
-  goes_line from to (Ok request) replies = λ turn. served request from to turn.0 replies turn.2
+  retries : (from to : Point S) (place now : ℕ) (element : Element) (draft : Draft) (result : Result Element CallFault)
+      (replies : List LineReply) → slice_get from.held place ≡ Some element
+      → IsRetry rules.policy element now (Some draft)
+      → rules.Steps from.desk now (asks.Offer draft) (offer_answer result) to.desk
+      → Retried rules result replies from.held place to.held → Along from to
+  retries from to place now element draft (Ok again) replies at offers steps (are, held) =
+      fails from.desk to.desk from.held place element now (Ok (Again again)) at (draft, offers, steps) to.held
+      (λ verdict is. held) (subst (λ some. AreSomeOf some from.held) (sym held) (some_removed from.held place))
+  retries from to place now element draft (Err fault) replies at offers steps (are, held) =
+      goes_none from to (refuses from.desk to.desk now (asks.Offer draft) (fault_of fault) steps).1
+      (subst (λ some. AreSomeOf some from.held) (sym held) (some_all from.held))
+
+  pub goes_way : (from to : Point S) (reading : Result Request LineFault) (replies : List LineReply)
+      → Way rules reading replies from to → Along from to
+  goes_way from to reading replies (did_nothing nothing) = goes_same from to nothing.same
+  goes_way from to reading replies (did_end end) =
+      goes_none from to (ap mine end.same)
+      (subst (λ some. AreSomeOf some from.held) (sym end.held) (some_removed from.held end.place))
+  goes_way from to reading replies (did_call made) =
+      call from to made.handed made.ask made.answer made.begins made.steps made.held
+  goes_way from to reading replies (did_retry failed) =
+      retries from to failed.place failed.now failed.element failed.draft failed.result replies failed.at failed.retry
+      failed.steps failed.retried
+  goes_way from to reading replies (did_set set) =
+      goes_none from to (stays from.desk to.desk set.moment set.result set.sets)
+      (subst (λ some. AreSomeOf some from.held) (sym set.held) (some_all from.held))

@@ -1,4 +1,4 @@
--- What the events of one seat do with the jobs that it is given: it holds each until that ends, and each ends once.
+-- What a seat may hold, by its events: what it was given, but for what it offered again or let go.
 use Rattle.std.specs.Prelude.{◌≡◌, ℕ, ◌+◌, ◌<◌, ◌⊎◌, List, [], ◌∷◌, ◌++◌, remove, slice_get, Option, Some}
 use Rattle.rb_delayed.specs.declared.element.Element.{Element}
 use Rattle.rb_queue.specs.declared.event.Event.{Event}
@@ -39,7 +39,7 @@ module _ (policy : Policy) where
   Handles held moment reply after = after ≡ held ++ reply_elements reply
 
   -- These events, one after the other, lead from what is held to what is held behind them. Before each of them, and at
-  -- the end, elements may have been let go: their jobs were done, dead or lost.
+  -- the end, any elements may have been let go, as those of jobs that were done, dead or lost.
   abbrev pub HandlesAll : List Element → List Made → List Element → Type 0
   HandlesAll held [] after = AreSomeOf after held
   HandlesAll held (made ∷ mades) after =

@@ -1,29 +1,33 @@
--- Jobs in are jobs out, in numbers.
-use Rattle.std.specs.Prelude.{◌≡◌, ℕ, ◌+◌, List, [], ◌∷◌, length, Option, None, Some}
+-- Jobs in are jobs out: those that a run had at its beginning, and those that it began, are found at its end.
+use Rattle.std.specs.Prelude.{◌≡◌, ℕ, ◌+◌, ◌≤◌, ◌==◌, if◌then◌else◌, List, [], ◌∷◌, ◌++◌, length, sum_by, Option, None, Some}
 use Rattle.std.specs.Io.KnownBytes.{IsAtEnd}
+use Rattle.std.specs.List.{AllZip}
 use Rattle.rb_queue.specs.Counts.{removed_count, cleared_count, left_count}
+use Rattle.rb_queue.specs.History.{start_of, state_of}
 use Rattle.rb_queue.specs.declared.event.Event.{Event}
 use Rattle.rb_queue.specs.declared.opening.Opening.{Opening}
 use Rattle.rb_retry.specs.KeptSteps.{KeptState}
-use Rattle.rb_retry.specs.Made.{Made}
+use Rattle.rb_retry.specs.Made.{Made, made_by}
 use Rattle.rb_retry.specs.declared.policy.Policy.{Policy}
 use Rattle.rb_protocol.specs.declared.line_reply.LineReply.{LineReply}
 use Rattle.rb_protocol.specs.declared.line_reply.LineReply.TheVariants as lines
 use Rattle.rb_session.specs.Events.{made_in}
-use Rattle.rb_session.specs.JobEnds.{done_in, dead_in, spent_count, lost_in}
+use Rattle.rb_session.specs.JobEnds.{spent_of}
 use Rattle.rb_session.specs.RunEvents.{MadeByRun}
 use Rattle.rb_session.specs.Served.{Served}
 use Rattle.rb_session.specs.Session.{Turn}
 use Rattle.rb_session.specs.declared.delivery.Delivery.{Delivery}
 use Rattle.rb_options.specs.declared.server_run_options.ServerRunOptions.{ServerRunOptions}
 use Rattle.rb_runs.specs.Script.{RanSession, script_terms}
+use Rattle.rb_serving.specs.ServerEvents.{GrowsByVisits, IsOfSessions}
 use Rattle.rb_serving.specs.Serving.{IsServersRun}
 use Rattle.rb_serving.specs.Terms.{Terms}
-use Rattle.rb_serving.specs.Visits.{all_visits}
 use Rattle.rb_serving.specs.declared.serve_report.ServeReport.{ServeReport}
+use Rattle.rb_jobs.specs.Places.{AreJobs}
+use Rattle.rb_jobs.specs.QueueSums.{origins_sum, waiting_sum, removed_sum, cleared_sum}
 
--- What became of jobs in sessions: how many were begun, and how many ended as done, as dead after their last attempt,
--- and as lost at a session's end.
+-- What became of jobs in sessions: those that were begun, and those that ended as done, as dead after their last attempt,
+-- and as lost at a session's end. Each counts with an amount of its own; with 1 for each, this is how many they are.
 pub record JobCounts : Type 0 where
   pub begun : ℕ
   pub done : ℕ
@@ -41,31 +45,43 @@ both_jobs one other = record {
   lost = one.lost + other.lost;
 }
 
--- how many of these replies say that a new job was accepted
-abbrev pub begun_by : List LineReply → ℕ
-begun_by [] = 0
-begun_by (lines.Offered id expiry ∷ replies) = 1 + begun_by replies
+-- the jobs that these replies say were accepted: each has the id of its first element
+abbrev pub begun_by : List LineReply → List ℕ
+begun_by [] = []
+begun_by (lines.Offered id expiry ∷ replies) = id ∷ begun_by replies
 begun_by (_ ∷ replies) = begun_by replies
 
-abbrev pub begun_in : List Turn → ℕ
-begun_in [] = 0
-begun_in (turn ∷ turns) = begun_by turn.replies + begun_in turns
+abbrev pub begun_in : List Turn → List ℕ
+begun_in [] = []
+begun_in (turn ∷ turns) = begun_by turn.replies ++ begun_in turns
 
--- those of a session: what its replies say, and what became of the jobs that it still held
-abbrev pub jobs_of : {policy : Policy} {Over : Type 0} {served : Served} {Grows : List Made → Type 0}
+-- those of a session: the jobs of the elements that its replies name, and of those that it still held at its end
+abbrev pub jobs_of : (ℕ → ℕ) → {policy : Policy} {Over : Type 0} {served : Served} {Grows : List Made → Type 0}
     → MadeByRun policy Over served Grows → JobCounts
-jobs_of {policy = policy} {served = served} run = record {
-  begun = begun_in run.lines;
-  done = length (done_in run.lines);
-  dead = length (dead_in run.lines) + spent_count policy run.held;
-  lost = lost_in served.ended;
+jobs_of amount {policy = policy} run = record {
+  begun = sum_by amount (begun_in run.lines);
+  done = origins_sum amount run.of_lines.done;
+  dead = origins_sum amount run.of_lines.dead + origins_sum amount (spent_of policy run.held);
+  lost = origins_sum amount run.lost;
 }
 
+-- an amount that counts one job alone
+abbrev pub only : ℕ → ℕ → ℕ
+only origin other = if other == origin then 1 else 0
+
 -- Jobs in are jobs out: those that were there and those that were begun are done, dead, lost, removed, cleared, or left.
-abbrev pub IsAccount : Opening → List Event → JobCounts → Type 0
-IsAccount opening history jobs =
-    length opening.elements + jobs.begun
-    ≡ jobs.done + jobs.dead + jobs.lost + removed_count history + cleared_count opening history + left_count opening history
+-- They are so many; and they are the same ones, each as often, since the sums agree however much each job counts. That
+-- is once at most, if each job was there with one element.
+pub record IsAccount (opening : Opening) (history : List Event) (jobs : (ℕ → ℕ) → JobCounts) : Type 0 where
+  pub numbers : length opening.elements + (jobs (λ origin. 1)).begun
+      ≡ (jobs (λ origin. 1)).done + (jobs (λ origin. 1)).dead + (jobs (λ origin. 1)).lost
+      + removed_count history + cleared_count opening history + left_count opening history
+  pub origins : (amount : ℕ → ℕ) → origins_sum amount opening.elements + (jobs amount).begun
+      ≡ (jobs amount).done + (jobs amount).dead + (jobs amount).lost
+      + removed_sum amount opening history + cleared_sum amount opening history
+      + waiting_sum amount (state_of opening history).queue
+  pub once : AreJobs (start_of opening).queue → (origin : ℕ)
+      → origins_sum (only origin) opening.elements + (jobs (only origin)).begun ≤ 1
 
 -- the law of scripts
 abbrev pub ScriptAccounts : {W : Type 0} → (W → Option (List ℕ)) → Type 0
@@ -74,21 +90,32 @@ ScriptAccounts sends =
     (opening : Opening) (served : Served) (to : KeptState)
     → RanSession (script_terms sends got policy calls delivery opening) (IsAtEnd rest) served to
     → (run : MadeByRun policy (IsAtEnd rest) served (λ made. made_in to.log ≡ made))
-    × IsAccount opening to.log.history (jobs_of run)
+    × IsAccount opening to.log.history (λ amount. jobs_of amount run)
 
--- with the jobs of these visits, one after the other, the counts went from these to those
-abbrev pub CountsVisits : Policy → JobCounts → List (Option Served) → JobCounts → Type 0
-CountsVisits policy before [] after = after ≡ before
-CountsVisits policy before (None ∷ visits) after = CountsVisits policy before visits after
-CountsVisits policy before (Some served ∷ visits) after =
-    (rest : Option (List ℕ)) × (run : MadeByRun policy (IsAtEnd rest) served (λ made. Unit {0}))
-    × CountsVisits policy (both_jobs before (jobs_of run)) visits after
+-- those of a worker's visits, by which its calls grew from these to those
+abbrev pub jobs_of_visits : (ℕ → ℕ) → (policy : Policy) (before : List Made) (visits : List (Option Served)) (after : List Made)
+    → GrowsByVisits policy before visits after → JobCounts
+jobs_of_visits amount policy before [] after same = no_jobs
+jobs_of_visits amount policy before (None ∷ visits) after grows = jobs_of_visits amount policy before visits after grows
+jobs_of_visits amount policy before (Some served ∷ visits) after (between, (rest, run), grows) =
+    both_jobs (jobs_of amount run) (jobs_of_visits amount policy between visits after grows)
+
+-- those of all workers, whose events in the history are those of their visits
+abbrev pub jobs_of_workers : (ℕ → ℕ) → (policy : Policy) (begun : Opening) (history : List Event) (names : List ℕ)
+    (visits : List (List (Option Served)))
+    → AllZip (λ (name : ℕ) (own : List (Option Served)). GrowsByVisits policy [] own (made_by name begun history)) names visits
+    → JobCounts
+jobs_of_workers amount policy begun history (name ∷ names) (own ∷ visits) (grows, others) =
+    both_jobs (jobs_of_visits amount policy [] own (made_by name begun history) grows)
+    (jobs_of_workers amount policy begun history names visits others)
+jobs_of_workers amount policy begun history _ _ all = no_jobs
 
 module _ {I O G C : Type 0} (terms : Terms I O G C) where
-  -- the law of servers, over all their sessions
+  -- the law of servers, over all their sessions, of whose events the history is made
   abbrev pub ServerAccounts : Type 0 → Type 0
   ServerAccounts T =
       (begun : Opening) (options : ServerRunOptions) (report : ServeReport T)
       → (run : IsServersRun terms begun options report)
-      → (jobs : JobCounts) × CountsVisits terms.rules.policy no_jobs (all_visits run.visits) jobs
-      × IsAccount begun report.kept.history jobs
+      → (sessions : IsOfSessions terms.rules.policy begun report.kept.history run.visits)
+      × IsAccount begun report.kept.history (λ amount.
+      jobs_of_workers amount terms.rules.policy begun report.kept.history sessions.names run.visits sessions.workers)

@@ -7,5 +7,6 @@ pub mod Hands
 pub mod Places
 pub mod SessionHands
 pub mod RunJobs
+pub mod QueueSums
 pub mod JobCounts
 pub mod Continued

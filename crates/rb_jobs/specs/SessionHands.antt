@@ -1,4 +1,4 @@
--- What a session does with the jobs that it is given: it holds each until that is done, dead, offered again or lost.
+-- What a session holds of the jobs that it is given.
 use Rattle.std.specs.Prelude.{◌≡◌, ℕ, List, [], ◌++◌, Option}
 use Rattle.std.specs.Io.KnownBytes.{IsAtEnd}
 use Rattle.rb_delayed.specs.declared.element.Element.{Element}

@@ -3,37 +3,32 @@ use Rattle.std.proofs.Common.{◌≡◌, ℕ, zero, suc, ◌+◌, ◌-◌, ◌<�
 use Rattle.std.proofs.Common.{Ok, Err, refl, sym, ap, subst, ◌∙◌, arith, remove, inl, inr, ◌⊎◌}
 use Rattle.std.proofs.lemmas.Bool.{cases_lt}
 use Rattle.std.proofs.lemmas.List.{append-nil, map-append}
-use Rattle.std.specs.Prelude.{nat_le, nat_lt, min}
 use Rattle.rb_delayed.specs.declared.element.Element.{Element}
-use Rattle.rb_delayed.specs.declared.moment.TheConstants.{GREATEST_MOMENT}
 use Rattle.rb_queue.specs.Leaving.{times}
 use Rattle.rb_queue.specs.Opening.{ids_of}
 use Rattle.rb_queue.specs.declared.ask.Ask.{Ask}
 use Rattle.rb_queue.specs.declared.ask.Ask.TheVariants as asks
+use Rattle.rb_queue.specs.declared.draft.Draft.{Draft}
 use Rattle.rb_queue.specs.declared.event.Event.{Event}
 use Rattle.rb_queue.specs.declared.reply.Reply.{Reply}
 use Rattle.rb_queue.specs.declared.reply.Reply.TheVariants.{Offered, Item, Nothing, Head, Removed, Drained, Cleared}
 use Rattle.rb_queue.specs.declared.reply.Reply.TheVariants.{Size}
 use Rattle.rb_queue.proofs.Effects.{times_cons}
+use Rattle.rb_kept.specs.declared.fault.CallFault.{CallFault}
+use Rattle.rb_retry.specs.Jobs.{offer_answer}
 use Rattle.rb_retry.specs.Made.{Made, ids_given, given_by, GivesOnce}
 use Rattle.rb_retry.specs.GivenLaws.{times_append, times_given-append}
 use Rattle.rb_retry.specs.Asked.{Makes, MayGet}
 use Rattle.rb_retry.specs.KeptSteps.{fault_of}
 use Rattle.rb_retry.specs.DeskRules.{DeskRules}
 use Rattle.rb_retry.specs.declared.desk_fault.DeskFault.{DeskFault}
-use Rattle.rb_retry.specs.declared.verdict.Verdict.TheVariants.{Again, Dead}
 use Rattle.rb_protocol.specs.declared.request.Request.{Request}
-use Rattle.rb_protocol.specs.declared.request.Request.TheVariants as requests
 use Rattle.rb_protocol.specs.declared.line_fault.LineFault.{LineFault}
 use Rattle.rb_protocol.specs.declared.line_reply.LineReply.{LineReply}
-use Rattle.rb_protocol.specs.declared.line_reply.LineReply.TheVariants as lines
-use Rattle.rb_protocol.specs.declared.err_word.ErrWord.TheVariants as words
-use Rattle.rb_session.specs.Held.{place_of, AreGiven, AreNew, AreHeldOnce}
+use Rattle.rb_session.specs.Held.{AreGiven, AreNew, AreHeldOnce}
 use Rattle.rb_session.specs.Session.{Turn, Serves}
-use Rattle.rb_session.specs.Turn.{Point, IsTurn, IsServed, IsCall, IsFetch, IsFailure, AnswersAlone, fetched_by}
-use Rattle.rb_session.specs.Turn.{word_for}
-use Rattle.rb_session.specs.declared.held_jobs.TheConstants.{MOST_HELD}
-use Rattle.rb_session.proofs.Events.{of_bool, of_place}
+use Rattle.rb_session.specs.Turn.{Point, IsTurn, fetched_by}
+use Rattle.rb_session.proofs.Ways.{Retried, Way, way_of, did_nothing, did_end, did_call, did_retry, did_set}
 
 -- what an answer hands out has the ids that its reply gives
 handed_ids : (reply : Reply) → ids_given reply ≡ ids_of (fetched_by (Ok reply))
@@ -157,69 +152,36 @@ module _ {S : Type 0} (rules : DeskRules S) (Holds : S → List Element → Type
       subst (Holds new) (ap (λ (more : List Element). held ++ more) none ∙ append-nil held)
       (calls old new asked ask answer held steps holds)
 
-  alone : (line : LineReply) (old new : Point S) (replies : List LineReply) → Holds old.desk old.held
-      → AnswersAlone line old replies new → Holds new.desk new.held
-  alone line old new replies holds (is, same) = subst (λ (p : Point S). Holds p.desk p.held) (sym same) holds
-
-  call : (ask : Ask) (old new : Point S) (handed : ℕ) (replies : List LineReply) → Holds old.desk old.held
-      → IsCall rules.Steps old handed ask replies new → Holds new.desk new.held
-  call ask old new handed replies holds (answer, steps, are, held) =
-      subst (Holds new.desk) (sym held) (calls old.desk new.desk handed ask answer old.held steps holds)
-
-  fetch : (ask : Ask) (old new : Point S) (handed : ℕ) (replies : List LineReply) → Holds old.desk old.held
-      → IsFetch rules.Steps old handed ask replies new → Holds new.desk new.held
-  fetch ask old new handed replies holds =
-      of_bool (nat_lt (length old.held) MOST_HELD) _ _ _
-      (call ask old new handed replies holds) (alone (lines.Err words.Held) old new replies holds)
-
-  failure : (old new : Point S) (now place : ℕ) (replies : List LineReply) → Holds old.desk old.held
-      → IsFailure rules old now place replies new → Holds new.desk new.held
-  failure old new now place replies holds (element, at, Ok (Again again), (draft, retry, steps), are, held) =
+  retried : (old new : Point S) (now place : ℕ) (draft : Draft) (result : Result Element CallFault)
+      (replies : List LineReply) → rules.Steps old.desk now (asks.Offer draft) (offer_answer result) new.desk
+      → Retried rules result replies old.held place new.held → Holds old.desk old.held → Holds new.desk new.held
+  retried old new now place draft (Ok again) replies steps (are, held) holds =
       subst (Holds new.desk) (sym held)
       (removes new.desk old.held place (plain_call old.desk new.desk now (asks.Offer draft)
       (Ok (Offered again)) old.held refl steps holds))
-  failure old new now place replies holds (element, at, Ok (Dead dead), (retry, is_dead, same), are, held) =
-      subst (Holds new.desk) (sym held) (removes new.desk old.held place
-      (subst (λ (s : S). Holds s old.held) (sym same) holds))
-  failure old new now place replies holds (element, at, Err (back, fault), (draft, retry, steps, is_back), are, held) =
+  retried old new now place draft (Err fault) replies steps (are, held) holds =
       subst (Holds new.desk) (sym held) (plain_call old.desk new.desk now (asks.Offer draft)
       (Err (fault_of fault)) old.held refl steps holds)
 
-  served : (request : Request) (old new : Point S) (now : ℕ) (replies : List LineReply) → Holds old.desk old.held
-      → IsServed rules old now request replies new → Holds new.desk new.held
-  served (requests.Offer delay payload) old new now replies holds =
-      of_bool (nat_le (now + delay) GREATEST_MOMENT) _ _ _
-      (λ offers. call (asks.Offer offers.0) old new now replies holds offers.2)
-      (alone (lines.Err words.Range) old new replies holds)
-  served (requests.OfferAt expiry payload) old new now replies holds =
-      λ offers. call (asks.Offer offers.0) old new now replies holds offers.2
-  served requests.Poll old new now replies holds = fetch asks.Poll old new now replies holds
-  served (requests.PollFor timeout) old new now replies holds =
-      fetch (asks.PollFor now timeout) old new now replies holds
-  served requests.Take old new now replies holds = fetch asks.Take old new 0 replies holds
-  served requests.Peek old new now replies holds = call asks.Peek old new now replies holds
-  served (requests.Remove id) old new now replies holds = call (asks.Remove id) old new now replies holds
-  served (requests.Drain most) old new now replies holds =
-      call (asks.Drain (min most (MOST_HELD - length old.held))) old new now replies holds
-  served requests.Clear old new now replies holds = call asks.Clear old new now replies holds
-  served requests.Size old new now replies holds = call asks.Size old new now replies holds
-  served (requests.Done id) old new now replies holds =
-      of_place (place_of old.held id) _ _ _
-      (alone (lines.Err words.NotHeld) old new replies holds)
-      (λ place done. subst (Holds new.desk) (sym done.2)
-      (removes new.desk old.held place (subst (λ (s : S). Holds s old.held) (sym done.1) holds)))
-  served (requests.Fail id) old new now replies holds =
-      of_place (place_of old.held id) _ _ _ (alone (lines.Err words.NotHeld) old new replies holds)
-      (λ place. failure old new now place replies holds)
-  served (requests.At moment) old new now replies holds =
-      λ setting. subst (Holds new.desk) (sym setting.3)
-      (sets old.desk new.desk moment setting.0 old.held setting.1 holds)
-  served requests.Quit old new now replies holds = alone lines.Bye old new replies holds
+  of_way : (reading : Result Request LineFault) (old new : Point S) (replies : List LineReply)
+      → Way rules reading replies old new → Holds old.desk old.held → Holds new.desk new.held
+  of_way reading old new replies (did_nothing nothing) holds =
+      subst (λ (p : Point S). Holds p.desk p.held) (sym nothing.same) holds
+  of_way reading old new replies (did_end end) holds =
+      subst (Holds new.desk) (sym end.held)
+      (removes new.desk old.held end.place (subst (λ (s : S). Holds s old.held) (sym end.same) holds))
+  of_way reading old new replies (did_call call) holds =
+      subst (Holds new.desk) (sym call.held)
+      (calls old.desk new.desk call.handed call.ask call.answer old.held call.steps holds)
+  of_way reading old new replies (did_retry retry) holds =
+      retried old new retry.now retry.place retry.draft retry.result replies retry.steps retry.retried holds
+  of_way reading old new replies (did_set set) holds =
+      subst (Holds new.desk) (sym set.held)
+      (sets old.desk new.desk set.moment set.result old.held set.sets holds)
 
   of_turn : (reading : Result Request LineFault) (old new : Point S) (replies : List LineReply)
       → IsTurn rules old reading replies new → Holds old.desk old.held → Holds new.desk new.held
-  of_turn (Err fault) old new replies turn holds = alone (lines.Err (word_for fault)) old new replies holds turn
-  of_turn (Ok request) old new replies turn holds = served request old new turn.0 replies holds turn.2
+  of_turn reading old new replies turn = of_way reading old new replies (way_of rules reading old new replies turn)
 
 module _ {S : Type 0} (rules : DeskRules S) (mine : S → List Made)
     (makes : (old new : S) (asked : ℕ) (ask : Ask) (reply : Reply) → rules.Steps old asked ask (Ok reply) new

@@ -1,5 +1,5 @@
 -- At a kept desk the history grows by what a session makes, and the clock stands at the latest moment that was set.
-use Rattle.std.proofs.Common.{◌≡◌, ℕ, List, [], ◌∷◌, ◌++◌, Option, Result, Ok, Err, refl, sym, ap, ◌∙◌, inl, inr, arith}
+use Rattle.std.proofs.Common.{◌≡◌, ℕ, List, [], ◌∷◌, ◌++◌, Option, Result, Ok, Err, refl, sym, ap, ◌∙◌, arith}
 use Rattle.rb_queue.specs.declared.ask.Ask.{Ask}
 use Rattle.rb_queue.specs.declared.reply.Reply.{Reply}
 use Rattle.rb_retry.specs.Made.{Made}
@@ -21,7 +21,8 @@ use Rattle.rb_session.specs.Turn.{Point}
 use Rattle.rb_session.specs.Session.{Turn, Serves}
 use Rattle.rb_session.specs.Closing.{Closes}
 use Rattle.rb_session.specs.Events.{moment_after, latest, RecordsByLines, RecordsByClosing}
-use Rattle.rb_session.proofs.Events.{Way, way_of, makes_by_lines, makes_by_closing}
+use Rattle.rb_session.proofs.Events.{makes_by_lines, makes_by_closing}
+use Rattle.rb_session.proofs.Ways.{Way, way_of, did_nothing, did_end, did_call, did_retry, did_set}
 
 -- the desk as if it had been made before the first event
 abbrev pub whole : KeptState → KeptState
@@ -61,21 +62,25 @@ pub stays_whole : (old new : KeptState) (moment : ℕ) (result : Option ℕ) →
 stays_whole old new moment result sets = ap whole_mine sets.1
 
 -- the moment after one line
-pub moment_of : (policy : Policy) (reading : Result Request LineFault) (replies : List LineReply) (old new : KeptState)
-    → Way (kept_rules policy) reading replies old new → new.moment ≡ moment_after old.moment reading
-moment_of policy reading replies old new (inl leaves) = ap (λ (s : KeptState). s.moment) leaves.same
-    ∙ sym (leaves.stands old.moment)
-moment_of policy reading replies old new (inr (inl calls)) = ap (λ (s : KeptState). s.moment) calls.steps.stays
-    ∙ sym (calls.stands old.moment)
-moment_of policy reading replies old new (inr (inr sets)) = ap (λ (s : KeptState). s.moment) sets.sets.1
-    ∙ ap (moment_after old.moment) (sym sets.read)
+pub moment_of : (policy : Policy) (reading : Result Request LineFault) (replies : List LineReply) (old new : Point KeptState)
+    → Way (kept_rules policy) reading replies old new → new.desk.moment ≡ moment_after old.desk.moment reading
+moment_of policy reading replies old new (did_nothing nothing) =
+    ap (λ (p : Point KeptState). p.desk.moment) nothing.same ∙ sym (nothing.stands old.desk.moment)
+moment_of policy reading replies old new (did_end end) =
+    ap (λ (s : KeptState). s.moment) end.same ∙ sym (end.stands old.desk.moment)
+moment_of policy reading replies old new (did_call call) =
+    ap (λ (s : KeptState). s.moment) call.steps.stays ∙ sym (call.stands old.desk.moment)
+moment_of policy reading replies old new (did_retry retry) =
+    ap (λ (s : KeptState). s.moment) retry.steps.stays ∙ ap (moment_after old.desk.moment) (sym retry.read)
+moment_of policy reading replies old new (did_set set) =
+    ap (λ (s : KeptState). s.moment) set.sets.1 ∙ ap (moment_after old.desk.moment) (sym set.read)
 
 pub latest_moment : (policy : Policy) (from to : Point KeptState) (turns : List Turn)
     → Serves (kept_rules policy) from turns to → to.desk.moment ≡ latest from.desk.moment turns
 latest_moment policy from to [] same = ap (λ (p : Point KeptState). p.desk.moment) same
 latest_moment policy from to (turn ∷ turns) (between, is_line, goes_on, is_turn, rest) =
     latest_moment policy between to turns rest
-    ∙ ap (λ (m : ℕ). latest m turns) (moment_of policy turn.reading turn.replies from.desk between.desk
+    ∙ ap (λ (m : ℕ). latest m turns) (moment_of policy turn.reading turn.replies from between
     (way_of (kept_rules policy) turn.reading from between turn.replies is_turn))
 
 pub records_by_lines : RecordsByLines kept_rules
@@ -102,6 +107,6 @@ closing_moment policy from to (element ∷ held) lost (now, is_now, result, betw
 
 pub records_by_closing : RecordsByClosing kept_rules
 records_by_closing policy from to held lost closes =
-    let made =
+    let (made, grows, gone, many, are) =
     makes_by_closing (kept_rules policy) whole_mine makes_whole refuses_whole stays_whole from to held lost closes in
-    (made.0, made.1, made.2, closing_moment policy from to held lost closes)
+    (made, grows, gone, many, are, closing_moment policy from to held lost closes)

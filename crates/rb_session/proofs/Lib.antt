@@ -11,10 +11,10 @@ pub mod StreamRuns
 pub mod Outlets
 pub mod Gatherings
 pub mod KnownDevices
+pub mod Ways
 pub mod Events
 pub mod KeptEvents
 pub mod JobMaps
 pub mod GivenJobs
 pub mod HandedOut
-pub mod EndedJobs
 pub mod RunEvents

@@ -1,17 +1,12 @@
 -- What a whole run of a session makes: what its lines made, and then what the jobs made that were still held.
 use Rattle.std.proofs.Common.{◌≡◌, ℕ, ◌<◌, List, [], ◌∷◌, ◌++◌, length, Option, Result, Ok, Err, inl, inr}
 use Rattle.std.proofs.Common.{refl, sym, ap, subst, ◌∙◌, append-nil, append_assoc, arith}
-use Rattle.std.proofs.lemmas.Bool.Decides.{nat_tests}
-use Rattle.std.proofs.lemmas.List.{append_cancel_left}
-use Rattle.std.proofs.lemmas.List.Sums.{sum_by-cons}
-use Rattle.std.specs.Prelude.{◌+◌, ◌≤◌, true, false, Some, nat_le}
 use Rattle.std.specs.Io.KnownBytes.{IsAtEnd}
 use Rattle.rb_delayed.specs.declared.element.Element.{Element}
 use Rattle.rb_queue.specs.declared.ask.Ask.{Ask}
 use Rattle.rb_queue.specs.declared.ask.Ask.TheVariants as asks
 use Rattle.rb_queue.specs.declared.reply.Reply.{Reply}
 use Rattle.rb_queue.specs.declared.reply.Reply.TheVariants.{Offered}
-use Rattle.rb_queue.proofs.Effects.{bit}
 use Rattle.rb_kept.specs.Log.{Log}
 use Rattle.rb_kept.specs.Tries.{StepsTo}
 use Rattle.rb_kept.specs.declared.fault.CallFault.{CallFault}
@@ -21,7 +16,7 @@ use Rattle.rb_kept.specs.declared.outcome.Outcome.TheVariants.{Done, Later}
 use Rattle.rb_kept.specs.declared.tries.Try.{Try}
 use Rattle.rb_retry.specs.Asked.{Makes, MayGet}
 use Rattle.rb_retry.specs.DeskRules.{DeskRules, kept_rules}
-use Rattle.rb_retry.specs.Jobs.{FailsTo}
+use Rattle.rb_retry.specs.Jobs.{FailsTo, offer_answer}
 use Rattle.rb_retry.specs.KeptSteps.{KeptState, KeptSteps, fault_of}
 use Rattle.rb_retry.specs.Made.{Made}
 use Rattle.rb_retry.specs.declared.desk_fault.DeskFault.{DeskFault}
@@ -43,18 +38,18 @@ use Rattle.rb_session.specs.Served.{Served}
 use Rattle.rb_session.specs.Turn.{Point, point, IsTurn}
 use Rattle.rb_session.specs.Session.{Turn, Serves, ServesFirst, ServesToEnd, ServesToQuit}
 use Rattle.rb_session.specs.Session.{bytes_of, answers_of, texts_of, rest_text}
-use Rattle.rb_session.specs.Closing.{Closes, lost_by}
-use Rattle.rb_session.specs.JobEnds.{spent_count, lost_in}
+use Rattle.rb_session.specs.Closing.{Closes}
+use Rattle.rb_session.specs.JobEnds.{lost_in}
 use Rattle.rb_session.specs.Ran.{BeginsWith, BreaksOff, FailsToWrite, FailsToSend, LosesReplies, RanUntil, ServesSome}
-use Rattle.rb_session.specs.Events.{AreOfLines, latest}
-use Rattle.rb_session.specs.RunEvents.{AreSomeOf, StandFirst, SendsAll, MadeByRun, RecordsByRun, handed_by, handed_out}
+use Rattle.rb_session.specs.Events.{latest}
+use Rattle.rb_session.specs.RunEvents.{StandFirst, SendsAll, MadeByRun, RecordsByRun}
 use Rattle.rb_session.specs.declared.ended.Ended.{Ended}
 use Rattle.rb_session.specs.declared.ended.Ended.TheVariants as ends
 use Rattle.rb_session.specs.declared.session_fault.SessionFault.{SessionFault}
 use Rattle.rb_session.specs.declared.session_fault.SessionFault.TheVariants as faults
-use Rattle.rb_session.proofs.HandedOut.{holds_lines, holds_turn, some_all, some_both, some_more, some_trans}
-use Rattle.rb_session.proofs.EndedJobs.{PartsAll, parts_then, one_parts, line_parts, lines_part}
-use Rattle.rb_session.proofs.Events.{Way, way_of, of_way, makes_by_closing}
+use Rattle.rb_session.proofs.HandedOut.{ways_hold}
+use Rattle.rb_session.proofs.Events.{makes_by_closing, ways_make}
+use Rattle.rb_session.proofs.Ways.{Way, WaysAlong, alone, way_of, ways_append, ways_of, did_nothing, did_end, did_call, did_retry, did_set}
 use Rattle.rb_session.proofs.KeptEvents.{whole_mine, makes_whole, refuses_whole, stays_whole}
 use Rattle.rb_session.proofs.KeptEvents.{moment_of, closing_moment}
 
@@ -65,13 +60,6 @@ answers_append (turn ∷ turns) more =
     ap (λ (text : List ℕ). texts_of turn.replies ++ text) (answers_append turns more)
     ∙ sym (append_assoc (texts_of turn.replies) (answers_of turns) (answers_of more))
 
--- what some lines and more of them were handed out
-handed_append : (turns more : List Turn) → handed_out (turns ++ more) ≡ handed_out turns ++ handed_out more
-handed_append [] more = refl
-handed_append (turn ∷ turns) more =
-    ap (λ (all : List Element). handed_by turn.replies ++ all) (handed_append turns more)
-    ∙ sym (append_assoc (handed_by turn.replies) (handed_out turns) (handed_out more))
-
 -- the answer to one line
 answers_one : (turn : Turn) → answers_of (turn ∷ []) ≡ texts_of turn.replies
 answers_one turn = append-nil (texts_of turn.replies)
@@ -81,20 +69,12 @@ texts_one : (reply : LineReply) → texts_of (reply ∷ []) ≡ text_of reply
 texts_one reply = append-nil (text_of reply)
 
 module _ {S : Type 0} (rules : DeskRules S) where
-  -- these lines did something at the desk, one after the other
-  abbrev pub WaysAlong : S → List Turn → S → Type 0
-  WaysAlong old [] new = new ≡ old
-  WaysAlong old (turn ∷ turns) new =
-      (between : S) × Way rules turn.reading turn.replies old between × WaysAlong between turns new
-
-  -- These lines were served, stand first in what came, and are answered by this text. What is held then was handed out.
+  -- These lines were served, stand first in what came, and are answered by this text.
   pub record Path (Over : Type 0) (from : S) (came text : List ℕ) (to : Point S) : Type 0 where
     pub lines : List Turn
     pub stand : StandFirst Over came lines
     pub answers : answers_of lines ≡ text
-    pub ways : WaysAlong from lines to.desk
-    pub handed : AreSomeOf to.held (handed_out lines)
-    pub parted : (amount : ℕ → ℕ) → PartsAll amount [] lines to.held
+    pub ways : WaysAlong rules (point from []) lines to
 
   -- What a run comes to: a path to where serving stopped, and the end of the jobs that were held there.
   pub record Ends (Over : Type 0) (from : S) (served : Served) (ended : Result Ended SessionFault)
@@ -106,20 +86,6 @@ module _ {S : Type 0} (rules : DeskRules S) where
     pub lost : ℕ
     pub lost_is : lost ≡ lost_in ended
     pub closes : Closes rules last.desk last.held lost to
-
-  ways_append : (one two three : S) (turns more : List Turn) → WaysAlong one turns two → WaysAlong two more three
-      → WaysAlong one (turns ++ more) three
-  ways_append one two three [] more same ways = subst (λ at. WaysAlong at more three) same ways
-  ways_append one two three (turn ∷ turns) more (between, way, rest) ways =
-      (between, way, ways_append between two three turns more rest ways)
-
-  ways_of : (from to : Point S) (turns : List Turn) → Serves rules from turns to → WaysAlong from.desk turns to.desk
-  ways_of from to [] same = ap (λ (p : Point S). p.desk) same
-  ways_of from to (turn ∷ turns) (between, is_line, goes_on, is_turn, rest) = (
-    between.desk,
-    way_of rules turn.reading from between turn.replies is_turn,
-    ways_of between to turns rest,
-  )
 
   module _ (Over : Type 0) where
     -- lines that are served stand before the bytes behind them
@@ -136,30 +102,14 @@ module _ {S : Type 0} (rules : DeskRules S) where
     -- lines that are served, and more of them
     path : (from : S) (to : Point S) (came : List ℕ) (turns more : List Turn) (bytes text : List ℕ) (last : Point S)
         → Serves rules (point from []) turns to → came ≡ bytes_of turns ++ bytes → StandFirst Over bytes more
-        → answers_of more ≡ text → WaysAlong to.desk more last.desk → AreSomeOf last.held (to.held ++ handed_out more)
-        → ((amount : ℕ → ℕ) → PartsAll amount to.held more last.held) → Path Over from came (answers_of turns ++ text) last
-    path from to came turns more bytes text last serves split stand answers ways handed parted = record {
+        → answers_of more ≡ text → WaysAlong rules to more last → Path Over from came (answers_of turns ++ text) last
+    path from to came turns more bytes text last serves split stand answers ways = record {
       lines = turns ++ more;
       stand = subst (λ all. StandFirst Over all (turns ++ more)) (sym split)
           (stands (point from []) to turns more bytes serves stand);
       answers = answers_append turns more ∙ ap (λ (rest : List ℕ). answers_of turns ++ rest) answers;
-      ways = ways_append from to.desk last.desk turns more (ways_of (point from []) to turns serves) ways;
-      handed = subst (λ all. AreSomeOf last.held all) (sym (handed_append turns more))
-          (some_trans last.held (to.held ++ handed_out more) (handed_out turns ++ handed_out more) handed
-          (some_both to.held (handed_out turns) (handed_out more)
-          (holds_lines rules (point from []) to turns serves)));
-      parted = λ amount. parts_then amount [] to.held last.held turns more
-          (lines_part amount rules (point from []) to turns serves) (parted amount) (handed_append turns more);
+      ways = ways_append rules (point from []) to last turns more (ways_of rules (point from []) to turns serves) ways;
     }
-
-    -- lines that hand out nothing, and leave the desk alone
-    path_quiet : (from : S) (to : Point S) (came : List ℕ) (turns more : List Turn) (bytes text : List ℕ)
-        → Serves rules (point from []) turns to → came ≡ bytes_of turns ++ bytes → StandFirst Over bytes more
-        → answers_of more ≡ text → WaysAlong to.desk more to.desk
-        → ((amount : ℕ → ℕ) → PartsAll amount to.held more to.held) → Path Over from came (answers_of turns ++ text) to
-    path_quiet from to came turns more bytes text serves split stand answers ways parted =
-        path from to came turns more bytes text to serves split stand answers ways
-        (some_more to.held to.held (handed_out more) (some_all to.held)) parted
 
     -- no more of them
     path_none : (from : S) (to : Point S) (came : List ℕ) (turns : List Turn) (bytes : List ℕ)
@@ -167,7 +117,7 @@ module _ {S : Type 0} (rules : DeskRules S) where
         → Path Over from came (answers_of turns) to
     path_none from to came turns bytes serves split =
         subst (λ text. Path Over from came text to) (append-nil (answers_of turns))
-        (path_quiet from to came turns [] bytes [] serves split tt refl refl (λ amount. omega arith))
+        (path from to came turns [] bytes [] to serves split tt refl refl)
 
     -- a line that begins the bytes
     begins_stand : (bytes : List ℕ) (reading : Result Request LineFault) (replies : List LineReply)
@@ -186,32 +136,19 @@ module _ {S : Type 0} (rules : DeskRules S) where
         let stand = begins_stand bytes reading replies begins in
         let turn : Turn = record { raw = stand.0; reading = reading; replies = replies } in
         path from to came turns (turn ∷ []) bytes (texts_of replies) last serves split stand.1 (answers_one turn)
-        (last.desk, way_of rules reading to last replies is_turn, refl)
-        (subst (λ all. AreSomeOf last.held (to.held ++ all)) (sym (append-nil (handed_by replies)))
-        (holds_turn rules to last reading replies is_turn))
-        (λ amount. one_parts amount to.held last.held turn (line_parts amount rules to last reading replies is_turn))
+        (last, way_of rules reading to last replies is_turn, refl)
 
     -- what stands behind the last line feed
     path_rest : (from : S) (to : Point S) (came : List ℕ) (turns : List Turn) (rest : List ℕ)
         → Serves rules (point from []) turns to → came ≡ bytes_of turns ++ rest → HasNoLineFeed rest → Over
         → Path Over from came (answers_of turns ++ rest_text rest) to
     path_rest from to came turns [] serves split no_line over =
-        path_quiet from to came turns [] [] [] serves split tt refl refl (λ amount. omega arith)
+        path from to came turns [] [] [] to serves split tt refl refl
     path_rest from to came turns (byte ∷ rest) serves split no_line over =
         let turn : Turn = record { raw = byte ∷ rest; reading = Err Line; replies = lines.Err words.Line ∷ [] } in
-        path_quiet from to came turns (turn ∷ []) (byte ∷ rest) (text_of (lines.Err words.Line)) serves split
-        (inr (over, refl, omega arith, no_line, refl, refl))
-        (answers_one turn ∙ texts_one (lines.Err words.Line)) (
-          to.desk,
-          inl (record {
-            line = lines.Err words.Line;
-            is = refl;
-            none = tt;
-            same = refl;
-            stands = λ moment. refl;
-          }),
-          refl,
-        ) (λ amount. omega arith)
+        path from to came turns (turn ∷ []) (byte ∷ rest) (text_of (lines.Err words.Line)) to serves split
+        (inr (over, refl, omega arith, no_line, refl, refl)) (answers_one turn ∙ texts_one (lines.Err words.Line))
+        (to, alone rules (Err Line) (lines.Err words.Line) tt tt (λ moment. refl) to to turn.replies (refl, refl), refl)
 
     -- all was sent
     ends_whole : (from : S) (served : Served) (ended : Result Ended SessionFault) (to : S) (last : Point S) (lost : ℕ)
@@ -239,8 +176,6 @@ module _ {S : Type 0} (rules : DeskRules S) where
         stand = tt;
         answers = sym silent ∙ sym (append-nil served.sent);
         ways = refl;
-        handed = tt;
-        parted = λ amount. omega arith;
       };
       lost = 0;
       lost_is = refl;
@@ -262,92 +197,30 @@ module _ {S : Type 0} (rules : DeskRules S) where
       → MayGet ask fault × (mine new ≡ mine old))
       (stays : (old new : S) (moment : ℕ) (result : Option ℕ) → rules.Sets old moment result new
       → mine new ≡ mine old) where
-    ways_make : (old new : S) (turns : List Turn) → WaysAlong old turns new
-        → (made : List Made) × (mine new ≡ mine old ++ made) × AreOfLines turns made
-    ways_make old new [] same = ([], ap mine same ∙ sym (append-nil (mine old)), refl)
-    ways_make old new (turn ∷ turns) (between, way, rest) =
-        let here = of_way rules mine makes refuses stays turn.reading turn.replies old between way in
-        let more = ways_make between new turns rest in (
-          here.0 ++ more.0,
-          more.1 ∙ ap (λ (m : List Made). m ++ more.0) here.1 ∙ append_assoc (mine old) here.0 more.0,
-          (here.0, more.0, refl, here.2, more.2),
-        )
-
-    -- each job that was held was offered again, had had its last attempt, or was lost
-    closing_counted : (from to : S) (held : List Element) (lost : ℕ) → Closes rules from held lost to
-        → (made : List Made) × (mine to ≡ mine from ++ made)
-        × (length held ≡ length made + spent_count rules.policy held + lost)
-    closing_counted from to [] lost (zero, same) =
-        ([], ap mine same ∙ sym (append-nil (mine from)), omega (arith, zero))
-    closing_counted from to (element ∷ held) lost (now, is_now, result, between, fails, fewer, rest, sum) =
-        behind result fails sum (closing_counted between to held fewer rest)
-      where
-        all_spent : spent_count rules.policy (element ∷ held)
-            ≡ bit (nat_le rules.policy.attempts element.attempt) + spent_count rules.policy held
-        all_spent = sum_by-cons (λ (e : Element). bit (nat_le rules.policy.attempts e.attempt)) element held
-
-        not_spent : element.attempt < rules.policy.attempts → bit (nat_le rules.policy.attempts element.attempt) ≡ 0
-        not_spent fewer = ap bit (test_fails fewer)
-          where
-            test_fails : element.attempt < rules.policy.attempts → nat_le rules.policy.attempts element.attempt ≡ false
-            test_fails h = grind (arith, nat_tests, h)
-
-        is_spent : rules.policy.attempts ≤ element.attempt → bit (nat_le rules.policy.attempts element.attempt) ≡ 1
-        is_spent enough = ap bit (test_passes enough)
-          where
-            test_passes : rules.policy.attempts ≤ element.attempt → nat_le rules.policy.attempts element.attempt ≡ true
-            test_passes h = grind (arith, nat_tests, h)
-
-        behind : (result : Result Verdict (Element × CallFault)) → FailsTo rules element now from result between
-            → lost ≡ lost_by result + fewer
-            → (made : List Made) × (mine to ≡ mine between ++ made)
-            × (length held ≡ length made + spent_count rules.policy held + fewer)
-            → (made : List Made) × (mine to ≡ mine from ++ made)
-            × (length (element ∷ held) ≡ length made + spent_count rules.policy (element ∷ held) + lost)
-        behind (Ok (Again again)) (draft, retry, steps) sum (made, is, count) =
-            let call = makes from between now (asks.Offer draft) (Offered again) steps in
-            let first : Made = record { event = call.event; reply = Some (Offered again) } in (
-              first ∷ made,
-              is ∙ ap (λ (m : List Made). m ++ made) call.grows ∙ append_assoc (mine from) (first ∷ []) made,
-              omega (arith, count, sum, all_spent, not_spent retry.0),
-            )
-        behind (Ok (Dead dead)) (retry, is_dead, same) sum (made, is, count) = (
-          made,
-          is ∙ ap (λ (m : List Made). m ++ made) (ap mine same),
-          omega (arith, count, sum, all_spent, is_spent retry),
-        )
-        behind (Err (back, fault)) (draft, retry, steps, is_back) sum (made, is, count) = (
-          made,
-          is ∙ ap (λ (m : List Made). m ++ made)
-              (refuses from between now (asks.Offer draft) (fault_of fault) steps).1,
-          omega (arith, count, sum, all_spent, not_spent retry.0),
-        )
-
     pub made_by_ends : (Over : Type 0) (from to : S) (served : Served) → (run : Ends Over from served served.ended to)
         → (made : MadeByRun rules.policy Over served (λ made. mine to ≡ mine from ++ made))
         × (made.lines ≡ run.path.lines)
     made_by_ends Over from to served run =
-        let by_lines = ways_make from run.last.desk run.path.lines run.path.ways in
-        let by_closing =
-        makes_by_closing rules mine makes refuses stays run.last.desk to run.last.held run.lost run.closes in
-        let counted = closing_counted run.last.desk to run.last.held run.lost run.closes in
-        let same = append_cancel_left (mine run.last.desk) counted.0 by_closing.0 (sym counted.1 ∙ by_closing.1) in (
+        let (by_lines, grows, of_lines) =
+        ways_make rules mine makes refuses stays (point from []) run.last run.path.lines run.path.ways in
+        let (by_closing, grows_more, lost, many, of_closing) =
+        makes_by_closing rules mine makes refuses stays run.last.desk to run.last.held run.lost run.closes in (
           record {
             lines = run.path.lines;
             stand = run.path.stand;
             unsent = run.unsent;
             answers = run.path.answers;
             all_sent = run.all_sent;
-            by_lines = by_lines.0;
-            of_lines = by_lines.2;
+            by_lines = by_lines;
             held = run.last.held;
-            handed = run.path.handed;
-            parted = λ amount. omega (arith, run.path.parted amount);
-            by_closing = by_closing.0;
-            of_closing = by_closing.2;
-            closed = omega (arith, counted.2, ap length same, run.lost_is);
-            grows = by_closing.1 ∙ ap (λ (m : List Made). m ++ by_closing.0) by_lines.1
-                ∙ append_assoc (mine from) by_lines.0 by_closing.0;
+            handed = ways_hold rules (point from []) run.last run.path.lines run.path.ways;
+            of_lines = of_lines;
+            by_closing = by_closing;
+            lost = lost;
+            of_closing = of_closing;
+            lost_count = many ∙ run.lost_is;
+            grows = grows_more ∙ ap (λ (m : List Made). m ++ by_closing) grows
+                ∙ append_assoc (mine from) by_lines by_closing;
           },
           refl,
         )
@@ -358,15 +231,18 @@ module _ {S : Type 0} (rules : DeskRules S) where
       → rules.Steps old asked ask answer new → part new ≡ part old)
       (by_setting : (old new : S) (moment : ℕ) (result : Option ℕ) → rules.Sets old moment result new
       → part new ≡ part old) where
-    way_keeps : (reading : Result Request LineFault) (replies : List LineReply) (old new : S)
-        → Way rules reading replies old new → part new ≡ part old
-    way_keeps reading replies old new (inl leaves) = ap part leaves.same
-    way_keeps reading replies old new (inr (inl calls)) =
-        by_step old new calls.handed calls.ask calls.answer calls.steps
-    way_keeps reading replies old new (inr (inr sets)) = by_setting old new sets.moment sets.result sets.sets
+    way_keeps : (reading : Result Request LineFault) (replies : List LineReply) (old new : Point S)
+        → Way rules reading replies old new → part new.desk ≡ part old.desk
+    way_keeps reading replies old new (did_nothing nothing) = ap (λ (p : Point S). part p.desk) nothing.same
+    way_keeps reading replies old new (did_end end) = ap part end.same
+    way_keeps reading replies old new (did_call call) =
+        by_step old.desk new.desk call.handed call.ask call.answer call.steps
+    way_keeps reading replies old new (did_retry retry) =
+        by_step old.desk new.desk retry.now (asks.Offer retry.draft) (offer_answer retry.result) retry.steps
+    way_keeps reading replies old new (did_set set) = by_setting old.desk new.desk set.moment set.result set.sets
 
-    ways_keep : (old new : S) (turns : List Turn) → WaysAlong old turns new → part new ≡ part old
-    ways_keep old new [] same = ap part same
+    ways_keep : (old new : Point S) (turns : List Turn) → WaysAlong rules old turns new → part new.desk ≡ part old.desk
+    ways_keep old new [] same = ap (λ (p : Point S). part p.desk) same
     ways_keep old new (turn ∷ turns) (between, way, rest) =
         ways_keep between new turns rest ∙ way_keeps turn.reading turn.replies old between way
 
@@ -386,7 +262,7 @@ module _ {S : Type 0} (rules : DeskRules S) where
         → Ends Over from served ended to → part to ≡ part from
     run_keeps {from = from} {to = to} run =
         closes_keep run.last.desk to run.last.held run.lost run.closes
-        ∙ ways_keep from run.last.desk run.path.lines run.path.ways
+        ∙ ways_keep (point from []) run.last run.path.lines run.path.ways
 
 module _ {S : Type 0} (rules : SessionRules S) (Over : Type 0) (from : S) where
   path_to_quit : (to : Point S) (came sent : List ℕ) → ServesToQuit rules (point from []) came sent to
@@ -394,13 +270,13 @@ module _ {S : Type 0} (rules : SessionRules S) (Over : Type 0) (from : S) where
   path_to_quit to came sent quits =
       let turn : Turn = record { raw = quits.raw; reading = Ok requests.Quit; replies = lines.Bye ∷ [] } in
       subst (λ text. Path rules.desk Over from came text to) (sym quits.answers)
-      (path_quiet rules.desk Over from to came quits.turns (turn ∷ []) (quits.raw ++ LINE_FEED ∷ quits.unserved)
-      (text_of lines.Bye) quits.serves quits.split (inl (quits.unserved, refl, quits.quit, tt))
+      (path rules.desk Over from to came quits.turns (turn ∷ []) (quits.raw ++ LINE_FEED ∷ quits.unserved)
+      (text_of lines.Bye) to quits.serves quits.split (inl (quits.unserved, refl, quits.quit, tt))
       (answers_one turn ∙ texts_one lines.Bye) (
-        to.desk,
-        inl (record { line = lines.Bye; is = refl; none = tt; same = refl; stands = λ moment. refl }),
+        to,
+        alone rules.desk (Ok requests.Quit) lines.Bye tt tt (λ moment. refl) to to turn.replies (refl, refl),
         refl,
-      ) (λ amount. omega arith))
+      ))
 
   path_to_end : (to : Point S) (came sent : List ℕ) → ServesToEnd rules Over (point from []) came sent to
       → Path rules.desk Over from came sent to
@@ -491,13 +367,13 @@ grows_so implies run = (
     answers = run.answers;
     all_sent = run.all_sent;
     by_lines = run.by_lines;
-    of_lines = run.of_lines;
     held = run.held;
     handed = run.handed;
-    parted = run.parted;
+    of_lines = run.of_lines;
     by_closing = run.by_closing;
+    lost = run.lost;
     of_closing = run.of_closing;
-    closed = run.closed;
+    lost_count = run.lost_count;
     grows = implies (run.by_lines ++ run.by_closing) run.grows;
   },
   refl,
@@ -516,9 +392,9 @@ step_opening : (old new : KeptState) (handed : ℕ) (ask : Ask) (result : Result
 step_opening old new handed ask result steps = same_opening old.log new.log _ steps.outcome steps.steps
 
 -- along these lines the clock comes to the latest moment
-ways_moment : (policy : Policy) (old new : KeptState) (turns : List Turn) → WaysAlong (kept_rules policy) old turns new
-    → new.moment ≡ latest old.moment turns
-ways_moment policy old new [] same = ap (λ (s : KeptState). s.moment) same
+ways_moment : (policy : Policy) (old new : Point KeptState) (turns : List Turn)
+    → WaysAlong (kept_rules policy) old turns new → new.desk.moment ≡ latest old.desk.moment turns
+ways_moment policy old new [] same = ap (λ (p : Point KeptState). p.desk.moment) same
 ways_moment policy old new (turn ∷ turns) (between, way, rest) =
     ways_moment policy between new turns rest
     ∙ ap (λ (m : ℕ). latest m turns) (moment_of policy turn.reading turn.replies old between way)
@@ -531,7 +407,7 @@ records_by_run contents policy got delivery rest from to served ran =
     let made = made_by_ends desk whole_mine makes_whole refuses_whole stays_whole (IsAtEnd rest) from to served run in (
       made.0,
       closing_moment policy run.last.desk to run.last.held run.lost run.closes
-          ∙ ways_moment policy from run.last.desk run.path.lines run.path.ways
+          ∙ ways_moment policy (point from []) run.last run.path.lines run.path.ways
           ∙ ap (latest from.moment) (sym made.1),
       run_keeps desk (λ (state : KeptState). state.log.opening) step_opening
           (λ old new moment result sets. ap (λ (state : KeptState). state.log.opening) sets.1) run,

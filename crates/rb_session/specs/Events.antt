@@ -1,6 +1,7 @@
 -- Which events a session makes at its desk: at most one for each line, and each has the reply that the line got.
-use Rattle.std.specs.Prelude.{◌≡◌, ℕ, ◌+◌, ◌≤◌, ◌⊎◌, max, List, [], ◌∷◌, ◌++◌, Option, Some, Result, Ok}
+use Rattle.std.specs.Prelude.{◌≡◌, ℕ, ◌+◌, ◌<◌, ◌≤◌, ◌⊎◌, max, sum_by, List, [], ◌∷◌, ◌++◌, length, Option, Some, Result, Ok}
 use Rattle.rb_delayed.specs.declared.element.Element.{Element}
+use Rattle.rb_queue.specs.Opening.{ids_of}
 use Rattle.rb_queue.specs.declared.ask.Ask.{Ask}
 use Rattle.rb_queue.specs.declared.ask.Ask.TheVariants as asks
 use Rattle.rb_queue.specs.declared.reply.Reply.{Reply}
@@ -18,6 +19,7 @@ use Rattle.rb_protocol.specs.declared.line_fault.LineFault.{LineFault}
 use Rattle.rb_protocol.specs.declared.line_reply.LineReply.{LineReply}
 use Rattle.rb_protocol.specs.declared.line_reply.LineReply.TheVariants as lines
 use Rattle.rb_session.specs.Held.{AreHeldOnce}
+use Rattle.rb_session.specs.JobEnds.{AreSpent, done_in, dead_in, handed_out}
 use Rattle.rb_session.specs.Turn.{Point, IsFirstDraft, lines_for}
 use Rattle.rb_session.specs.Session.{Turn, Serves}
 use Rattle.rb_session.specs.Closing.{Closes}
@@ -37,24 +39,39 @@ IsAskOf requests.Size asks.Size = Unit {0}
 IsAskOf (requests.Fail id) (asks.Offer draft) = (origin : ℕ) × (draft.origin ≡ Some origin)
 IsAskOf _ _ = ⊥
 
--- the lines that a request got tell of an event with this reply
-abbrev pub TellsOf : Request → Reply → List LineReply → Type 0
-TellsOf (requests.Fail id) (Offered again) replies = replies ≡ lines.Again again.id again.expiry ∷ []
-TellsOf (requests.Fail id) _ replies = ⊥
-TellsOf _ reply replies = replies ≡ lines_for (Ok reply)
+-- the element is of that one's job, one attempt later
+abbrev pub IsNextOf : Element → Element → Type 0
+IsNextOf element again = (again.origin ≡ element.origin) × (again.attempt ≡ element.attempt + 1)
+    × (again.payload ≡ element.payload)
 
--- the line tells of no event
-abbrev pub TellsOfNone : LineReply → Type 0
-TellsOfNone (lines.Err word) = Unit {0}
-TellsOfNone lines.Stopped = Unit {0}
-TellsOfNone (lines.Now moment) = Unit {0}
-TellsOfNone (lines.Done id) = Unit {0}
-TellsOfNone (lines.Dead id) = Unit {0}
-TellsOfNone lines.Bye = Unit {0}
-TellsOfNone _ = ⊥
+-- an element that is offered begins a job, whose origin it is
+abbrev pub BeginsOne : Reply → Type 0
+BeginsOne (Offered element) =
+    (element.origin ≡ element.id) × (element.first ≡ element.expiry) × (element.attempt ≡ 1)
+BeginsOne _ = Unit {0}
+
+-- The lines that a request got tell of an event with this reply, and these elements failed: of a failure the one that it
+-- names, whose next attempt was offered, and otherwise none.
+abbrev pub TellsOf : Request → Reply → List LineReply → List Element → Type 0
+TellsOf (requests.Fail id) (Offered again) replies failed =
+    (element : Element) × (failed ≡ element ∷ []) × (element.id ≡ id) × IsNextOf element again
+    × (replies ≡ lines.Again again.id again.expiry ∷ [])
+TellsOf (requests.Fail id) _ replies failed = ⊥
+TellsOf _ reply replies failed = (failed ≡ []) × BeginsOne reply × (replies ≡ lines_for (Ok reply))
+
+-- the line answers what was read, and tells of no event
+abbrev pub TellsOfNone : LineReply → Result Request LineFault → Type 0
+TellsOfNone (lines.Err word) reading = Unit {0}
+TellsOfNone lines.Stopped reading = Unit {0}
+TellsOfNone (lines.Now moment) (Ok (requests.At set)) = Unit {0}
+TellsOfNone (lines.Done id) (Ok (requests.Done done)) = id ≡ done
+TellsOfNone (lines.Dead id) (Ok (requests.Fail failed)) = id ≡ failed
+TellsOfNone lines.Bye (Ok requests.Quit) = Unit {0}
+TellsOfNone _ _ = ⊥
 
 -- One event was made by a line: it is of what the line's request asks, and the line's replies tell of it.
-pub record IsOfLine (reading : Result Request LineFault) (replies : List LineReply) (made : Made) : Type 0 where
+pub record IsOfLine (reading : Result Request LineFault) (replies : List LineReply) (made : Made) (failed : List Element)
+    : Type 0 where
   pub request : Request
   pub read : reading ≡ Ok request
   pub ask : Ask
@@ -62,32 +79,49 @@ pub record IsOfLine (reading : Result Request LineFault) (replies : List LineRep
   pub act : IsActOf ask made.event.act
   pub reply : Reply
   pub replied : made.reply ≡ Some reply
-  pub tells : TellsOf request reply replies
+  pub tells : TellsOf request reply replies failed
 
--- what a line made: an event of which its replies tell, or none, and then they tell of none
-abbrev pub AreOfLine : Result Request LineFault → List LineReply → List Made → Type 0
-AreOfLine reading replies [] = (line : LineReply) × (replies ≡ line ∷ []) × TellsOfNone line
-AreOfLine reading replies (made ∷ []) = IsOfLine reading replies made
-AreOfLine reading replies _ = ⊥
+-- what a line made: an event of which its replies tell, or none, and then they tell of none; and which elements failed
+abbrev pub AreOfLine : Result Request LineFault → List LineReply → List Made → List Element → Type 0
+AreOfLine reading replies [] failed =
+    (failed ≡ []) × (line : LineReply) × (replies ≡ line ∷ []) × TellsOfNone line reading
+AreOfLine reading replies (made ∷ []) failed = IsOfLine reading replies made failed
+AreOfLine reading replies _ failed = ⊥
 
--- what these lines made, one after the other
-abbrev pub AreOfLines : List Turn → List Made → Type 0
-AreOfLines [] made = made ≡ []
-AreOfLines (turn ∷ turns) made =
+-- what these lines made, one after the other, and which elements failed
+abbrev pub AreOfLines : List Turn → List Made → List Element → Type 0
+AreOfLines [] made failed = (made ≡ []) × (failed ≡ [])
+AreOfLines (turn ∷ turns) made failed =
     (here : List Made) × (more : List Made) × (made ≡ here ++ more)
-    × AreOfLine turn.reading turn.replies here × AreOfLines turns more
+    × (first : List Element) × (others : List Element) × (failed ≡ first ++ others)
+    × AreOfLine turn.reading turn.replies here first × AreOfLines turns more others
 
--- an offer that came of a job that was held: of the same origin, one attempt later
-abbrev pub IsNextOf : Element → Made → Type 0
-IsNextOf element made = (again : Element) × (made.reply ≡ Some (Offered again))
-    × (again.origin ≡ element.origin) × (again.attempt ≡ element.attempt + 1) × (again.payload ≡ element.payload)
+-- What some lines did, from the jobs that were held before them to those that are held behind them. Each made one event,
+-- of which its replies tell, or none. Each job that was held or was handed out is held behind them, or one line says that
+-- it is done, is dead after its last attempt, or failed and was offered again: however much each element counts.
+pub record IsOfLines (policy : Policy) (before : List Element) (turns : List Turn) (made : List Made) (after : List Element)
+    : Type 0 where
+  pub failed : List Element
+  pub events : AreOfLines turns made failed
+  pub done : List Element
+  pub done_ids : ids_of done ≡ done_in turns
+  pub dead : List Element
+  pub dead_ids : ids_of dead ≡ dead_in turns
+  pub spent : AreSpent policy dead
+  pub parted : (amount : Element → ℕ) → sum_by amount before + sum_by amount (handed_out turns)
+      ≡ sum_by amount done + sum_by amount dead + sum_by amount failed + sum_by amount after
 
--- what the failures of these held jobs made: of each one offer at most, in their order
-abbrev pub AreOfClosing : List Element → List Made → Type 0
-AreOfClosing [] made = made ≡ []
-AreOfClosing (element ∷ held) made =
-    AreOfClosing held made
-    ⊎ ((first : Made) × (more : List Made) × (made ≡ first ∷ more) × IsNextOf element first × AreOfClosing held more)
+-- What these held jobs made as a session ended, in their order, and which were lost: each had had its last attempt, or
+-- made the offer of its next one, or was lost.
+abbrev pub AreOfClosing : Policy → List Element → List Made → List Element → Type 0
+AreOfClosing policy [] made lost = (made ≡ []) × (lost ≡ [])
+AreOfClosing policy (element ∷ held) made lost =
+    ((policy.attempts ≤ element.attempt) × AreOfClosing policy held made lost)
+    ⊎ (((again : Element) × (first : Made) × (more : List Made) × (made ≡ first ∷ more)
+    × (first.reply ≡ Some (Offered again)) × IsNextOf element again
+    × (element.attempt < policy.attempts) × AreOfClosing policy held more lost)
+    ⊎ ((more : List Element) × (lost ≡ element ∷ more)
+    × (element.attempt < policy.attempts) × AreOfClosing policy held made more))
 
 -- the moment after a line of a desk whose clock stands still until it is set
 abbrev pub moment_after : ℕ → Result Request LineFault → ℕ
@@ -105,14 +139,16 @@ module _ {D : Type 0} (words : Desk.Ghosts D) where
   MakesByLines =
       (policy : Policy) (from to : Point words.State) (turns : List Turn)
       → Serves (desk_rules words policy) from turns to
-      → (made : List Made) × (words.mine to.desk ≡ words.mine from.desk ++ made) × AreOfLines turns made
+      → (made : List Made) × (words.mine to.desk ≡ words.mine from.desk ++ made)
+      × IsOfLines policy from.held turns made to.held
 
   -- the law of jobs that are held at the end
   abbrev pub MakesByClosing : Type 0
   MakesByClosing =
       (policy : Policy) (from to : words.State) (held : List Element) (lost : ℕ)
       → Closes (desk_rules words policy) from held lost to
-      → (made : List Made) × (words.mine to ≡ words.mine from ++ made) × AreOfClosing held made
+      → (made : List Made) × (words.mine to ≡ words.mine from ++ made)
+      × (gone : List Element) × (length gone ≡ lost) × AreOfClosing policy held made gone
 
   -- the law of what is held: a session that begins with nothing never holds two jobs of one id
   abbrev pub HoldsOnce : Type 0
@@ -132,7 +168,7 @@ module _ (rules : Policy → DeskRules KeptState) where
   RecordsByLines =
       (policy : Policy) (from to : Point KeptState) (turns : List Turn) → Serves (rules policy) from turns to
       → (made : List Made) × (made_in to.desk.log ≡ made_in from.desk.log ++ made)
-      × AreOfLines turns made × (to.desk.moment ≡ latest from.desk.moment turns)
+      × IsOfLines policy from.held turns made to.held × (to.desk.moment ≡ latest from.desk.moment turns)
 
   -- the law of jobs that are held at the end
   abbrev pub RecordsByClosing : Type 0
@@ -140,4 +176,4 @@ module _ (rules : Policy → DeskRules KeptState) where
       (policy : Policy) (from to : KeptState) (held : List Element) (lost : ℕ)
       → Closes (rules policy) from held lost to
       → (made : List Made) × (made_in to.log ≡ made_in from.log ++ made)
-      × AreOfClosing held made × (to.moment ≡ from.moment)
+      × (gone : List Element) × (length gone ≡ lost) × AreOfClosing policy held made gone × (to.moment ≡ from.moment)

@@ -23,7 +23,8 @@ pub fn sent_last()
 
 /// What a session makes at a desk of any kind, in order: at most one event for each line that is
 /// served, of which the line's replies tell, and at the end at most one for each job that is still
-/// held.
+/// held. Each job that it holds or is given is held on, or one line says that it is done, is dead, or
+/// is offered again; at the end it is dead, is offered again, or is lost.
 pub fn events_of_session<D: Desk>()
     ensures lines { MakesByLines D.Desk }
     ensures closing { MakesByClosing D.Desk }
