@@ -19,7 +19,7 @@ class Cited(RoomTest):
         self.assertEqual({*names}, {it.name for it in found} | libraries)
 
     def test_cited(self) -> None:
-        for folder in folders(Path(__file__).with_name("crates.txt"), "cited"):
+        for folder in folders(Path(__file__).with_name("sources.txt"), "cited"):
             top = folder.make(self)
             for told in folder.told["cites"]:
                 with self.subTest(folder=folder.name, cites=told):

@@ -15,7 +15,7 @@ def definitions(word: str, folder: object = TOP) -> subprocess.CompletedProcess[
 
 class Command(RoomTest):
     def test_words(self) -> None:
-        for folder in folders(Path(__file__).with_name("crates.txt"), "printed"):
+        for folder in folders(Path(__file__).with_name("sources.txt"), "printed"):
             top, told = folder.make(self), folder.told
             printed, said = ("".join(f"{it}\n" for it in told.get(mark, [])) for mark in ("!", "says"))
             for word in told["call"]:
