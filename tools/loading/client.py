@@ -1,17 +1,21 @@
 """A client that offers elements at its times, and takes jobs in between."""
 from __future__ import annotations
 
-import asyncio
 import math
+import os
 import random
+import socket
 import time
+from contextlib import suppress
 from dataclasses import dataclass
+from fractions import Fraction
+from typing import Callable, Optional
 
 from loading.counts import Counts
-from loading.session import Fault, Session
+from rb_broker_client import Again, Broker, FullError, RefusedError, StoppedError, UnknownReplyError
 
 SECOND = 1_000_000_000  # in nanoseconds
-PAUSE = SECOND // 1000  # after a wait that the server gave up, since it may give up each at once
+PAUSE = 0.001  # seconds after a wait that the server gave up, since it may give up each at once
 
 
 @dataclass(frozen=True)
@@ -36,82 +40,78 @@ class Plan:
 
 
 class Client:
-    """One client of a run, with a session of its own. It settles each job before it asks for the next."""
+    """One client of a run, with a session and a thread of its own. It settles each job before it asks for the next."""
 
-    def __init__(self, number: int, session: Session, plan: Plan, counts: Counts):
-        self.number, self.session, self.plan, self.counts = number, session, plan, counts
+    def __init__(self, number: int, broker: Broker, plan: Plan, counts: Counts):
+        self.number, self.broker, self.plan, self.counts = number, broker, plan, counts
         self.choice = random.Random(number)
+        self.waited: Optional[int] = None  # nanoseconds until a worker served it, once one does
+        self._is_given_up = False
 
-    async def run(self) -> None:
+    def run(self) -> None:
         """Works until the end of the plan or a fault, which is counted."""
         try:
-            await self._work()
-            await self._expect("BYE", "QUIT")
-        except Fault as fault:
-            self.counts.errors[str(fault)] += 1
+            self.broker.await_service()
+            self.waited = time.monotonic_ns() - self.plan.begin
+            self._work()
+            self.broker.quit()
+        except UnknownReplyError as fault:
+            self.counts.add_error(f"{str(fault)[:40]!a} is no reply")
+        except FullError as fault:
+            self.counts.add_error(str(fault))
+        except OSError as fault:
+            self.counts.add_error("no reply at the end" if self._is_given_up else fault.strerror or str(fault))
         finally:
-            self.session.close()
+            self.broker.close()
 
-    async def _work(self) -> None:
+    def give_up(self) -> None:
+        """Ends the wait of the client's thread for a reply."""
+        self._is_given_up = True
+        with suppress(OSError), socket.socket(fileno=os.dup(self.broker.fileno())) as it:
+            it.shutdown(socket.SHUT_RDWR)
+
+    def _work(self) -> None:
         """Offers what is due, and asks for jobs until the next offer is due. It asks once even if that offer is late
-        already, so that the queue does not only grow. Its first request does not wait, so that a late reply to it
-        shows that the server had no worker."""
+        already, so that the queue does not only grow."""
         offers = 0
         while time.monotonic_ns() < self.plan.end:
             due = self.plan.due(self.number, offers)
             if due <= time.monotonic_ns():
-                await self._offer(offers)
+                self._counted(self._offer, offers)
                 offers += 1
                 due = self.plan.due(self.number, offers)
             rest = max(min(due, self.plan.end) - time.monotonic_ns(), 0)
-            await self._take(0 if self.session.waited is None else rest)
+            self._counted(self._take, rest / SECOND)
 
-    async def _offer(self, number: int) -> None:
+    def _counted(self, step: Callable[..., None], *words: float) -> None:
+        """Takes a step. A refusal is counted, but once the run is full no client goes on."""
+        try:
+            step(*words)
+        except FullError:
+            raise
+        except RefusedError as fault:
+            self.counts.add_error(str(fault))
+
+    def _offer(self, number: int) -> None:
         before = time.monotonic_ns()
-        words = await self._expect("OFFERED", f"OFFER {self.plan.delay} load-{self.number}-{number}")
-        if words:
-            self.counts.add_offer(number_in(words, 2) - self.plan.delay, before, time.monotonic_ns())
+        offered = self.broker.offer(f"load-{self.number}-{number}", delay=Fraction(self.plan.delay, SECOND))
+        self.counts.add_offer(offered.expires_at_ns - self.plan.delay, before, time.monotonic_ns())
 
-    async def _take(self, timeout: int) -> None:
+    def _take(self, timeout: float) -> None:
         """Asks for a job, and finishes it or fails it."""
-        words = await self._expect("ITEM NONE STOPPED", f"POLLFOR {timeout}")
-        if words[:1] == ["ITEM"]:
-            self.counts.add_job(number_in(words, 2), time.monotonic_ns())
-            await self._settle(number_in(words, 1))
-        elif words == ["NONE"]:
-            self.counts.calls += 1
-        elif words == ["STOPPED"]:
-            await asyncio.sleep(min(timeout, PAUSE) / SECOND)
-
-    async def _settle(self, job: int) -> None:
-        if self.choice.random() >= self.plan.fail:
-            words = await self._expect("DONE", f"DONE {job}")
-            self.counts.done += bool(words)  # not in one line: other clients count during the wait
+        try:
+            job = self.broker.poll_for(timeout)
+        except StoppedError:
+            time.sleep(min(timeout, PAUSE))
             return
-        words = await self._expect("AGAIN DEAD", f"FAIL {job}")
-        self.counts.failed += bool(words)
-        self.counts.dead += words[:1] == ["DEAD"]
-        if words[:1] == ["AGAIN"]:
-            self.counts.again += 1
-            self.counts.calls += 1
-
-    async def _expect(self, keywords: str, request: str) -> list[str]:
-        """The reply to a request, which begins with one of these words. A refusal is counted, and gives no words. Once
-        the run is full no client goes on."""
-        words = await self.session.ask(request)
-        if words[0] in keywords.split():
-            return words
-        reply = " ".join(words)[:40]
-        if words[0] != "ERR":
-            raise Fault(f"{reply!a} answers {request.split()[0]}")
-        if words[1:] == ["6", "full"]:
-            raise Fault(reply)
-        self.counts.errors[reply] += 1
-        return []
-
-
-def number_in(words: list[str], place: int) -> int:
-    """The number at this place of a reply."""
-    if len(words) <= place or not words[place].isdecimal():
-        raise Fault(f"{' '.join(words)[:40]!a} has no number")
-    return int(words[place])
+        if job is None:
+            self.counts.add(calls=1)
+            return
+        self.counts.add_job(job.expires_at_ns, time.monotonic_ns())
+        if self.choice.random() >= self.plan.fail:
+            self.broker.done(job.id)
+            self.counts.add(done=1)
+        elif isinstance(self.broker.fail(job.id), Again):
+            self.counts.add(failed=1, again=1, calls=1)
+        else:
+            self.counts.add(failed=1, dead=1)

@@ -10,7 +10,8 @@ from loading.tests.support import load
 
 class StrangeServerTest(RoomTest):
     def listen(self, answer: bytes | None) -> int:
-        """A port at which the first request gets this answer and the end of the connection, or no answer at all."""
+        """A port at which the first request gets this answer and the end of the connection, or no answer at all. The
+        first one asks whether a worker serves the client, and is refused."""
         listener = socket.create_server(("127.0.0.1", 0))
         self.addCleanup(listener.close)
 
@@ -33,10 +34,11 @@ class StrangeServerTest(RoomTest):
 
     def test_servers_that_are_no_broker(self):
         for answer, told in [
-            (b"HTTP/1.1 400 Bad Request\r\n", "errors 1: 1 of 'HTTP/1.1 400 Bad Request\\r' answers OFFER"),
-            (b"OFFERED soon\n", "errors 1: 1 of 'OFFERED soon' has no number"),
+            (b"HTTP/1.1 400 Bad Request\r\n", "errors 1: 1 of 'HTTP/1.1 400 Bad Request\\r' is no reply"),
+            (b"ERR 1 syntax\nOFFERED soon\n", "errors 1: 1 of 'OFFERED soon' is no reply"),
             (b"", "errors 1: 1 of the server closed the connection"),
-            (b"x" * 100_000, "errors 1: 1 of a reply line has no end"),
+            (b"ERR 1 syntax\n", "errors 1: 1 of the server closed the connection"),
+            (b"x" * 100_000, f"errors 1: 1 of '{'x' * 40}' is no reply"),
             (None, "errors 1: 1 of no reply at the end"),
         ]:
             with self.subTest(answer=answer):
@@ -50,7 +52,7 @@ class StrangeServerTest(RoomTest):
         with open(path, encoding="ascii") as file:
             told = [json.loads(line) for line in file]
         told = [(it["request"], it["received"], it["reply"]) for it in told]
-        self.assertEqual(told, [("OFFER 0 load-0-0", None, [])])
+        self.assertEqual(told, [("AT 0", None, [])])
 
     def test_a_record_that_can_not_be_written(self):
         status, lines, errors = load("--port", self.listen(None), "--record", self.path("none/load.jsonl"))
