@@ -4,12 +4,12 @@ on a terminal and on a page.
     calls.py, depth.py, lateness.py, jobs.py, retries.py  figures
     findings.py, figures.py                    what looks wrong, and all figures of a history
     columns.py, dates.py, units.py             long series sorted or made short, and numbers as people read them
-    tables.py, terminal.py                     the report as text
-    svg.py, time_axis.py, span_axis.py         the axes of plots, and what else they are drawn with
-    time_plots.py, bar_plots.py                the plots of the page
+    tables.py, report_tables.py                what the terminal and the page show alike
+    terminal.py                                the report as text
+    svg.py, time_axis.py, span_axis.py, time_plots.py  the plots of the page
     lives.py                                   the lives of jobs, as the page has them
-    head.py, page.py, page_parts.py, page.css  the page
-    page.js, lives.js, jobs.js, readings.js, plots.js  what it does in a browser
+    head.py, page.py, page.html, page.css, page.js  the page, and what it does in a browser
+    readings.js                                tells what a plot shows, also on the page of tools/service
 
 The tests are below tests/, with a maker of large histories; `dev/check report` runs them.
 """

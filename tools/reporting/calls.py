@@ -6,7 +6,6 @@ from typing import NamedTuple
 
 from histories import acts
 from histories.history import History
-from reporting.columns import Buckets
 
 MOST_SEATS = 16  # that are told one by one
 
@@ -74,11 +73,3 @@ def seats_of(history: History) -> Seats:
         return Seat(seat, calls[seat], offers, sum(gave) + drained[seat], nothing, others, first, lasts[seat])
 
     return Seats([told(seat) for seat in busiest], len(calls))
-
-
-def calls_over_time(history: History, buckets: Buckets, seats: Seats) -> tuple[dict[int, list[int]], list[int]]:
-    """How many calls each of the busiest seats made in each bucket, and how many all others did."""
-    counts = [Counter(history.events.seats[part]) for part in buckets.slices(history.events.moments)]
-    told = {seat.number: [count[seat.number] for count in counts] for seat in seats.busiest}
-    others = [sum(count.values()) - sum(some) for count, some in zip(counts, zip(*told.values()))]
-    return told, others

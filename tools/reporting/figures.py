@@ -1,8 +1,8 @@
 """All figures of a history, as the terminal and the page show them."""
 from __future__ import annotations
 
-from dataclasses import dataclass
-from typing import Callable
+from array import array
+from typing import Callable, NamedTuple
 
 from histories.history import History
 from reporting.calls import Calls, Seats, calls_of, seats_of
@@ -10,12 +10,11 @@ from reporting.dates import Dates
 from reporting.depth import Depth, depth_of
 from reporting.findings import Finding, findings_of
 from reporting.jobs import Jobs, jobs_of
-from reporting.lateness import Lateness, lateness_of
+from reporting.lateness import lateness_of
 from reporting.retries import Policy, Retries, retries_of
 
 
-@dataclass(frozen=True)
-class Figures:
+class Figures(NamedTuple):
     """A history with its figures, and what the report was told about it."""
 
     name: str
@@ -24,7 +23,7 @@ class Figures:
     dates: Dates | None
     calls: dict[str, Calls]  # by keyword
     depth: Depth
-    lateness: Lateness
+    lateness: array[int]  # of all that was given, in rising order
     jobs: Jobs
     retries: Retries
     seats: Seats
@@ -36,7 +35,7 @@ class Figures:
 
     @property
     def given(self) -> int:
-        return len(self.lateness.rising)
+        return len(self.lateness)
 
 
 def figures_of(

@@ -8,8 +8,10 @@ from array import array
 from collections import Counter
 from typing import Iterable, Iterator, NamedTuple
 
-from histories.acts import GIVES
+from histories.acts import GIVES, KEYWORDS
 from histories.history import NONE, History
+from reporting.dates import Dates
+from reporting.units import number, span
 
 
 class NoJob(Exception):
@@ -89,24 +91,31 @@ def given_events(history: History, rows: Iterable[int]) -> list[tuple[int, int]]
 
 
 class Job(NamedTuple):
-    """What tables tell of a job."""
+    """What tables tell of a job. A number that it does not have is -1."""
 
     origin: int
     payload: str
     elements: int
     given: int
-    latest: int  # how late it was given at most, or -1 if it was not
-    passed: int  # from its first expiry to its last gift, or -1 if it was not given, or before the first expiry
-    left_in: int  # the event in which its last element left, or NONE
+    left_by: str  # the act by which its last element left
+    left_at: int
+    latest: int  # how late it was given at most
+    passed: int  # from its first expiry to its last gift, unless that came before
+
+    def texts(self, dates: Dates | None) -> list[str]:
+        """All but the first two as people read them."""
+        at = "" if self.left_at < 0 else dates.text(self.left_at) if dates else str(self.left_at)
+        spans = ("–" if it < 0 else span(it) for it in (self.latest, self.passed))
+        return [number(self.elements), number(self.given), self.left_by, at, *spans]
 
 
 def told_jobs(history: History, roots: Iterable[int]) -> Iterator[Job]:
     """What is told of these jobs."""
-    elements, moments = history.elements, history.events.moments
+    elements, events = history.elements, history.events
     for root, rows in lives(history, roots).items():
-        given = given_events(history, rows)
-        latest = max((moments[event] - elements.expiries[row] for event, row in given), default=-1)
+        given, left = given_events(history, rows), elements.left_in[rows[-1]]
+        latest = max((events.moments[event] - elements.expiries[row] for event, row in given), default=-1)
         # A text may tell any first expiry, also one that comes after all were given.
-        passed = max(-1, moments[given[-1][0]] - elements.firsts[root]) if given else -1
-        yield Job(elements.origins[root], elements.payload(root), len(rows), len(given), latest, passed,
-                  elements.left_in[rows[-1]])
+        passed = max(-1, events.moments[given[-1][0]] - elements.firsts[root]) if given else -1
+        by, at = ("in the queue", -1) if left == NONE else (KEYWORDS[events.acts[left]], events.moments[left])
+        yield Job(elements.origins[root], elements.payload(root), len(rows), len(given), by, at, latest, passed)

@@ -2,31 +2,29 @@
 from __future__ import annotations
 
 from array import array
-from typing import Iterator, NamedTuple, Sequence
+from typing import Iterator, Sequence
 
 from histories.history import History
 from reporting.columns import Buckets, in_rising_order
 
-
-class Lateness(NamedTuple):
-    """How late the elements of a history were given, in rising order. If none was, the three others are 0."""
-
-    rising: array[int]
-    median: int
-    high: int  # the 99th percentile
-    greatest: int
+# What is told of all, by the share of them that were no later.
+RANKS = {"median": 0.5, "90th percentile": 0.9, "99th percentile": 0.99, "99.9th percentile": 0.999, "greatest": 1.0}
 
 
-def lateness_of(history: History) -> Lateness:
-    """How late each element was that a poll, a take, a timed poll or a drain gave."""
-    rising = in_rising_order(array("Q", (late for _, _, late in history.gifts())))
-    return Lateness(rising, *(rank(rising, share) if rising else 0 for share in (0.5, 0.99, 1.0)))
+def lateness_of(history: History) -> array[int]:
+    """How late each element was that a poll, a take, a timed poll or a drain gave, in rising order."""
+    return in_rising_order(array("Q", (late for _, _, late in history.gifts())))
 
 
 def rank(values: Sequence[int], share: float) -> int:
     """The value of a rising series at which this share of all is reached: of ten values the median is the fifth."""
     place = -int(-share * len(values) // 1)  # rounded up
     return values[max(0, place - 1)]
+
+
+def ranks(rising: Sequence[int]) -> dict[str, int]:
+    """What is told of how late elements were, if any was given."""
+    return {name: rank(rising, share) for name, share in RANKS.items()} if rising else {}
 
 
 def lateness_in(buckets: Buckets, history: History) -> Iterator[list[int]]:

@@ -8,7 +8,6 @@ narrow page has no room are hidden there by their class.
 from __future__ import annotations
 
 import itertools
-from dataclasses import dataclass
 from html import escape
 from typing import Iterable, NamedTuple, Sequence
 
@@ -61,29 +60,21 @@ def count_ticks(scale: Scale) -> list[Tick]:
     return [Tick(scale.at(value), compact(value)) for value in steps_of(int(scale.high), 5)]
 
 
-def _width(words: str) -> float:
-    return DIGIT_WIDTH * len(words) + GAP
-
-
 def fitting(ticks: Sequence[Tick]) -> list[Tick]:
     """The ticks whose labels do not touch, each with the class of the pages that have room for it: of all ticks every
     second, fourth and so on, and more of them where there is more room."""
     chosen: list[Tick] = []
+    widths = {tick.label: DIGIT_WIDTH * len(tick.label) + GAP for tick in ticks}
     distances = sorted(after.place - before.place for before, after in zip(ticks, ticks[1:]))
-    widest = max((_width(tick.label) for tick in ticks), default=0.0)
     for kind, room in ROOMS:
         usual = distances[len(distances) // 2] * room / SHARES if distances else 0.0
-        stride = next(it for it in (2**power for power in range(64)) if it >= len(ticks) or it * usual >= widest)
+        strides = (2**power for power in itertools.count())
+        stride = next(it for it in strides if it >= len(ticks) or it * usual >= max(widths.values()))
         for tick in ticks[::stride]:
-            needed = _width(tick.label) / 2 * SHARES / room
-            if all(abs(tick.place - it.place) >= needed + _width(it.label) / 2 * SHARES / room for it in chosen):
+            if all(abs(tick.place - it.place) * room / SHARES >= (widths[tick.label] + widths[it.label]) / 2
+                   for it in chosen):
                 chosen.append(tick._replace(kind=kind))
     return sorted(chosen)
-
-
-def room_for(words: str, width: float) -> str | None:
-    """The class of the pages on which words have room in a part of a drawing that is so many shares wide, if any."""
-    return next((kind for kind, room in ROOMS if width * room / SHARES >= _width(words) - GAP / 2), None)
 
 
 def share(place: float) -> str:
@@ -99,13 +90,13 @@ def line(kind: str, start: tuple[float | str, float], end: tuple[float | str, fl
     return f'<line class="{kind.strip()}" x1="{start[0]}" y1="{start[1]}" x2="{end[0]}" y2="{end[1]}"/>'
 
 
-def x_axis(ticks: Sequence[Tick], title: str, bottom: float = BOTTOM) -> str:
+def x_axis(ticks: Sequence[Tick], title: str) -> str:
     """The axis at the bottom."""
-    parts = [line("axis", ("0", bottom), ("100%", bottom))]
+    parts = [line("axis", ("0", BOTTOM), ("100%", BOTTOM))]
     for place, label, kind in fitting(ticks):
         at = share(place)
-        parts += [line(f"axis {kind}", (at, bottom), (at, bottom + 5)), text(at, bottom + 18, label, f"x {kind}")]
-    return "".join([*parts, text("50%", bottom + 38, title, "x title")])
+        parts += [line(f"axis {kind}", (at, BOTTOM), (at, BOTTOM + 5)), text(at, BOTTOM + 18, label, f"x {kind}")]
+    return "".join([*parts, text("50%", BOTTOM + 38, title, "x title")])
 
 
 def y_axis(ticks: Iterable[Tick], title: str) -> str:
@@ -124,12 +115,6 @@ def stairs(points: Sequence[Point], x: Scale, y: Scale) -> str:
     return "".join([*path, f"H{x.at(x.high)}"])
 
 
-def bar(place: float, width: float, y: float, kind: str, told: str) -> str:
-    """A bar from the bottom up to `y`, so many shares wide."""
-    mark = f'<rect class="{kind}" x="{share(place)}" y="{y}" width="{share(width)}" height="{round(BOTTOM - y, 1)}">'
-    return f"{mark}<title>{escape(told)}</title></rect>"
-
-
 def line_path(kind: str, path: str) -> str:
     return f'<path class="line {kind}" d="{path}"/>'
 
@@ -140,34 +125,28 @@ def filled(kind: str, points: Sequence[Point], x: Scale, y: Scale) -> str:
     return f'<path class="area {kind}" d="{path}L{x.stop} {y.start}H{x.at(points[0][0])}Z"/>{line_path(kind, path)}'
 
 
-def marks(parts: Iterable[str], height: float = HEIGHT) -> str:
-    """Paths whose places are shares."""
-    return (f'<svg class="marks" viewBox="0 0 {SHARES} {height}" preserveAspectRatio="none" width="100%"'
-            f' height="{height}">{"".join(parts)}</svg>')
-
-
 class Reading(NamedTuple):
-    """What a drawing shows from one place on, in shares, until the next one. Nothing is said of an empty part."""
+    """What a drawing shows from one place on, in shares, until the next one."""
 
     place: float
     says: str
 
 
-@dataclass(frozen=True)
-class Plot:
-    """A drawing with its name, its title, its legend (a mark's class and what it stands for), a caption, what the page
-    says of each place, and what a screen reader is told that it shows."""
+class Plot(NamedTuple):
+    """A drawing with its name, its title, a legend (a mark's class and what it stands for), a caption, and what the
+    page says of each place. The parts have words and lines, the marks are paths whose places are shares."""
 
     name: str
     title: str
-    about: str
     legend: Sequence[tuple[str, str]]
     parts: Sequence[str]
+    marks: Sequence[str]
     caption: str
     readings: Sequence[Reading]
-    height: float = HEIGHT
 
     @property
     def drawing(self) -> str:
-        return (f'<div class="drawing" id="plot-{self.name}"><svg height="{self.height}" role="img"'
-                f' aria-label="{escape(self.about)}">{"".join(self.parts)}</svg></div>')
+        marks = (f'<svg class="marks" viewBox="0 0 {SHARES} {HEIGHT}" preserveAspectRatio="none" width="100%"'
+                 f' height="{HEIGHT}">{"".join(self.marks)}</svg>')
+        return (f'<div class="drawing" id="plot-{self.name}"><svg height="{HEIGHT}" role="img"'
+                f' aria-label="{escape(self.title)}">{"".join(self.parts)}{marks}</svg></div>')

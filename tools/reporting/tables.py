@@ -1,16 +1,30 @@
-"""Tables of plain text: a heading, and rows with aligned columns."""
+"""Tables of texts, and how they look where each letter is as wide as another."""
 from __future__ import annotations
 
-from typing import Iterable, Sequence
+from typing import Iterable, NamedTuple, Sequence
+
+
+class Table(NamedTuple):
+    """A table with its title and the notes below it. The first `left` columns are words, the others numbers. If its
+    rows are jobs, `jobs` is what it is called on a page."""
+
+    title: str
+    heading: Sequence[str]
+    rows: Sequence[Sequence[str]]
+    left: int = 1
+    notes: Sequence[str] = ()
+    jobs: str = ""
+
+    @property
+    def lines(self) -> list[str]:
+        """The table as plain text."""
+        told = table(self.heading, self.rows, self.left) if self.rows else []
+        return [self.title, *told, *(f"  {note}" for note in self.notes)]
 
 
 def table(heading: Sequence[str], rows: Iterable[Sequence[str]], left: int = 1, indent: str = "  ") -> list[str]:
     """The lines of a table. The first `left` columns begin at one edge, the others, which are numbers, end at one."""
-    cells: list[list[str]] = [list(heading), *(list(row) for row in rows)]
+    cells: list[Sequence[str]] = [heading, *rows]
     widths = [max(map(len, column)) for column in zip(*cells)]
-    lines = []
-    for row in cells:
-        padded = [it.ljust(width) if place < left else it.rjust(width)
-                  for place, (it, width) in enumerate(zip(row, widths))]
-        lines.append((indent + "  ".join(padded)).rstrip())
-    return lines
+    return [(indent + "  ".join(it.ljust(width) if place < left else it.rjust(width)
+                                for place, (it, width) in enumerate(zip(row, widths)))).rstrip() for row in cells]

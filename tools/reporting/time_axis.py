@@ -1,4 +1,4 @@
-"""The axis of time that most plots have: from a history's first event to its last, over all its runs."""
+"""The axis of time that all plots have: from a history's first event to its last, over all its runs."""
 from __future__ import annotations
 
 import math
@@ -32,14 +32,14 @@ class TimeAxis:
         self._history, self._dates = history, dates
         self._size, self._unit = unit_of(max(1, history.end - history.start))
 
-    def drawn(self, bottom: float = BOTTOM) -> str:
+    def drawn(self) -> str:
         """The axis, and a line where each further run begins."""
         places = [svg.share(self.scale.at(run.opened_at)) for run in self._history.runs[1:]]
-        runs = "".join(svg.line("run", (at, TOP), (at, bottom)) for at in places)
+        runs = "".join(svg.line("run", (at, TOP), (at, BOTTOM)) for at in places)
         if self._dates is None:
-            return svg.x_axis(self._ticks(), f"time since the first event ({self._unit})", bottom) + runs
+            return svg.x_axis(self._ticks(), f"time since the first event ({self._unit})") + runs
         title = f"UTC, from {self._dates.text(self._history.start, 0)} on"
-        return svg.x_axis(self._date_ticks(self._dates), title, bottom) + runs
+        return svg.x_axis(self._date_ticks(self._dates), title) + runs
 
     def told(self, moment: int, width: float) -> str:
         """A moment, as exactly as a stretch of time of this width needs it."""

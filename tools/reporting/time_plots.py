@@ -1,4 +1,4 @@
-"""The plots over time: the depth of the queue, rates, lateness, and the calls of each seat."""
+"""The plots, all over time: the depth of the queue, rates, and lateness."""
 from __future__ import annotations
 
 import math
@@ -9,12 +9,11 @@ from typing import Iterator, NamedTuple, Sequence
 from histories.acts import OFFER
 from histories.history import History
 from reporting import svg
-from reporting.calls import calls_over_time
 from reporting.columns import Buckets, thinned
 from reporting.figures import Figures
 from reporting.lateness import lateness_in, rank
 from reporting.span_axis import SpanAxis
-from reporting.svg import TOP, Plot, Scale
+from reporting.svg import Plot
 from reporting.time_axis import TimeAxis
 from reporting.units import SECOND, counted, number, span
 
@@ -24,8 +23,6 @@ MOST_BUCKETS, MOST_DEEP = 180, 400  # and those of the depth
 PACES = ((SECOND, "second"), (1_000_000, "millisecond"), (1_000, "microsecond"), (1, "nanosecond"))
 
 LEAST_DASH = 2.0  # shares
-ROW_HEIGHT = 34
-MOST_DIGITS = 5  # of a seat's number beside its row
 
 
 def depth_plot(figures: Figures) -> Plot:
@@ -39,12 +36,12 @@ def depth_plot(figures: Figures) -> Plot:
     if len(depth.moments) > 4 * len(buckets):
         caption += (f" Of each {span(round(buckets.width))} the first, the least, the greatest and the last value are"
                     " drawn, so that no peak is lost.")
-    areas = [svg.filled(kind, some, axis.scale, y) for kind, some in points.items()]
     ranges = zip(*(_ranges(depth.moments, values, buckets) for values in series.values()))
     return Plot(
-        name="depth", title="Depth of the queue", about="depth over time", caption=caption,
+        name="depth", title="Depth of the queue", caption=caption,
         legend=(("standing", "in the queue"), ("expired", "of these expired, and not given yet")),
-        parts=[svg.y_axis(svg.count_ticks(y), "elements"), svg.marks(areas), axis.drawn()],
+        parts=[svg.y_axis(svg.count_ticks(y), "elements"), axis.drawn()],
+        marks=[svg.filled(kind, some, axis.scale, y) for kind, some in points.items()],
         readings=axis.readings((f"{standing} in the queue", f"{expired} of these expired")
                                for standing, expired in ranges))
 
@@ -90,9 +87,8 @@ def rates_plot(figures: Figures) -> Plot:
     total = [counted(sum(some), noun) for some, noun in zip(counts, ("offer", "gift", "return"))]
     return Plot(
         name="rates", title=f"Offers, gifts and returns a {name}",
-        about=f"offers, gifts and returns a {name} over time",
         legend=(("offers", "offers (first attempts)"), ("gifts", "gifts"), ("returns", "returns (later attempts)")),
-        parts=[svg.y_axis(svg.count_ticks(y), f"a {name}"), svg.marks(lines), axis.drawn()],
+        parts=[svg.y_axis(svg.count_ticks(y), f"a {name}"), axis.drawn()], marks=lines,
         caption=f"{counted(len(lines), 'line')} of {counted(len(buckets), 'point')}: what happened in each"
                 f" {span(round(buckets.width))}. In all {total[0]}, {total[1]} and {total[2]}.",
         readings=axis.readings(
@@ -119,7 +115,7 @@ def lateness_plot(figures: Figures) -> Plot:
     buckets = axis.buckets
     found = [Late(len(it), rank(it, 0.5), it[-1]) if it else None for it in lateness_in(buckets, figures.history)]
     some = [it for it in found if it]
-    y = SpanAxis(min((it.median for it in some), default=0), lateness.greatest)
+    y = SpanAxis(min((it.median for it in some), default=0), max((it.greatest for it in some), default=0))
     places = [axis.scale.at(edge) for edge in buckets.edges]
     paths = []
     for kind in ("greatest", "median"):
@@ -127,9 +123,9 @@ def lateness_plot(figures: Figures) -> Plot:
                   for low, high, it in zip(places, places[1:], found) if it]
         paths.append(f'<path class="dash {kind}" d="{"".join(dashes)}"/>')
     return Plot(
-        name="lateness", title="Lateness over time", about="lateness over time",
+        name="lateness", title="Lateness over time",
         legend=(("median", "median"), ("greatest", "greatest")),
-        parts=[svg.y_axis(y.ticks(), "lateness"), svg.marks(paths), axis.drawn()],
+        parts=[svg.y_axis(y.ticks(), "lateness"), axis.drawn()], marks=paths,
         caption=f"{counted(len(some), 'median')} and as many greatest values, of {counted(figures.given, 'gift')}: one"
                 f" of each {span(round(buckets.width))} in which something was given. Equal steps are equal ratios.",
         readings=axis.readings(map(_late, found)))
@@ -139,38 +135,3 @@ def _late(late: Late | None) -> Sequence[str]:
     if late is None:
         return ("nothing was given",)
     return f"median {span(late.median)}", f"greatest {span(late.greatest)}", f"of {counted(late.gifts, 'gift')}"
-
-
-def seats_plot(figures: Figures) -> Plot:
-    """The calls of each seat over time, one below the other, all at one scale."""
-    axis = TimeAxis(figures.history, figures.dates, MOST_BUCKETS)
-    rows = _seat_rows(figures, axis.buckets)
-    most = max([1, *(max(counts) for _, counts in rows)])
-    bottom, paths, labels = TOP, [], []
-    for name, counts in rows:
-        y = Scale(0, most, bottom + ROW_HEIGHT - 4, bottom)
-        paths.append(svg.filled("seat", list(zip(axis.buckets.edges, counts)), axis.scale, y))
-        labels.append(svg.text(-8, y.start - 8, name, "y"))
-        bottom += ROW_HEIGHT
-    height = bottom + 48
-    told = ([f"{name}: {counted(counts[place], 'call')}" for name, counts in rows]
-            for place in range(len(axis.buckets)))
-    return Plot(
-        name="seats", title="Calls of each seat", about="calls of each seat over time", legend=(("seat", "calls"),),
-        parts=[*labels, svg.marks(paths, height), axis.drawn(bottom)],
-        caption=f"{counted(len(rows), 'row')} of {counted(len(axis.buckets), 'point')}: the calls in each"
-                f" {span(round(axis.buckets.width))}. The height of a row is {counted(most, 'call')}.",
-        readings=axis.readings(told), height=height)
-
-
-def _seat_rows(figures: Figures, buckets: Buckets) -> list[tuple[str, list[int]]]:
-    """The busiest seats, in rising order, and all others together."""
-    told, others = calls_over_time(figures.history, buckets, figures.seats)
-    rows = [(f"seat {_short(seat)}", counts) for seat, counts in told.items()]
-    return rows + [(f"{number(figures.seats.more)} more", others)] if figures.seats.more else rows
-
-
-def _short(seat: int) -> str:
-    """A seat's number, or its last digits if it has many, as seats of a history that no server made may."""
-    digits = str(seat)
-    return digits if len(digits) <= MOST_DIGITS else "…" + digits[1 - MOST_DIGITS:]

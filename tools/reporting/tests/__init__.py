@@ -6,10 +6,6 @@ from __future__ import annotations
 import os
 import shutil
 
-from common.program import TOP
-
-MAKE_HISTORY = f"{TOP}/tools/reporting/tests/make_history.py"
-
 BROWSERS = ("chromium", "chromium-browser", "google-chrome")
 BROWSER: str | None = next(filter(None, map(shutil.which, BROWSERS)), None)
 EVENTS = int(os.environ.get("RB_BROKER_EVENTS", 1_000_000))  # of a large history, or 0 if these are left out

@@ -1,10 +1,10 @@
 #!/usr/bin/env python3
 """Makes docs/report.png, the picture of a report's page: tools/reporting/tests/make_picture.py [PICTURE]
 
-The history is the first 200,000 events of tools/reporting/tests/make_history.py, and the life of a job with three
-attempts is shown, on a page of 1100 pixels in light colors. All follows from a seed, so the picture changes only with
-the page, or with the fonts. It needs chromium on the path, and pngquant to make the file a third as large. Status: 0;
-1 if it can't be made.
+The history is a busy one of 200,000 events, of tools/reporting/tests/large_histories.py, and the life of a job with
+three attempts is shown, on a page of 1100 pixels in light colors. All follows from a seed, so the picture changes only
+with the page, or with the fonts. It needs chromium on the path, and pngquant to make the file a third as large. Status:
+0; 1 if it can't be made.
 """
 from __future__ import annotations
 
@@ -20,16 +20,16 @@ sys.path[:0] = [TOOLS, f"{os.path.dirname(TOOLS)}/dev/lib"]
 
 from checking.testing import tool  # noqa: E402
 from common.program import TOP  # noqa: E402
-from reporting.tests import MAKE_HISTORY  # noqa: E402
 from reporting.tests.browser import Browser  # noqa: E402
+from reporting.tests.large_histories import history  # noqa: E402
 
-WIDTH, EVENTS = 1100, "200000"
+WIDTH, EVENTS = 1100, 200_000
 
 
 def picture_of_page(command: str, room: str) -> bytes:
     """Makes the history and its page in a folder, and takes a picture of the whole page."""
     with open(f"{room}/run.txt", "w", encoding="ascii") as file:
-        subprocess.run([sys.executable, MAKE_HISTORY, EVENTS], stdout=file, check=True)
+        file.writelines(history("busy", EVENTS))
     words = [*tool("report"), "run.txt", "--html", "page.html"]
     subprocess.run(words, cwd=room, stdout=subprocess.DEVNULL, check=True)
     browser = Browser(command, room)

@@ -2,7 +2,6 @@
 from __future__ import annotations
 
 import subprocess
-import sys
 import tempfile
 import unittest
 from pathlib import Path
@@ -18,12 +17,6 @@ from reporting.tests.browser import Browser
 
 def figures(text: str, policy: Policy = Policy()) -> Figures:
     return figures_of("run.txt", read(text), policy=policy)
-
-
-def made(events: int, *options: str) -> str:
-    """The text of a history such as a busy server leaves."""
-    words = [sys.executable, "-B", tests.MAKE_HISTORY, str(events), *options]
-    return subprocess.run(words, capture_output=True, encoding="ascii", check=True, timeout=60).stdout
 
 
 class ReportTest(RoomTest):

@@ -6,14 +6,17 @@ import time
 from typing import Any
 
 from histories.tests.support import RUN, offer, text_of
-from reporting.tests.support import ReportPageTest, made
+from reporting.tests.large_histories import history
+from reporting.tests.support import ReportPageTest
 from reporting.tests.test_page import HOSTILE, hostile_text
 from reporting.tests.test_series import RUNS
 
-PLOTS = ("rates", "lateness", "spread", "attempts", "seats")  # and the depth
+PLOTS = ("rates", "lateness")  # and the depth
 
+ANSWER = "document.getElementById('answer').textContent"
 FOUND = "[...document.querySelectorAll('#found li')].map((it) => it.textContent)"
 SORTED = "[...document.querySelectorAll('#jobs tbody tr')].map((row) => row.cells[0].textContent).join(' ')"
+FIRST_ROW = "[...document.querySelector('#jobs tbody tr').cells].map((cell) => cell.innerHTML)"
 LIFE = "[...document.querySelectorAll('#life tbody tr')].map((row) => [...row.cells].map((cell) => cell.textContent))"
 READING = "[...document.querySelectorAll('#plot-depth .reading')].map((it) => it.hidden ? null : it.textContent)"
 PATIENCE = 10.0  # seconds
@@ -68,10 +71,9 @@ class BrowserTest(ReportPageTest):
             self.assertEqual(self.look_up(words, "payload"), f"{len(origins)} jobs of payload {words}")
             self.assertEqual(self.browser.value(FOUND), [f"{it}: {payloads[int(it)]}" for it in origins])
         self.click("#found li:nth-child(2) a")
-        answer = "document.getElementById('answer').textContent"
-        self.shows(answer, "Job 1, payload mail-12, first expiry 0, 1 element")
+        self.shows(ANSWER, "Job 1, payload mail-12, first expiry 0, 1 element")
         self.look_up("bill", "payload")
-        self.shows(answer, "Job 3, payload bill, first expiry 0, 1 element")
+        self.shows(ANSWER, "Job 3, payload bill, first expiry 0, 1 element")
         self.assertTrue(self.told("#found", "hidden"))
         self.assertEqual(self.look_up("<b>", "payload"), "No job of payload <b> is on this page.")
 
@@ -80,30 +82,22 @@ class BrowserTest(ReportPageTest):
         lines = [offer(id, 0, f"p{id}") for id in range(15)]
         lines += [f"1 {id} {id} take {id}" for id in range(15)]
         self.show(text_of(*lines, "1 14 14 offer 15 14 3 0 2 p3", "1 14 14 poll 15"))
-        shown = self.browser.value(SORTED).split()
+        shown, before = self.browser.value(SORTED).split(), self.browser.value(FIRST_ROW)
         self.assertEqual((len(shown), shown[:3]), (12, ["3", "0", "1"]))
-        self.click("#jobs th:nth-child(5) button")
+        self.click("#jobs th:nth-child(7) button")
         self.click("#more-jobs")
         descending = [str(id) for id in range(14, -1, -1)]
         self.shows(SORTED, " ".join(descending))
         self.assertEqual(self.told("th[aria-sort]"), "latest by")
-        self.told("#jobs th:nth-child(5) button", "focus()")
+        self.told("#jobs th:nth-child(7) button", "focus()")
         self.browser.press("Enter")
         self.shows(SORTED, " ".join(descending[::-1]))
         self.click("#jobs th:nth-child(4) button")
         self.shows(f"({SORTED}).split(' ')[0]", "3")
-        self.assertEqual(self.told("#jobs-shown"), "15 jobs of the 15 on this page.")
+        self.assertEqual(self.browser.value(FIRST_ROW), before)  # as the page told it
+        self.assertEqual(self.told("section:has(#jobs) .note"), "15 jobs of the 15 on this page.")
         self.click("#jobs th:nth-child(2) button")
         self.shows(f"({SORTED}).split(' ').slice(0, 3)", ["9", "8", "7"])
-
-    def test_a_sorted_row_is_told_as_before(self) -> None:
-        """The script makes the rows that the page had."""
-        self.show(RUN)
-        row = "[...document.querySelector('#jobs tbody tr').cells].map((cell) => cell.innerHTML)"
-        before = self.browser.value(row)
-        self.click("#jobs th:nth-child(3) button")
-        self.shows("document.querySelector('th[aria-sort]').textContent", "elements")
-        self.assertEqual(self.browser.value(row), before)
 
     def test_the_value_under_the_pointer(self) -> None:
         self.show(RUN)
@@ -148,7 +142,7 @@ class BrowserTest(ReportPageTest):
         self.show(RUN, job="0")
         self.assertIn("payload a", self.told("#answer"))
         self.told('a[href="#job=3"]', "click()")
-        self.shows("document.getElementById('answer').textContent.slice(0, 16)", "Job 3, payload c")
+        self.shows(f"{ANSWER}.slice(0, 16)", "Job 3, payload c")
 
     def test_a_life_over_several_runs_with_dates(self) -> None:
         began = ("2026-11-26T08:00Z", "2026-11-26T09:00Z", "2026-11-27T08:00Z")
@@ -187,19 +181,17 @@ class BrowserTest(ReportPageTest):
         self.browser.complaints.clear()
 
     def test_a_large_page(self) -> None:
-        self.show(made(30_000))
+        self.show("".join(history("busy", 30_000)))
 
-        def drawn(plot: str, mark: str, part: str = "") -> int:
-            """How many marks a plot has, or how many parts its paths."""
-            count = f"it.getAttribute('d').split('{part}').length - 1" if part else "1"
-            return int(self.browser.value(
-                f"[...document.querySelectorAll('#plot-{plot} {mark}')].reduce((sum, it) => sum + ({count}), 0)"))
+        def drawn(mark: str, part: str) -> int:
+            """How many such parts the paths of a mark have."""
+            paths = f"[...document.querySelectorAll('{mark}')].map((it) => it.getAttribute('d')).join('')"
+            return int(self.browser.value(f"{paths}.split('{part}').length - 1"))
 
         for kind in ("standing", "expired"):
-            points = 1 + drawn("depth", f".line.{kind}", "V")
+            points = 1 + drawn(f"#plot-depth .line.{kind}", "V")
             self.assertIn(f"{kind} {points:,} points", self.told("#plot-depth ~ .note"))
-        for plot, count in (("lateness", drawn("lateness", ".dash.median", "M")), ("spread", drawn("spread", "rect")),
-                            ("attempts", drawn("attempts", "rect")), ("seats", drawn("seats", ".line.seat"))):
+        for plot, count in (("lateness", drawn(".dash.median", "M")), ("rates", drawn("#plot-rates .line", "M"))):
             note = self.told(f"#plot-{plot} ~ .note")
             self.assertTrue(note.startswith(f"{count:,} "), f"{plot}: {count} drawn, {note}")
         sizes = self.browser.value("[...document.querySelectorAll('svg')].map((it) => it.getBBox().width)")

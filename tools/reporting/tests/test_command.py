@@ -9,6 +9,22 @@ from checking.testing import tool
 from common.tests.support import long_work_at_terminal
 from histories.tests.support import RUN, offer, text_of
 from reporting.tests.support import ReportTest, call, run
+from reporting.tests.test_findings import failing
+
+DAMAGED = RUN.replace("size 1", "size 2")
+
+# Words with the names of files, what is asked of them, and what is refused.
+REFUSED = [
+    ("", "the following arguments are required"), ("run.txt more", "more: No such file or directory"),
+    ("run.txt --ht x", "unrecognized arguments: --ht"),
+    *((f"run.txt {option} {word}", f"argument {option}: {word!r} is no ") for option, word in (
+        ("--job", "-1"), ("--job", "1_0"), ("--job", "٣"), ("--job", str(2**64)), ("--attempts", "0"),
+        ("--attempts", "1001"), ("--delay", "-1"), ("--delay", str(2**64)), ("--rate", "1s"), ("--payload", "é"),
+        ("--payload", "a" * 65), ("--began", "now"))),
+    ("run.txt --delay 1 --rate 1", "not allowed with"), ("run.txt --payload a --job 1", "not allowed with"),
+    ("run.txt --html run.txt", "--html names a history itself"),
+    ("run.txt --began @1 --began @2", "--began is given once, or once for each history"),
+]
 
 
 class CommandTest(ReportTest):
@@ -25,7 +41,7 @@ class CommandTest(ReportTest):
             "  poll         2         1              1",
             "  elements in the queue         3    100 ns           0",
             "  of these expired              2    100 ns           0",
-            "  median           20 ns  20 ns",
+            "  median               20 ns    20 ns",
             "        2                2      2",
             "Jobs: 3; offered again: 1 (33.3 %)",
             "     2      4        0      3              1            0               50 ns",
@@ -34,24 +50,20 @@ class CommandTest(ReportTest):
         self.assertEqual(ran.stdout.splitlines()[-2:], ["What looks wrong", "  nothing"])
 
     def test_the_life_of_a_job(self) -> None:
-        ran = run(self.history, "--job", "3")
-        self.assertEqual(ran.stdout.splitlines(), [
+        self.assertEqual(self.lines(self.history, "--job", "3"), [
             "job 3: payload c, first expiry 100, 2 elements",
             "  attempt  id  offered at  by seat  expiry  left at  to seat     by  late by",
             "        1   3         100        1     100      120        2   take    20 ns",
             "        2   4         160        1     300      310        1  drain    10 ns",
         ])
-        before = run(self.history, "--job", "1").stdout.splitlines()
+        before = self.lines(self.history, "--job", "1")
         self.assertEqual(before[2].split(), ["2", "2", "before", "150", "170", "2", "pollfor", "20", "ns"])
-        left = run(self.file("left.txt", text_of(offer(0, 5))), "--job", "0").stdout
-        self.assertIn("still there", left)
+        left = self.lines(self.file("left.txt", text_of(offer(0, 5))), "--job", "0")
+        self.assertIn("still there", left[2])
 
     def test_a_history_without_events(self) -> None:
-        empty = self.file("empty.txt", "history 1\nend 0\n")
-        page = f"{self.room}/page.html"
-        ran = run(empty, "--html", page)
-        self.assertEqual((ran.returncode, ran.stderr), (0, ""))
-        self.assertIn("nothing was given", ran.stdout)
+        page = self.path("page.html")
+        self.assertIn("  nothing was given", self.lines(self.file("empty.txt", "history 1\nend 0\n"), "--html", page))
         self.assertTrue(os.path.getsize(page))
 
     def test_a_history_that_comes_through_a_pipe(self) -> None:
@@ -59,26 +71,27 @@ class CommandTest(ReportTest):
         self.assertEqual((ran.returncode, ran.stderr), (0, ""))
 
     def test_what_ends_without_a_report(self) -> None:
-        damaged = self.file("damaged.txt", RUN.replace("size 1", "size 2"))
-        page, none = self.path("page.html"), self.path("none")
+        damaged, page, none = self.file("damaged.txt", DAMAGED), self.path("page.html"), self.path("none")
         for words, status, says in (
             ((damaged, "--html", page), 1, f"{damaged}: line 8: the queue holds 1, not 2"),
             ((self.history, "--job", "7"), 1, f"{self.history}: no job of origin 7"),
+            ((self.history, "--payload", "mail"), 1, f"{self.history}: no job of payload mail"),
             ((none,), 2, f"{none}: No such file or directory"),
             ((self.room,), 2, f"{self.room}: Is a directory"),
             ((self.history, "--html", f"{none}/page.html"), 2, f"{none}/page.html: No such file or directory"),
         ):
-            ran = run(*words)
-            self.assertEqual((ran.returncode, ran.stdout, ran.stderr), (status, "", f"report: {says}\n"))
+            self.assertEqual(self.refused(status, *words), f"report: {says}\n")
+        ran = run(damaged)
+        self.assertEqual((ran.returncode, ran.stdout), (1, ""))
         self.assertFalse(os.path.exists(page))
 
     def test_refused_words(self) -> None:
-        for words in ((), (self.history, "--job", "-1"), (self.history, "--job", "1_0"), (self.history, "--job", "٣"),
-                      (self.history, "--job", str(2**64)), (self.history, "--ht", "x"), (self.history, "more")):
-            self.assertTrue(self.refused(2, *words), words)
-
-    def test_the_page_is_not_the_history(self) -> None:
-        self.assertIn("--html names a history itself", self.refused(2, self.history, "--html", self.history))
+        for words, says in REFUSED:
+            with self.subTest(words=words):
+                told = [self.history if it == "run.txt" else it for it in words.split()]
+                self.assertIn(says, self.refused(2, *told))
+        for word in ("", "a b"):
+            self.assertIn("is no payload", self.refused(2, self.history, "--payload", word))
         self.assertEqual(Path(self.history).read_text("utf-8"), RUN)
 
     def test_a_reader_that_has_seen_enough(self) -> None:
@@ -97,3 +110,38 @@ class CommandTest(ReportTest):
         for line in (f"reading {self.history}: 0 %", "counting", "drawing"):
             self.assertIn(line, lines)
         self.assertEqual(lines[-2:], ["", ""])
+
+    def test_last_attempts_are_listed(self) -> None:
+        history = self.file("failing.txt", text_of(*failing(3, 2, 5_000_000)))
+        lines = self.lines(history, "--attempts", "2")
+        self.assertEqual(lines[-6], "Given attempt 2, the last: 3 jobs")
+        self.assertRegex(lines[-5], r"^  origin  payload  elements  given  last left by  at \(ns\)  ")
+        told = [line.split()[:6] for line in lines[-4:-1]]
+        self.assertEqual(told, [[str(job), f"job-{job}", "2", "2", "take", "5000000"] for job in range(3)])
+        says = "  Each is done or dead: the end of a job has no event, so a history does not tell which."
+        self.assertEqual(lines[-1], says)
+        self.assertEqual(self.lines(history, "--attempts", "3")[-1], "Given attempt 3, the last: 0 jobs")
+
+
+class PayloadTest(ReportTest):
+    def setUp(self) -> None:
+        super().setUp()
+        payloads = ["mail-1", "mail-12", "mail-1", "bill", "mail-*", "ail-1"]
+        lines: list[str] = [offer(id, 0, payload) for id, payload in enumerate(payloads)]
+        self.path_of_run = self.file("run.txt", text_of(*lines, "1 9 9 take 3", "1 9 9 remove 4 yes"))
+
+    def test_one_job(self) -> None:
+        for payload, says in (("bill", "job 3: payload bill, first expiry 0, 1 element"),
+                              ("bi*", "job 3: payload bill, first expiry 0, 1 element"),
+                              ("mail-**", "job 4: payload mail-*, first expiry 0, 1 element")):
+            lines = self.lines(self.path_of_run, "--payload", payload)
+            self.assertEqual(lines, self.lines(self.path_of_run, "--job", says[4]))
+            self.assertEqual(lines[0], says)
+
+    def test_several_jobs(self) -> None:
+        for payload, origins in (("mail-1", "02"), ("mail-1*", "012"), ("*", "012345")):
+            lines = self.lines(self.path_of_run, "--payload", payload)
+            self.assertEqual(lines[0], f"{len(origins)} jobs of payload {payload}")
+            self.assertEqual("".join(line.split()[0] for line in lines[2:]), origins)
+        told = [line.split()[3:6] for line in lines[5:7]]
+        self.assertEqual(told, [["1", "take", "9"], ["0", "remove", "9"]])

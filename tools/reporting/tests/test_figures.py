@@ -5,49 +5,35 @@ import unittest
 from array import array
 
 from histories.tests.support import RUN, offer, read, text_of
-from reporting.bar_plots import bins_of, grouped
-from reporting.calls import calls_over_time
 from reporting.columns import Buckets, thinned
 from reporting.depth import depth_of
 from reporting.jobs import Attempts, NoJob, life
-from reporting.lateness import rank
+from reporting.lateness import rank, ranks
 from reporting.tests.support import figures
 from reporting.units import SECOND, compact, mark, percent, span
 
 
-def attempts_of_one_job(*moments: int) -> list[str]:
-    """A job that is given at these moments, and is offered again each time."""
-    lines = []
-    for place, moment in enumerate(moments):
-        lines.append(f"1 {moment} {moment} offer {place} {moment} 0 {moments[0]} {place + 1} a")
-        lines.append(f"1 {moment} {moment} take {place}")
-    return lines
-
-
 class FiguresTest(unittest.TestCase):
     def test_depth(self) -> None:
+        leaving = (offer(0, 5), offer(1, 7), offer(2, 99), "1 6 6 remove 0 yes", "1 6 6 remove 2 yes", "1 7 7 clear")
+        # At 150 and 300 an element of the first history expires between two events.
+        for text, moments, standing, expired in (
+            (RUN, [100, 100, 120, 120, 150, 160, 170, 300, 310, 310], [2, 3, 2, 1, 1, 2, 1, 1, 0, 0],
+             [1, 2, 1, 0, 1, 1, 0, 1, 0, 0]),
+            (text_of(*leaving), [0, 0, 0, 0, 5, 6, 6, 7, 7], [0, 1, 2, 3, 3, 2, 1, 1, 0], [0, 0, 0, 0, 1, 0, 0, 1, 0]),
+        ):
+            depth = depth_of(read(text))
+            self.assertEqual([*map(list, (depth.moments, depth.standing, depth.expired))], [moments, standing, expired])
         depth = depth_of(read(RUN))
-        # At 150 and 300 an element expires between two events.
-        self.assertEqual(list(depth.moments), [100, 100, 120, 120, 150, 160, 170, 300, 310, 310])
-        self.assertEqual(list(depth.standing), [2, 3, 2, 1, 1, 2, 1, 1, 0, 0])
-        self.assertEqual(list(depth.expired), [1, 2, 1, 0, 1, 1, 0, 1, 0, 0])
         self.assertEqual((depth.deepest, depth.most_expired), ((3, 100), (2, 100)))
-
-    def test_removed_and_cleared_elements(self) -> None:
-        depth = depth_of(read(text_of(
-            offer(0, 5), offer(1, 7), offer(2, 99), "1 6 6 remove 0 yes", "1 6 6 remove 2 yes", "1 7 7 clear",
-        )))
-        self.assertEqual(list(depth.standing), [0, 1, 2, 3, 3, 2, 1, 1, 0])
-        self.assertEqual(list(depth.expired), [0, 0, 0, 0, 1, 0, 0, 1, 0])
 
     def test_lateness(self) -> None:
         lateness = figures(RUN).lateness
-        self.assertEqual(list(lateness.rising), [10, 20, 20, 30])
-        self.assertEqual((lateness.median, lateness.high, lateness.greatest), (20, 30, 30))
-
-    def test_rank(self) -> None:
-        self.assertEqual(rank(range(1, 11), 0.5), 5)
-        self.assertEqual(rank(range(1, 101), 0.99), 99)
+        self.assertEqual(list(lateness), [10, 20, 20, 30])
+        self.assertEqual([*ranks(lateness).values()], [20, 30, 30, 30, 30])
+        self.assertEqual(ranks([]), {})
+        self.assertEqual([*ranks(range(1, 1001)).values()], [500, 900, 990, 999, 1000])
+        self.assertEqual([rank(range(1, 11), 0.5), rank(range(1, 101), 0.99)], [5, 99])
         self.assertEqual([rank([7], share) for share in (0.0, 0.5, 0.99, 1.0)], [7, 7, 7, 7])
 
     def test_calls(self) -> None:
@@ -69,44 +55,11 @@ class FiguresTest(unittest.TestCase):
             self.assertRaises(NoJob, life, history, origin)
 
     def test_seats(self) -> None:
-        one, two = figures(RUN).seats.busiest
-        self.assertEqual(one, (1, 7, 2, 1, 0, 4, 100, 310))
-        self.assertEqual(two, (2, 4, 0, 3, 1, 0, 120, 170))
-
-    def test_of_many_seats_the_busiest_are_told(self) -> None:
-        told = figures(text_of("7 0 0 size 0", *[f"{seat} 0 0 size 0" for seat in range(100)]))
-        self.assertEqual((told.seats.total, len(told.seats.busiest), told.seats.more), (100, 16, 84))
-        self.assertIn(7, [seat.number for seat in told.seats.busiest])
-        _, others = calls_over_time(told.history, Buckets.over(0, 0, 9), told.seats)
-        self.assertEqual(others, [84])
-
-
-BURST = "1 job was given 3 times or more within 1.00 ms"
-
-# Events, and what looks wrong in them.
-FINDINGS: list[tuple[list[str], list[str]]] = [
-    (attempts_of_one_job(0, 5, 1_000_000), [BURST]),
-    (attempts_of_one_job(0, 2_000_000, 2_000_001, 2_000_002), [BURST]),
-    (attempts_of_one_job(0, 5, 1_000_001), []),
-    (attempts_of_one_job(0, 5), []),
-    ([offer(0, 5), offer(1, 10), offer(2, 11), "1 10 10 size 3"],
-     ["3 elements never left the queue; 2 of them had expired at the end, the earliest 5 ns before"]),
-    ([offer(0, 5), offer(1, 9), "1 0 0 clear"], ["2 elements were discarded by 1 clear"]),
-    (["1 0 0 clear"], []),
-    (["1 0 0 poll none"] * 100,
-     ["100.0 % of 100 polls found nothing; a take or a timed poll waits, and is one call"]),
-    (["1 0 0 poll none"] * 99, []),
-    ([offer(id, 5) for id in range(100)],
-     ["100 elements never left the queue; 0 of them had expired at the end",
-      "the queue was about as deep at the end (100) as ever (100): more came than left"]),
-    ([offer(id, 5) for id in range(99)], ["99 elements never left the queue; 0 of them had expired at the end"]),
-]
-
-
-class FindingsTest(unittest.TestCase):
-    def test_what_looks_wrong(self) -> None:
-        for events, says in FINDINGS:
-            self.assertEqual([it.says for it in figures(text_of(*events)).findings], says)
+        self.assertEqual(figures(RUN).seats.busiest, [(1, 7, 2, 1, 0, 4, 100, 310), (2, 4, 0, 3, 1, 0, 120, 170)])
+        # Of many seats the busiest are told.
+        seats = figures(text_of("7 0 0 size 0", *[f"{seat} 0 0 size 0" for seat in range(100)])).seats
+        self.assertEqual((seats.total, len(seats.busiest), seats.more), (100, 16, 84))
+        self.assertIn(7, [seat.number for seat in seats.busiest])
 
 
 class SeriesTest(unittest.TestCase):
@@ -120,8 +73,7 @@ class SeriesTest(unittest.TestCase):
         points = thinned(moments, values, Buckets.over(0, 9_999, 10))
         self.assertLessEqual(len(points), 40)
         self.assertEqual(points, sorted(points))
-        for needed in ((0, 5), (1234, 900), (7777, -3), (9_999, 5)):
-            self.assertIn(needed, points)
+        self.assertLessEqual({(0, 5), (1234, 900), (7777, -3), (9_999, 5)}, {*points})
 
     def test_buckets_hold_each_moment_once(self) -> None:
         for start, end, most in ((0, 0, 9), (5, 7, 9), (0, 99, 7), (2**64 - 3, 2**64 - 1, 2)):
@@ -129,19 +81,6 @@ class SeriesTest(unittest.TestCase):
             self.assertEqual((buckets.edges[0], buckets.edges[-1]), (start, end + 1))
             self.assertEqual(len(set(buckets.edges)), len(buckets) + 1)
             self.assertLessEqual(len(buckets), most)
-
-    def test_ranges_of_lateness_hold_each_gift_once(self) -> None:
-        rising = [0, 0, 1, 9, 10, 11, 2**64 - 1]
-        bins = bins_of(rising)
-        self.assertEqual(sum(it.elements for it in bins), len(rising))
-        self.assertEqual((bins[0].low, bins[0].elements), (0, 2))
-        self.assertEqual(bins_of([]), [])
-
-    def test_many_attempts_are_grouped(self) -> None:
-        attempts = [Attempts(it, 2, 1) for it in range(1, 1001)]
-        groups = grouped(attempts, 40)
-        self.assertEqual((len(groups), groups[0], groups[-1]), (40, ("1–25", 50, 25), ("976–1000", 50, 25)))
-        self.assertEqual(grouped(attempts[:2], 40), [("1", 2, 1), ("2", 2, 1)])
 
     def test_numbers_as_people_read_them(self) -> None:
         for form, told in (

@@ -3,21 +3,18 @@ from __future__ import annotations
 
 import os
 import subprocess
-import sys
-import tempfile
 import time
-import unittest
-from concurrent.futures import Future, ThreadPoolExecutor
+from concurrent.futures import ThreadPoolExecutor
 from typing import NamedTuple
 
-from checking.testing import tool
+from checking.testing import RoomTest, tool
 from reporting import tests
+from reporting.tests.large_histories import history
 
 MOST_BYTES = 200 * 10**6
 
-# Histories by name, of a busy server, and of which 97 events in 100 are offers: the words with which make_history.py
-# makes each, and the most seconds of a processor for its report.
-LARGE: dict[str, tuple[list[str], float]] = {"busy": ([], 20.0), "offers": (["--offers"], 30.0)}
+# The kinds of histories, each with the most seconds of a processor for its report.
+LARGE = {"busy": 20.0, "offers": 30.0}
 
 
 class Measured(NamedTuple):
@@ -30,42 +27,31 @@ class Measured(NamedTuple):
     page: int
 
 
-def measured(room: str, name: str) -> Measured:
-    """Makes a history, and then a report on it."""
-    path, page = f"{room}/{name}.txt", f"{room}/{name}.html"
-    with open(path, "w", encoding="ascii") as file:
-        words = [sys.executable, tests.MAKE_HISTORY, str(tests.EVENTS), *LARGE[name][0]]
-        subprocess.run(words, stdout=file, check=True, timeout=300)
+def measured(path: str) -> Measured:
+    """Makes a report."""
     start = time.monotonic()
-    report = subprocess.Popen([*tool("report"), path, "--html", page], stdout=subprocess.DEVNULL)
+    report = subprocess.Popen([*tool("report"), path, "--html", f"{path}.html"], stdout=subprocess.DEVNULL)
     _, status, used = os.wait4(report.pid, 0)
     report.returncode = status
     memory = used.ru_maxrss * 1024  # Linux counts it in kibibytes
-    return Measured(status, time.monotonic() - start, used.ru_utime + used.ru_stime, memory, os.path.getsize(page))
+    page = os.path.getsize(f"{path}.html")
+    return Measured(status, time.monotonic() - start, used.ru_utime + used.ru_stime, memory, page)
 
 
-_reports: dict[str, Future[Measured]] = {}
-
-
-def setUpModule() -> None:
-    """Begins all reports, each in a thread of its own."""
-    room, threads = tempfile.TemporaryDirectory(prefix="rb-report-"), ThreadPoolExecutor(len(LARGE))
-    unittest.addModuleCleanup(room.cleanup)
-    unittest.addModuleCleanup(threads.shutdown)
-    if tests.EVENTS:
-        _reports.update({name: threads.submit(measured, room.name, name) for name in LARGE})
-
-
-class LargeTest(unittest.TestCase):
+class LargeTest(RoomTest):
     def test_time_and_memory(self) -> None:
         if not tests.EVENTS:
             self.skipTest("RB_BROKER_EVENTS is 0")
-        for name, report in _reports.items():
-            told = report.result()
-            print(f"{name}, {tests.EVENTS:,} events: {told.passed:.1f} s, {told.seconds:.1f} s of a processor, "
+        for kind in LARGE:
+            with open(self.path(kind), "w", encoding="ascii") as file:
+                file.writelines(history(kind, tests.EVENTS))
+        with ThreadPoolExecutor(len(LARGE)) as threads:
+            reports = [*threads.map(measured, map(self.path, LARGE))]
+        for (kind, most_seconds), told in zip(LARGE.items(), reports):
+            print(f"{kind}, {tests.EVENTS:,} events: {told.passed:.1f} s, {told.seconds:.1f} s of a processor, "
                   f"{told.memory / 1e6:.0f} MB, a page of {told.page / 1e6:.1f} MB", flush=True)
-            with self.subTest(history=name):
+            with self.subTest(history=kind):
                 self.assertEqual(told.status, 0)
-                self.assertLess(told.seconds, LARGE[name][1])
+                self.assertLess(told.seconds, most_seconds)
                 self.assertLess(told.memory, MOST_BYTES)
                 self.assertLess(told.page, 5 * 10**6)

@@ -12,10 +12,10 @@ from reporting.span_axis import SpanAxis
 from reporting.svg import ROOMS, SHARES, Scale, Tick
 from reporting.tests.support import figures
 from reporting.time_axis import TimeAxis
-from reporting.time_plots import depth_plot, lateness_plot, rates_of, rates_plot, seats_plot
-from reporting.units import mark
+from reporting.time_plots import depth_plot, lateness_plot, rates_of, rates_plot
+from reporting.units import SECOND, mark
 
-SECOND = 10**9
+EIGHT = "2026-11-26T08:00:00Z"
 
 
 def labels(ticks: list[Tick]) -> list[str]:
@@ -30,10 +30,6 @@ def backlog() -> str:
 
 
 class SpanAxisTest(unittest.TestCase):
-    def test_a_backlog_of_nine_minutes_has_ticks_where_the_data_lies(self) -> None:
-        told = ["10 min", "5 min", "2 min", "1 min", "30 s", "20 s"]
-        self.assertEqual(labels(SpanAxis(20 * SECOND, 540 * SECOND).ticks()), told)
-
     def test_ends_lie_around_the_data(self) -> None:
         for least, greatest, low, high in (
             (0, 0, 0, 1), (23_000, 38_800_000, 20_000, 50_000_000), (7, 7, 5, 10), (10, 10, 10, 20),
@@ -52,10 +48,11 @@ class SpanAxisTest(unittest.TestCase):
             self.assertGreaterEqual(len(places), 2)
             self.assertTrue(all(below - above >= 17 for above, below in zip(places, places[1:])), places)
 
-    def test_the_backlog_in_the_plot(self) -> None:
+    def test_a_backlog_of_nine_minutes_has_ticks_where_the_data_lies(self) -> None:
+        told = ["10 min", "5 min", "2 min", "1 min", "30 s", "20 s"]
+        self.assertEqual(labels(SpanAxis(20 * SECOND, 540 * SECOND).ticks()), told)
         plot = lateness_plot(figures(backlog()))
-        told = re.findall(r'class="y">([^<]*)<', plot.drawing)
-        self.assertEqual(told[0], "10 min")
+        self.assertEqual(re.findall(r'class="y">([^<]*)<', plot.drawing)[0], "10 min")
         self.assertIn("Equal steps are equal ratios.", plot.caption)
         self.assertNotIn("power", plot.caption)
         # The last of 180 buckets begins at 595.7 s, and has the gifts at 596 to 599 s.
@@ -63,59 +60,53 @@ class SpanAxisTest(unittest.TestCase):
 
 
 class FittingTest(unittest.TestCase):
-    def pairs(self, ticks: list[Tick]) -> None:
-        """No two labels that a page shows touch."""
-        for place, (_, room) in enumerate(ROOMS):
-            kinds = [kind for kind, _ in ROOMS[:place + 1]]
-            shown = [tick for tick in svg.fitting(ticks) if tick.kind in kinds]
-            for before, after in zip(shown, shown[1:]):
-                apart = (after.place - before.place) * room / SHARES
-                self.assertGreater(apart, 7 * (len(before.label) + len(after.label)) / 2, (room, before, after))
+    def shown(self, ticks: list[Tick], place: int) -> list[Tick]:
+        """The ticks that a page shows which has this place among those of ROOMS."""
+        kinds = [kind for kind, _ in ROOMS[:place + 1]]
+        return [tick for tick in svg.fitting(ticks) if tick.kind in kinds]
 
     def test_labels_do_not_touch_on_a_page_of_any_width(self) -> None:
-        for length, label in ((11, "0.5"), (40, "976–1000"), (3, "1"), (20, "100 ms"), (1, "0"), (0, "")):
-            self.pairs([Tick(round(place * SHARES / max(1, length - 1), 1), label) for place in range(length)])
-        self.pairs([Tick(place, "08:00:00") for place in (0, 3, 3.1, 250, 260, 500, 750, 751, 1000)])
+        rows = [[Tick(round(place * SHARES / max(1, length - 1), 1), label) for place in range(length)]
+                for length, label in ((11, "0.5"), (40, "976–1000"), (3, "1"), (20, "100 ms"), (1, "0"), (0, ""))]
+        for ticks in [*rows, [Tick(place, "08:00:00") for place in (0, 3, 3.1, 250, 260, 500, 750, 751, 1000)]]:
+            for place, (_, room) in enumerate(ROOMS):
+                shown = self.shown(ticks, place)
+                for before, after in zip(shown, shown[1:]):
+                    apart = (after.place - before.place) * room / SHARES
+                    self.assertGreater(apart, 7 * (len(before.label) + len(after.label)) / 2, (room, before, after))
 
     def test_a_wide_page_shows_what_a_narrow_one_does_and_more(self) -> None:
         ticks = [Tick(place * 50, f"{place}0:00") for place in range(21)]
-        counts = [sum(tick.kind in [kind for kind, _ in ROOMS[:place + 1]] for tick in svg.fitting(ticks))
-                  for place in range(len(ROOMS))]
+        counts = [len(self.shown(ticks, place)) for place in range(len(ROOMS))]
         self.assertEqual(counts, sorted(set(counts)))
         self.assertEqual(svg.fitting(ticks)[0], ticks[0])
 
-    def test_room_for_words(self) -> None:
-        told = [svg.room_for("82,561", width) for width in (500, 105, 70, 20)]
-        self.assertEqual(told, ["", "from-720", "from-1040", None])
-
 
 class TimeAxisTest(unittest.TestCase):
-    def axis(self, seconds: float, began: str = "2026-11-26T08:00:00Z") -> TimeAxis:
-        end = round(seconds * SECOND)
-        history = read(text_of("1 0 0 size 0", f"1 {end} {end} size 0"))
-        return TimeAxis(history, Dates.of(history, [nanoseconds_of(began)]))
+    def axis(self, seconds: float, began: str = EIGHT, start: int = 0) -> TimeAxis:
+        """The axis of a run of so many seconds, without dates if none is told."""
+        end = start + round(seconds * SECOND)
+        history = read(text_of(*(f"1 {at} {at} size 0" for at in (start, end))))
+        return TimeAxis(history, Dates.of(history, [nanoseconds_of(began)]) if began else None)
 
     def shown(self, axis: TimeAxis) -> list[str]:
         return re.findall(r'class="x(?: from-\d+)?">([^<]*)<', axis.drawn())
 
     def test_dates_at_the_axis(self) -> None:
-        self.assertEqual(self.shown(self.axis(600))[:3], ["08:00", "08:01", "08:02"])
-        self.assertEqual(self.shown(self.axis(40))[-1], "08:00:40")
-        self.assertEqual(self.shown(self.axis(0.5))[:2], ["00.00", "00.05"])
-        days = self.shown(self.axis(3 * 86_400, "2026-11-29T20:00Z"))
-        self.assertIn("12-01", days)
-        self.assertIn("12:00", days)
+        for axis, part, told in (
+            (self.axis(600), slice(3), ["08:00", "08:01", "08:02"]), (self.axis(40), slice(-1, None), ["08:00:40"]),
+            (self.axis(0.5), slice(2), ["00.00", "00.05"]), (self.axis(0), slice(9), ["00.000000000"]),
+        ):
+            self.assertEqual(self.shown(axis)[part], told)
+        self.assertLessEqual({"12-01", "12:00"}, {*self.shown(self.axis(3 * 86_400, "2026-11-29T20:00Z"))})
         self.assertIn("UTC, from 2026-11-29 20:00:00 on", self.axis(9, "2026-11-29T20:00Z").drawn())
 
     def test_a_moment_is_told_as_exactly_as_its_bucket(self) -> None:
-        history = read(text_of("1 50 50 size 0", f"1 {50 + 2 * SECOND} {50 + 2 * SECOND} size 0"))
-        axis = TimeAxis(history, None)
-        self.assertEqual(axis.told(50 + 130_000_000, 11_000_000), "0.13 s")
-        self.assertEqual(axis.told(50 + SECOND // 8, 5_000_000), "0.125 s")
-        self.assertEqual(self.axis(2).told(SECOND // 8, 11_000_000), "2026-11-26 08:00:00.125 UTC")
-
-    def test_a_run_that_took_no_time(self) -> None:
-        self.assertEqual(self.shown(self.axis(0)), ["00.000000000"])
+        for began, start, after, width, told in (
+            ("", 50, 130_000_000, 11_000_000, "0.13 s"), ("", 50, SECOND // 8, 5_000_000, "0.125 s"),
+            (EIGHT, 0, SECOND // 8, 11_000_000, "2026-11-26 08:00:00.125 UTC"),
+        ):
+            self.assertEqual(self.axis(2, began, start).told(start + after, width), told)
 
 
 class ReadingsTest(unittest.TestCase):
@@ -125,8 +116,6 @@ class ReadingsTest(unittest.TestCase):
         plot = rates_plot(figures(RUN))
         self.assertIn("In all 1 offer, 4 gifts and 1 return.", plot.caption)
         self.assertEqual(plot.title, "Offers, gifts and returns a nanosecond")
-
-    def test_rates_are_counts_by_time(self) -> None:
         plot = rates_plot(figures(backlog()))
         self.assertEqual(plot.title, "Offers, gifts and returns a second")
         # 599 s in 180 stretches: the first has 600 offers and 4 gifts, the others 3 or 4 gifts each.
@@ -138,12 +127,8 @@ class ReadingsTest(unittest.TestCase):
                                           ("50", "1", "0 to 1"), ("210", "0 to 1", "0 to 1")):
             self.assertEqual(told[f"{moment} ns"], f"{standing} in the queue\n{expired} of these expired")
 
-    def test_seats(self) -> None:
-        plot = seats_plot(figures(text_of(f"{2**64 - 1} 0 0 size 0", "7 9 9 size 0")))
-        self.assertEqual(plot.readings[0].says, "0 ns\nseat 7: 0 calls\nseat …1615: 1 call")
-
     def test_readings_rise(self) -> None:
-        for draw in (depth_plot, rates_plot, lateness_plot, seats_plot):
+        for draw in (depth_plot, rates_plot, lateness_plot):
             places = [it.place for it in draw(figures(RUN)).readings]
             self.assertEqual(places, sorted(places))
             self.assertEqual(places[0], 0)

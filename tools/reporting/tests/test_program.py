@@ -8,7 +8,8 @@ import time
 from checking.testing import RoomTest
 from common.program import TOP, tested_program
 from reporting.dates import nanoseconds_of
-from reporting.tests.support import made, run
+from reporting.tests.large_histories import history
+from reporting.tests.support import run
 
 
 class ProgramTest(RoomTest):
@@ -52,12 +53,13 @@ class ProgramTest(RoomTest):
         self.assertIn(f"from {told[:10]} ", run(history, "--began", told).stdout)
 
     def test_a_made_history_is_counted_alike(self) -> None:
-        for options in (["--version", "1"], ["--version", "3"], ["--offers"]):
-            path = self.file("made.txt", made(6_000, *options))
+        for kind in ("busy", "old", "offers"):
+            path = self.file("made.txt", "".join(history(kind, 6_000)))
             chains = ["--chains", "--delay", "50000000", "--attempts", "3"]
             verdict = subprocess.run([tested_program(), "replay", path, *chains], capture_output=True, timeout=120)
             self.assertEqual(verdict.returncode, 0, verdict.stdout)
             told = json.loads(verdict.stdout)
             line = (f"{told['opening']} elements at the start, {told['offered']:,} offered, {told['given']:,} given, "
                     f"{told['left']:,} left at the end")
-            self.assertEqual(run(path).stdout.splitlines()[1], line)
+            report = run(path).stdout
+            self.assertEqual(report.splitlines()[1], line)

@@ -8,6 +8,7 @@ from histories.series import read_series
 from histories.tests.support import offer, text_of
 from reporting.dates import Dates, date_text, nanoseconds_of
 from reporting.tests.support import ReportTest
+from reporting.units import SECOND
 
 # Three runs in which job 0 has an attempt each, the last of which is given at the very end.
 RUNS = ["""history 3
@@ -50,7 +51,10 @@ class RunsTest(ReportTest):
 
     def setUp(self) -> None:
         super().setUp()
-        self.paths = [self.file(f"run-{place}.txt", text) for place, text in enumerate(RUNS, 1)]
+        self.paths = self.files(RUNS)
+
+    def files(self, texts: list[str]) -> list[str]:
+        return [self.file(f"run-{place}.txt", text) for place, text in enumerate(texts, 1)]
 
 
 class SeriesTest(RunsTest):
@@ -66,9 +70,11 @@ class SeriesTest(RunsTest):
             ["3", self.paths[2], "1020", "1.01", "µs", "1", "1", "0", "1", "0"],
         ])
         # Late by 5 and 100 and 1 and 10 nanoseconds.
-        self.assertIn("  median             5 ns    5 ns", lines)
-        self.assertIn("  greatest         100 ns  100 ns", lines)
+        self.assertIn("  median                5 ns     5 ns", lines)
+        self.assertIn("  greatest            100 ns   100 ns", lines)
         self.assertIn("Jobs: 2; offered again: 1 (50.0 %)", lines)
+        one, two, three = self.paths
+        self.assertEqual(self.lines(three, one, two), lines)  # runs are put in their order
 
     def test_the_life_of_a_job_over_its_runs(self) -> None:
         self.assertEqual([line.split() for line in self.lines(*self.paths, "--job", "0")[2:]], [
@@ -76,10 +82,6 @@ class SeriesTest(RunsTest):
             ["2", "1", "9", "2", "of", "run", "1", "1009", "1010", "1", "of", "run", "2", "take", "1", "ns"],
             ["3", "3", "1020", "1", "of", "run", "2", "2020", "2030", "3", "of", "run", "3", "poll", "10", "ns"],
         ])
-
-    def test_runs_are_put_in_their_order(self) -> None:
-        one, two, three = self.paths
-        self.assertEqual(self.lines(three, one, two), self.lines(one, two, three))
 
     def test_what_runs_did_together(self) -> None:
         # What the first run left is cleared; and versions may change from run to run.
@@ -90,8 +92,7 @@ class SeriesTest(RunsTest):
         for texts, told in ((RUNS[1:], "2 elements at the start, 1 offered, 3 given, 0 left at the end"),
                             (cleared, "0 elements at the start, 3 offered, 1 given, 0 left at the end"),
                             (versions, "0 elements at the start, 2 offered, 2 given, 0 left at the end")):
-            paths = [self.file(f"part-{place}.txt", text) for place, text in enumerate(texts)]
-            self.assertEqual(self.lines(*paths)[1], told)
+            self.assertEqual(self.lines(*self.files(texts))[1], told)
 
     def test_a_run_that_does_not_continue(self) -> None:
         for text, line, says in NOT_CONTINUED:
@@ -105,20 +106,20 @@ class SeriesTest(RunsTest):
 
     def test_runs_between_which_time_passed(self) -> None:
         """As tools/service begins them: a run without a call opens at 5000, the next one at 7000."""
-        second = self.file("run-2.txt", "history 3\nopen 3 5000 2\nkeep 1 1009 0 0 2 a\nkeep 2 500 2 500 1 b\nend 0\n")
-        third = self.file("run-3.txt", "history 3\nopen 3 7000 2\nkeep 1 1009 0 0 2 a\nkeep 2 500 2 500 1 b\n"
-                          "1 7001 7001 take 2\n1 7009 7009 take 1\nend 2\n")
-        lines = self.lines(self.paths[0], second, third, "--began", "@100")
+        kept = "keep 1 1009 0 0 2 a\nkeep 2 500 2 500 1 b\n"
+        paths = self.files([RUNS[0], f"history 3\nopen 3 5000 2\n{kept}end 0\n",
+                            f"history 3\nopen 3 7000 2\n{kept}1 7001 7001 take 2\n1 7009 7009 take 1\nend 2\n"])
+        lines = self.lines(*paths, "--began", "@100")
         self.assertIn("from 0 to 7009 ns", lines[0])
         self.assertIn("0 elements at the start, 3 offered, 3 given, 0 left at the end", lines)
-        self.assertIn("  greatest         6.50 µs  6501 ns", lines)
-        self.assertNotIn("The time between two runs is left out, so later dates are too early by it.", lines)
+        self.assertIn("  greatest           6.50 µs  6501 ns", lines)
+        self.assertNotIn(LEFT_OUT, lines)
 
     def test_a_run_that_is_missing_or_damaged_is_named(self) -> None:
         one, two, three = self.paths
         self.assertIn(f"{three}: line 2: it does not continue {one}", self.refused(1, one, three))
-        damaged = self.file("run-2.txt", RUNS[1].replace("take 1\n", "take 7\n"))
-        says = f"report: {damaged}: line 6: element 7 is not in the queue\n"
+        self.file("run-2.txt", RUNS[1].replace("take 1\n", "take 7\n"))
+        says = f"report: {two}: line 6: element 7 is not in the queue\n"
         self.assertEqual(self.refused(1, *self.paths), says)
 
     def test_the_columns_of_all_runs(self) -> None:
@@ -130,10 +131,24 @@ class SeriesTest(RunsTest):
         self.assertEqual([it.left for it in history.runs], [2, 1, 0])
 
 
+LEFT_OUT = "The time between two runs is left out, so later dates are too early by it."
+EIGHT = 1_795_680_000 * SECOND  # 2026-11-26T08:00:00Z
+
+# Words that tell a date, and which one; and words that tell none.
+DATES = {
+    "2026-11-26T08:00:00Z": EIGHT, "2026-11-26 08:00": EIGHT, "2026-11-26 08:00:00 UTC": EIGHT, "@1795680000": EIGHT,
+    "2026-11-26 09:00:00.123456789 +0100": EIGHT + 123_456_789, "@1795680000.5": EIGHT + SECOND // 2,
+    "1970-01-01T00:00Z": 0,
+}
+NO_DATES = ["", "now", "2026-11-26", "2026-02-30T08:00Z", "2026-11-26T25:00Z", "1969-12-31T23:59Z",
+            "1970-01-01T00:30+01:00", "9999-12-31T23:59:59-05:00", "2026-11-26T08:00Zulu", "@", "@-1",
+            "2026-11-26T08:00:00.1234567890Z", "٢٠٢٦-11-26T08:00Z"]
+
+
 class DatesTest(RunsTest):
     def test_dates_of_a_run(self) -> None:
-        text = "history 3\nopen 0 1795680000000000000 0\n1 1795680060000000000 1795680060000000000 size 0\nend 1\n"
-        archived = self.file("archived.txt", text)
+        archived = self.file("archived.txt", "history 3\nopen 0 1795680000000000000 0\n"
+                             "1 1795680060000000000 1795680060000000000 size 0\nend 1\n")
         self.assertIn("from 2026-11-26 08:01:00", "\n".join(self.lines(archived, "--began", "dates")))
         lines = self.lines(self.paths[0], "--began", "2026-11-26T08:00:00Z")
         self.assertIn("from 2026-11-26 08:00:00.000 to 2026-11-26 08:00:00.000 UTC", lines)
@@ -146,56 +161,40 @@ class DatesTest(RunsTest):
             "00:00:00.500000008", "1", "take"])
 
     def test_the_time_between_runs_is_known_only_if_each_is_told(self) -> None:
-        says = "The time between two runs is left out, so later dates are too early by it."
-        first, second, third = "2026-11-26T08:00Z", "2026-11-26T09:00Z", "2026-11-27T08:00Z"
-        lines = self.lines(*self.paths, "--began", first)
-        self.assertIn(says, lines)
+        first, *others = (("--began", it) for it in ("2026-11-26T08:00Z", "2026-11-26T09:00Z", "2026-11-27T08:00Z"))
+        lines = self.lines(*self.paths, *first)
+        self.assertIn(LEFT_OUT, lines)
         self.assertIn("from 2026-11-26 08:00:00.000 to 2026-11-26 08:00:00.000 UTC", lines)
-        lines = self.lines(*self.paths, "--began", first, "--began", second, "--began", third)
-        self.assertNotIn(says, lines)
+        each = [*self.paths, *first, *others[0], *others[1]]
+        lines = self.lines(*each)
+        self.assertNotIn(LEFT_OUT, lines)
         self.assertIn("from 2026-11-26 08:00:00.000 to 2026-11-27 08:00:00.000 UTC", lines)
-        life = self.lines(*self.paths, "--job", "0", "--began", first, "--began", second, "--began", third)
+        life = self.lines(*each, "--job", "0")
         # The second attempt was taken 990 ns after the second run began, at the moment 20. The third one was offered in
         # the last event of that run, at the moment with which the third run opens.
         self.assertIn("2026-11-26 09:00:00.000000990", life[3])
         self.assertIn("2026-11-26 09:00:00.000001000  1 of run 2", life[4])
 
     def test_dates_begin_with_the_run_and_not_with_its_first_event(self) -> None:
-        history = read_series(self.paths[1:])
-        dates = Dates.of(history, [nanoseconds_of("@100")])
-        self.assertEqual([dates.date(moment) for moment in (20, 1020)], [100 * 10**9, 100 * 10**9 + 1000])
+        dates = Dates.of(read_series(self.paths[1:]), [nanoseconds_of("@100")])
+        self.assertEqual([dates.date(moment) for moment in (20, 1020)], [100 * SECOND, 100 * SECOND + 1000])
 
     def test_a_moment_at_which_two_runs_meet(self) -> None:
-        history = read_series(self.paths)
-        dates = Dates.of(history, [1000, 5000, 9000])
+        dates = Dates.of(read_series(self.paths), [1000, 5000, 9000])
         self.assertEqual([dates.date(20, run) for run in (0, 1, 2)], [1020, 1020, 5000])
         self.assertEqual([dates.date(moment) for moment in (0, 21, 1020, 1021)], [1000, 5001, 6000, 9001])
 
-    def test_dates_that_can_be_told(self) -> None:
-        told = {
-            "2026-11-26T08:00:00Z": 1_795_680_000 * 10**9, "2026-11-26 08:00": 1_795_680_000 * 10**9,
-            "2026-11-26 09:00:00.123456789 +0100": 1_795_680_000 * 10**9 + 123_456_789,
-            "2026-11-26 08:00:00 UTC": 1_795_680_000 * 10**9, "@1795680000": 1_795_680_000 * 10**9,
-            "@1795680000.5": 1_795_680_000 * 10**9 + 500_000_000, "1970-01-01T00:00Z": 0,
-        }
-        self.assertEqual({text: nanoseconds_of(text) for text in told}, told)
-
-    def test_dates_that_are_none(self) -> None:
-        for text in ("", "now", "2026-11-26", "2026-02-30T08:00Z", "2026-11-26T25:00Z", "1969-12-31T23:59Z",
-                     "1970-01-01T00:30+01:00", "9999-12-31T23:59:59-05:00", "2026-11-26T08:00Zulu", "@", "@-1",
-                     "2026-11-26T08:00:00.1234567890Z", "٢٠٢٦-11-26T08:00Z"):
+    def test_what_tells_a_date(self) -> None:
+        self.assertEqual({text: nanoseconds_of(text) for text in DATES}, DATES)
+        for text in NO_DATES:
             with self.subTest(text=text):
                 self.assertRaises(ValueError, nanoseconds_of, text)
         self.assertIn("'now' is no TIME: no date and time", self.refused(2, "run.txt", "--began", "now"))
+        greatest = date_text(nanoseconds_of("2026-11-26T08:00Z") + 2**64 - 1, 9)
+        self.assertEqual(greatest, "2611-06-17 07:34:33.709551615")
 
-    def test_dates_of_the_greatest_moment(self) -> None:
-        self.assertEqual(date_text(nanoseconds_of("2026-11-26T08:00Z") + 2**64 - 1, 9), "2611-06-17 07:34:33.709551615")
-
-    def test_too_few_or_many_times(self) -> None:
+    def test_words_about_several_runs(self) -> None:
         says = "--began is given once, or once for each history"
         self.assertIn(says, self.refused(2, *self.paths, "--began", "@1", "--began", "@2"))
-        self.assertIn(says, self.refused(2, self.paths[0], "--began", "@1", "--began", "@2"))
-
-    def test_the_page_does_not_replace_any_of_the_runs(self) -> None:
         self.assertIn("--html names a history itself", self.refused(2, *self.paths, "--html", self.paths[2]))
         self.assertEqual(os.path.getsize(self.paths[2]), len(RUNS[2]))
