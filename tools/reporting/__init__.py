@@ -2,7 +2,7 @@
 on a terminal and on a page.
 
     calls.py, depth.py, lateness.py, jobs.py, retries.py  figures
-    findings.py, figures.py                    what looks wrong, and all figures of a history
+    chains.py, findings.py, figures.py         what looks wrong, and all figures of a history
     columns.py, dates.py, units.py             long series sorted or made short, and numbers as people read them
     tables.py, report_tables.py                what the terminal and the page show alike
     terminal.py                                the report as text

@@ -1,6 +1,7 @@
 """What looks wrong in a history: each finding is a sentence, with the jobs that it is about.
 
-None is a fault of the broker: a legal history may have them all. They are what a person would ask about first.
+None is a fault of the broker. Most are what a person would ask about first; the others, such as a job in two places,
+are of a history that the program did not write, since it is proved that it never does.
 """
 from __future__ import annotations
 
@@ -10,6 +11,7 @@ from typing import Iterator, NamedTuple, Sequence
 
 from histories.history import NONE, History
 from reporting.calls import Calls
+from reporting.chains import broken_chains
 from reporting.depth import Depth
 from reporting.jobs import Jobs, given_events, lives
 from reporting.retries import AT_ONCE, Policy, Retries
@@ -20,6 +22,8 @@ IDLE_POLLS, IDLE_SHARE = 100, 0.9  # this many polls, of which this share found 
 DEEP_END, DEEP_SHARE = 100, 0.9  # this many elements at the end, and this share of the greatest number
 JOBS_AT_ONCE = 10  # this many jobs that came back at once
 MOST_NAMED = 5
+
+NOT_WRITTEN = "this history is not one that the program wrote"
 
 
 class Finding(NamedTuple):
@@ -33,6 +37,9 @@ def findings_of(
     history: History, calls: dict[str, Calls], depth: Depth, jobs: Jobs, policy: Policy, retries: Retries
 ) -> Iterator[Finding]:
     """All that looks wrong."""
+    for fault, roots in broken_chains(history).items():
+        yield Finding(f"{_were(len(roots), 'job')} {fault}: {NOT_WRITTEN}, or its opening is not",
+                      _named(history, roots))
     yield from _bursts(history, jobs)
     yield from _returns(history, policy, retries)
     yield from _left(history)
@@ -72,10 +79,10 @@ def _returns(history: History, policy: Policy, retries: Retries) -> Iterator[Fin
     if retries.misfits:
         option = f"--delay {policy.delay}" if policy.rate is None else f"--rate {policy.rate}"
         yield Finding(f"{retries.misfits:,} of {counted(retries.returns, 'return')} have another expiry than {option}"
-                      " gives: the run had another policy, or this history is not one that the program wrote")
+                      f" gives: the run had another policy, or {NOT_WRITTEN}")
     if retries.beyond:
         yield Finding(f"{counted(len(retries.beyond), 'job')} had attempts beyond --attempts {policy.attempts}: the run"
-                      " allowed more", _named(history, retries.beyond))
+                      f" allowed more, or {NOT_WRITTEN}", _named(history, retries.beyond))
 
 
 def _left(history: History) -> Iterator[Finding]:

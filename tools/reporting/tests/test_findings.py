@@ -1,10 +1,12 @@
-"""What looks wrong in a history: by itself, and by the options that the report was told."""
+"""What looks wrong in a history: by itself, and by the options that the report was told; what the program never
+writes."""
 from __future__ import annotations
 
 import unittest
 
 from histories.grammar import GREATEST
-from histories.tests.support import offer, text_of
+from histories.tests.support import RUN, offer, text_of
+from reporting.findings import Finding
 from reporting.retries import Policy
 from reporting.tests.support import figures
 
@@ -78,7 +80,8 @@ SAID: list[tuple[list[str], Policy, str]] = [
     (PASSED, Policy(rate=500), "10 jobs came back at once, 10 times in all, at most 0 ns after failing; 10 reached"
                                " attempt 2, the quickest 0 ns after its first gift; the next moment of their rate had"
                                " passed or was near"),
-    (THREE, Policy(attempts=2), "3 jobs had attempts beyond --attempts 2"),
+    (THREE, Policy(attempts=2), "3 jobs had attempts beyond --attempts 2: the run allowed more, or this history is not"
+                                " one that the program wrote"),
     (THREE, Policy(attempts=3), ""),
     (THREE, Policy(delay=5 * MILLISECOND), ""),
     (THREE, Policy(delay=5_000_001), "6 of 6 returns have another expiry than --delay 5000001 gives: the run had"
@@ -91,6 +94,30 @@ SAID: list[tuple[list[str], Policy, str]] = [
 # A call that was asked at 5 took effect at 9: the delay counts from 5.
 ASKED = [offer(0, 0), "1 0 0 take 0", "2 9 9 size 0", "1 5 9 offer 1 5000005 0 0 2 a"]
 LATEST = [offer(0, 0), "1 9 9 take 0", f"1 9 9 offer 1 {GREATEST} 0 0 2 a"]
+
+AGAIN = "1 9 9 offer 1 9 0 5 2 a"  # the second attempt of job 0
+
+# Events of job 0 that no run has, and what is said of it. docs/HISTORY.md has the rules for each attempt.
+NEVER_WRITTEN = {
+    "in the queue twice at once": [
+        [offer(0, 5), AGAIN], [offer(0, 5), "1 9 9 take 0", AGAIN, "1 9 9 offer 2 9 0 5 3 a"],
+    ],
+    "begun with another origin or first expiry than its own": [
+        ["1 9 9 offer 0 9 7 9 1 a"], ["1 9 9 offer 0 9 0 8 1 a"],
+    ],
+    "offered again without an attempt before that was given": [
+        ["1 9 9 offer 0 9 7 9 2 a"], [offer(0, 5), "1 9 9 remove 0 yes", AGAIN], [offer(0, 5), "1 9 9 clear", AGAIN],
+        [offer(0, 5), "1 9 9 take 0", AGAIN.replace(" 2 a", " 3 a")],
+    ],
+    "offered twice as the same attempt": [
+        [offer(0, 5), "1 9 9 take 0", AGAIN, "1 9 9 take 1", "1 9 9 offer 2 9 0 5 2 a"],
+        [offer(0, 5), "1 9 9 take 0", "1 9 9 offer 1 9 0 9 1 a"],
+    ],
+    "offered again with another payload or first expiry": [
+        [offer(0, 5), "1 9 9 take 0", AGAIN.replace("2 a", "2 b")],
+        [offer(0, 5), "1 9 9 take 0", AGAIN.replace("0 5 2", "0 6 2")],
+    ],
+}
 
 
 class FindingsTest(unittest.TestCase):
@@ -105,6 +132,20 @@ class FindingsTest(unittest.TestCase):
                 self.assertIn(part, said)
                 self.assertNotIn("given 3 times or more", said)
                 self.assertEqual(bool(said), bool(part))
+
+    def test_what_the_program_never_writes(self) -> None:
+        for fault, texts in NEVER_WRITTEN.items():
+            says = f"1 job was {fault}: this history is not one that the program wrote, or its opening is not"
+            for events in texts:
+                with self.subTest(fault=fault, events=events):
+                    text = text_of(*events)
+                    origin = int(events[0].split(" ")[6])
+                    self.assertEqual(figures(text).findings[0], Finding(says, [origin]))
+
+    def test_an_opening_that_no_run_leaves(self) -> None:
+        twice = RUN.replace("keep 2 150 1 120 2 b", "keep 2 150 0 90 2 a")
+        self.assertIn("1 job was in the queue twice at once: ", figures(twice).findings[0].says)
+        self.assertEqual(figures(RUN).findings, [])
 
     def test_last_attempts(self) -> None:
         begun = (offer(0, 0), "1 0 0 take 0", "1 0 0 offer 1 5 0 0 2 a")

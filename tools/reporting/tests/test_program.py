@@ -63,3 +63,4 @@ class ProgramTest(RoomTest):
                     f"{told['left']:,} left at the end")
             report = run(path).stdout
             self.assertEqual(report.splitlines()[1], line)
+            self.assertNotIn("is not one that the program wrote", report)
