@@ -1,5 +1,4 @@
-"""The parts of tools/package: the table of options, the completions and the package. Those of dev/check package are
-below tests/."""
+"""The parts of tools/package. Those of dev/check package are below tests/."""
 from common.program import TOP
 
 SOURCES = f"{TOP}/packaging"

@@ -1,4 +1,5 @@
 """The Debian package, made of the tree by the commands of dpkg-dev and dpkg."""
+import email.utils
 import gzip
 import hashlib
 import os
@@ -7,30 +8,39 @@ import subprocess
 import tempfile
 from pathlib import Path
 
+from common.program import TOP
 from packaging import SOURCES, Fault
-from packaging.changes import changelog
 from packaging.tree import DOCUMENTS, copy, lay_out, write
 from packaging.version import Version
 
 OF_DPKG = ("conffiles", "postinst", "prerm", "postrm")  # files of packaging/debian that dpkg needs as they are
 
+# What changed is told by CHANGELOG.md, which lies beside it as changelog.gz.
+CHANGELOG = """rb-broker ({}) unstable; urgency=medium
+
+  * changelog.gz has what changed.
+
+ -- Nixerba maintainers <maintainers@users.noreply.nixerba.example>  {}
+"""
+
 
 def make_package(program: Path, version: Version, folder: Path) -> Path:
     """Makes the package of a program in a folder, and returns its path."""
-    if not program.is_file() or not is_elf(program):
+    if not program.is_file() or program.read_bytes()[:4] != b"\x7fELF":
         raise Fault(f"{program} is no {'ELF program' if program.is_file() else 'file'}")
     if not folder.is_dir():
         raise Fault(f"{folder} is no folder")
-    with tempfile.TemporaryDirectory(prefix="rb-package-") as room:
-        root = Path(room, "root")
+    with tempfile.TemporaryDirectory(prefix="rb-package-") as name:
+        room = Path(name)
+        root = room / "root"
         lay_out(root, program)
-        write(root / DOCUMENTS / "changelog.gz", gzip.compress(changelog(version).encode(), mtime=0))
-        write_control(Path(room), root, version)
+        shutil.copytree(Path(SOURCES, "debian"), room / "debian")
+        changelog = CHANGELOG.format(version.text, email.utils.formatdate(version.moment)).encode()
+        write(room / "debian/changelog", changelog)
+        for kind, text in ((".Debian", changelog), ("", Path(TOP, "CHANGELOG.md").read_bytes())):
+            write(root / DOCUMENTS / f"changelog{kind}.gz", gzip.compress(text, mtime=0))
+        write_control(room, root)
         return pack(root, version, folder)
-
-
-def is_elf(program: Path) -> bool:
-    return program.read_bytes()[:4] == b"\x7fELF"
 
 
 def run(*words: object, folder: Path | None = None, moment: int = 0) -> str:
@@ -45,23 +55,17 @@ def run(*words: object, folder: Path | None = None, moment: int = 0) -> str:
     return made.stdout
 
 
-def write_control(room: Path, root: Path, version: Version) -> None:
-    """Writes the folder DEBIAN: what dpkg must know about the package."""
-    shutil.copytree(Path(SOURCES, "debian"), room / "debian")
-    write(room / "debian/changelog", changelog(version).encode())
+def write_control(room: Path, root: Path) -> None:
+    """Writes the folder DEBIAN: what dpkg must know about the package, and a sum of each file that is no conffile, by
+    which `dpkg --verify` finds what was changed."""
     run("dpkg-shlibdeps", "-Tneeds", f"-e{root}/usr/bin/rb_broker", folder=room)
     control = run("dpkg-gencontrol", "-Tneeds", "-fdebian/files", f"-P{root}", "-O", folder=room)
-    sums = md5sums(root)
+    paths = [it for it in sorted(root.glob("usr/**/*")) if it.is_file() and not it.is_symlink()]
+    sums = [f"{hashlib.md5(it.read_bytes()).hexdigest()}  {it.relative_to(root)}\n" for it in paths]
     write(root / "DEBIAN/control", control.encode())
-    write(root / "DEBIAN/md5sums", sums.encode())
+    write(root / "DEBIAN/md5sums", "".join(sums).encode())
     for name in OF_DPKG:
         copy(Path(SOURCES, "debian", name), root / "DEBIAN" / name)
-
-
-def md5sums(root: Path) -> str:
-    """A line for each file that is no conffile, by which `dpkg --verify` finds what was changed."""
-    paths = [it for it in sorted(root.glob("usr/**/*")) if it.is_file() and not it.is_symlink()]
-    return "".join(f"{hashlib.md5(it.read_bytes()).hexdigest()}  {it.relative_to(root)}\n" for it in paths)
 
 
 def pack(root: Path, version: Version, folder: Path) -> Path:

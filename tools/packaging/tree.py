@@ -8,9 +8,6 @@ from pathlib import Path
 
 from common.program import TOP
 from packaging import SOURCES
-from packaging.bash_completion import bash_completion
-from packaging.table import read_table
-from packaging.zsh_completion import zsh_completion
 
 DOCUMENTS = "usr/share/doc/rb-broker"
 TOOLS = "usr/share/rb_broker/tools"
@@ -20,6 +17,7 @@ PYTHON = "usr/lib/python3/dist-packages"
 COPIED = {
     "rb_broker@.service": "usr/lib/systemd/system/rb_broker@.service",
     "rb_broker.default": "etc/default/rb_broker",
+    "rb_broker.bash": "usr/share/bash-completion/completions/rb_broker",
     "debian/copyright": f"{DOCUMENTS}/copyright",
 }
 
@@ -60,16 +58,13 @@ def copy(source: Path, path: Path) -> None:
 
 
 def lay_out(root: Path, program: Path) -> None:
-    """Lays out all files except the changelog below an empty folder."""
+    """Lays out all files except the changelogs below an empty folder."""
     os.umask(0o022)
     write(root / "usr/bin/rb_broker", program.read_bytes(), is_command=True)
     for name, place in COPIED.items():
         copy(Path(SOURCES, name), root / place)
     page = Path(SOURCES, "rb_broker.1").read_bytes()
     write(root / "usr/share/man/man1/rb_broker.1.gz", gzip.compress(page, mtime=0))
-    table = read_table()
-    write(root / "usr/share/bash-completion/completions/rb_broker", bash_completion(table).encode())
-    write(root / "usr/share/zsh/vendor-completions/_rb_broker", zsh_completion(table).encode())
     lay_out_documents(Path(TOP), root / DOCUMENTS)
     lay_out_tools(Path(TOP), root)
 

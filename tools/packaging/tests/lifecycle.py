@@ -7,28 +7,25 @@ from pathlib import Path
 from checking.tally import Tally
 from common.program import TOP
 from packaging import Fault
-from packaging.table import Table
 from packaging.tests.booted import try_units
+from packaging.tests.completions import check_completions
 from packaging.tests.installed import try_installed
-from packaging.tests.page import check_layout
+from packaging.tests.options import Option, check_layout
 from packaging.tests.running import DONE, Told, expect, run
-from packaging.tests.service import try_service
-from packaging.tests.shells import check_bash, check_zsh
+from packaging.tests.service import try_dates, try_service
 from packaging.tests.unit import check_by_systemd
 
 
-def try_package(tally: Tally, program: str, table: Table, folder: str) -> None:
+def try_package(tally: Tally, program: str, options: dict[str, Option], folder: str) -> None:
     """Makes, installs, uses and removes the package, all below an empty folder."""
     root = f"{folder}/root"
     package = made(tally, program, folder)
     install(tally, package, root)
     check_layout(tally, f"{root}/usr/share/man/man1/rb_broker.1.gz")
     check_by_systemd(tally, root, folder)
-    os.mkdir(f"{folder}/files")
-    Path(folder, "files/one.txt").touch()
-    check_bash(tally, f"{root}/usr/share/bash-completion/completions/rb_broker", f"{folder}/files", table)
-    check_zsh(tally, f"{root}/usr/share/zsh/vendor-completions/_rb_broker", table)
+    check_completions(tally, root, f"{folder}/files", options)
     try_service(tally, root, f"{folder}/state")
+    try_dates(tally, root, f"{folder}/dates")
     try_installed(tally, root, folder)
     remove(tally, root)
     try_units(tally, package, f"{folder}/machine")

@@ -18,7 +18,6 @@ UNITS = (
 )
 NAMESPACES = ("--mount", "--pid", "--uts", "--ipc", "--cgroup")
 PATIENCE = 60  # seconds in which it is up, and in which it is gone
-SET_DATE, OFFSET = "/set_date.so", "/run/date_offset"  # files of it
 
 
 def own_cgroup() -> str:
@@ -102,12 +101,3 @@ class Machine:
         """Writes a file of it, and makes its folder."""
         told = self.run("sh", "-c", 'mkdir -p "$(dirname "$1")" && printf "%s" "$2" > "$1"', "sh", path, text)
         assert told.status == 0, told
-
-    def can_set_date(self) -> bool:
-        """Whether its date can be set, which processes have that load SET_DATE."""
-        words = ["-shared", "-fPIC", f'-DDATE_OFFSET="{OFFSET}"', "-o", f"{self.folder}/upper{SET_DATE}"]
-        return bool(shutil.which("cc")) and run("cc", *words, f"{TOP}/tools/packaging/tests/set_date.c").status == 0
-
-    def set_date(self, seconds: int) -> None:
-        """Sets its date to this machine's plus these seconds, and leaves its other clocks as they are."""
-        self.write(OFFSET, str(seconds))

@@ -1,25 +1,32 @@
 """Runs of an installed service, each served, stopped in good order, or killed."""
 import os
 import re
+import shutil
 import signal
 import subprocess
 import time
+from datetime import datetime, timezone
+from pathlib import Path
 from typing import Self
 
 from checking.tally import Tally
-from packaging.tests.running import PATIENCE, Told, expect
+from common.program import TOP
+from packaging.tests.running import PATIENCE, Told, expect, run
 from serving.server import free_port, started
 from serving.session import Session
 
 FEW = ("--workers", "4", "--sessions", "40", "--calls", "1000")
+DUE = 12  # seconds after which a job is due while the date is set
 
 
 class Serving:
-    """A service that is installed below a root, as the unit runs it with these options, until the end of a `with`."""
+    """A service that is installed below a root, as the unit runs it with these options, until the end of a `with`. A
+    library may be loaded before its own."""
 
-    def __init__(self, root: str, folder: str, *options: str) -> None:
+    def __init__(self, root: str, folder: str, *options: str, library: str = "") -> None:
         self.port, self.said = free_port(), ""
-        words = [f"{root}/usr/bin/rb_broker_service", "--port", str(self.port), "--folder", folder, *options]
+        words = ["env", f"LD_PRELOAD={library}"] if library else []
+        words += [f"{root}/usr/bin/rb_broker_service", "--port", str(self.port), "--folder", folder, *options]
         self.process = started(words)
         assert self.process.stderr
         while " event=serving " not in self.said and (line := self.process.stderr.readline()):
@@ -78,3 +85,44 @@ def try_service(tally: Tally, root: str, folder: str) -> None:
         expect(tally, "a run behind a killed one", replies == "SIZE 2\nBYE\n", replies)
         told = service.stop()
     expect(tally, "what is said of the loss", told.errors.count(" event=lost-run ") == 1, told)
+
+
+def try_dates(tally: Tally, root: str, folder: str) -> None:
+    """The date is set while a job waits: the job is due after real time, also over a restart of the service, and no run
+    ends for that."""
+    os.makedirs(folder)
+    library, offset = f"{folder}/set_date.so", Path(folder, "offset")
+    words = ["-shared", "-fPIC", f'-DDATE_OFFSET="{offset}"', "-o", library, f"{TOP}/tools/packaging/tests/set_date.c"]
+    if not shutil.which("cc") or run("cc", *words).status != 0:
+        tally.skip("a date that is set", "there is no C compiler")
+        return
+    for hours in (5, -3):
+        with Serving(root, f"{folder}/{hours}", *FEW, library=library) as service:
+            offered = time.monotonic()
+            service.talk(f"OFFER {DUE}000000000 reminder", "QUIT")
+            offset.write_text(str(hours * 3600), encoding="ascii")
+            time.sleep(2)  # in which it would be seen that the run is old
+            first = service.stop()
+        with Serving(root, f"{folder}/{hours}", *FEW, library=library) as service:
+            served = time.monotonic() - offered  # which a busy machine may not be in time
+            early, reply, passed = taken_reminder(service, offered)
+            said = first.errors + service.said + service.stop().errors
+        date = datetime.fromisoformat(re.findall(r"^time=(\S+)Z ", said, re.M)[-1]).replace(tzinfo=timezone.utc)
+        is_set = abs(date.timestamp() - time.time() - hours * 3600) < 60
+        is_due = DUE <= passed < max(DUE, served) + 5 and not early.endswith(" reminder")
+        is_right = (first.status == 0 and is_set and is_due and reply.endswith(" reminder")
+                    and " why=time" not in said and " event=lost-run " not in said)
+        expect(tally, f"a date that is set by {hours} h", is_right, first, date, early, reply, passed, said)
+
+
+def taken_reminder(service: Serving, offered: float) -> tuple[str, str, float]:
+    """What a poll gives before the reminder is due, what the last take gave, and how long after the offer."""
+    with Session(service.port) as it:
+        early, reply = it.ask("POLL") if time.monotonic() < offered + DUE - 1 else "NONE", ""
+        while not reply.endswith(" reminder") and time.monotonic() < offered + 5 * DUE:
+            reply = it.ask("TAKE")
+        passed = time.monotonic() - offered
+        if reply.startswith("ITEM "):
+            it.ask(f"DONE {reply.split(' ')[1]}")
+        it.ask("QUIT")
+    return early, reply, passed

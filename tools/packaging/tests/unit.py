@@ -5,38 +5,28 @@ from pathlib import Path
 from checking.tally import Tally
 from common.program import TOP
 from packaging import SOURCES
-from packaging.tests.page import options_in
+from packaging.tests.options import options_in
 from packaging.tests.running import expect, is_there, run
 
 UNIT, DEFAULTS = Path(SOURCES, "rb_broker@.service"), Path(SOURCES, "rb_broker.default")
-
-
-def setting_of(text: str, name: str) -> str:
-    """The value that a variable is given in a text of either kind."""
-    found = re.search(rf'^(?:Environment=)?"?{name}=("?)([^"\n]*)', text, re.M)
-    return found[2] if found else f"no {name}"
+COMMAND = "/usr/bin/rb_broker_service --port %i --folder %S/rb_broker/%i $RB_BROKER_OPTIONS"
 
 
 def check_unit(tally: Tally) -> None:
     """The unit and its file name options of the service, with their defaults, and set none."""
     unit, defaults = UNIT.read_text(encoding="utf-8"), DEFAULTS.read_text(encoding="utf-8")
-    start = re.findall(r"^ExecStart=(.*)$", unit, re.M)
-    wanted = ["/usr/bin/rb_broker_service --port %i --folder %S/rb_broker/%i $RB_BROKER_OPTIONS"]
-    expect(tally, "the unit's command", start == wanted, start)
-    told = {setting_of(unit, "RB_BROKER_OPTIONS"), setting_of(defaults, "RB_BROKER_OPTIONS")}
-    expect(tally, "RB_BROKER_OPTIONS of unit and file", told == {""}, told)
+    starts = re.findall(r"^ExecStart=(.*)$", unit, re.M)
+    expect(tally, "the unit's command", starts == [COMMAND], starts)
+    told = re.findall(r'^(?:Environment=)?RB_BROKER_OPTIONS="?([^"\n]*)', unit + defaults, re.M)
+    expect(tally, "RB_BROKER_OPTIONS of unit and file", told == ["", ""], told)
     help = " ".join(run(f"{TOP}/tools/service", "--help").said.split())
-    for name, default in re.findall(r"^#   (--\S+) [A-Z].*?(?:default (\w+)|$)", joined(defaults), re.M):
+    joined = re.sub(r"\n#    +", " ", defaults)  # in which what is told of an option is in one line
+    for name, default in re.findall(r"^#   (--\S+) [A-Z].*?(?:default (\w+)|$)", joined, re.M):
         entry = re.search(rf"{name} [A-Z].*?(?= --[a-z])", help)
         is_right = entry is not None and (not default or f"({default})" in entry[0])
         expect(tally, f"{name} of rb_broker.default", is_right, (default, entry and entry[0]))
     others = options_in(defaults) - options_in(help)
     tally.count("other options of rb_broker.default", ", ".join(sorted(others)))
-
-
-def joined(text: str) -> str:
-    """The comments of a file, in which what is told of an option is in one line."""
-    return re.sub(r"\n#    +", " ", text)
 
 
 def check_by_systemd(tally: Tally, root: str, folder: str) -> None:
