@@ -5,7 +5,7 @@ import operator
 import os
 import re
 from dataclasses import dataclass, field
-from typing import Callable, Match
+from typing import Match
 
 TIMERS = ("list", "heap", "pairing", "wheel")
 
@@ -23,6 +23,18 @@ FAULTS = {
 TEXTS = ("from", ">", "<", "=")
 DEVICES = ("reader", "writer", "recorder")
 NO_DEVICE = "no such timer, size of reads or fault"
+
+# The words that a case has at most once, each with the form of what follows, and why something else is refused. Those
+# of a device begin with two words.
+NUMBER = ("[0-9]+", "no number")
+OF_SCRIPTS = {
+    "timer": ("|".join(TIMERS), NO_DEVICE), "reads": ("whole|1|7", NO_DEVICE), "reader interrupted": ("", NO_DEVICE),
+    "reader fails": NUMBER, "writer fails": NUMBER, "writer takes": NUMBER, "recorder fails": NUMBER,
+}
+ONCE = {
+    "args": (".*", ""), "verdict": (".*", ""), "status": ("[0-9]{1,2}|1[0-9]{2}|2[0-4][0-9]|25[0-5]", "no number"),
+    "ends": (f"(?:quit|input) [0-9]+|{'|'.join(FAULTS)}", "no such end"), **OF_SCRIPTS,
+}
 
 ESCAPE = re.compile(rb"\\(?:([\\rn])|x([0-9A-Fa-f]{2})|(#)|\(([^ )]*) ([^)]*)\)|)")
 MARKS = {b"\\": b"\\", b"r": b"\r", b"n": b"\n"}
@@ -48,42 +60,6 @@ def number_of(word: str, most: float = float("inf")) -> int:
     return int(word)
 
 
-def ending(told: str) -> str:
-    """How a script ends: `quit N`, `input N`, or a fault's text."""
-    word, _, lost = told.partition(" ")
-    if word in ("quit", "input"):
-        number_of(lost)
-    elif told not in FAULTS:
-        raise Flaw("no such end")
-    return told
-
-
-def one_of(*names: str) -> Callable[[str], str]:
-    """Reads one of these names."""
-
-    def read(told: str) -> str:
-        if told not in names:
-            raise Flaw(NO_DEVICE)
-        return told
-
-    return read
-
-
-# The words that a case has at most once. Those of a device begin with two words.
-OF_SCRIPTS: dict[str, Callable[[str], object]] = {
-    "timer": one_of(*TIMERS),
-    "reads": one_of("whole", "1", "7"),
-    "reader fails": number_of,
-    "reader interrupted": one_of(""),
-    "writer fails": number_of,
-    "writer takes": number_of,
-    "recorder fails": number_of,
-}
-ONCE: dict[str, Callable[[str], object]] = {
-    "args": str, "ends": ending, "verdict": str, "status": lambda told: number_of(told, 255), **OF_SCRIPTS,
-}
-
-
 @dataclass
 class Case:
     """A case as its file describes it: the values of the words that occur once, and its texts."""
@@ -91,7 +67,7 @@ class Case:
     file: str
     line: int
     name: str
-    values: dict[str, object] = field(default_factory=dict)
+    values: dict[str, str] = field(default_factory=dict)
     texts: dict[str, bytes] = field(default_factory=dict)
 
     def take(self, word: str, told: str) -> None:
@@ -103,10 +79,13 @@ class Case:
                 raise Flaw(NO_DEVICE)
         if word in self.values:
             raise Flaw("for the second time in this case")
-        if word in ONCE:
-            self.values[word] = ONCE[word](told)
-        else:
+        if word not in ONCE:
             self._take_text(word, told)
+            return
+        form, why = ONCE[word]
+        if not re.fullmatch(form, told):
+            raise Flaw(why)
+        self.values[word] = told
 
     def _take_text(self, word: str, told: str) -> None:
         """Takes a line of a text, or a part of one, which has no end: `>`, `>*500` or `>~`."""
@@ -150,7 +129,7 @@ class Case:
     @property
     def lost(self) -> int:
         """How many held jobs are lost at the end of the script."""
-        return 0 if self.fault else number_of(self.value("ends").partition(" ")[2])
+        return 0 if self.fault else int(self.value("ends").partition(" ")[2])
 
     def text(self, mark: str) -> bytes:
         """The text of this mark, which is empty if the case has none."""
@@ -158,7 +137,7 @@ class Case:
 
     def value(self, word: str) -> str:
         """What follows this word, or nothing."""
-        return str(self.values.get(word, ""))
+        return self.values.get(word, "")
 
     def number(self, word: str) -> int:
         """The number after this word, or 0."""

@@ -43,7 +43,7 @@ class CaseReaderTest(RoomTest):
             ("case a\n> \\(# %0)\n", "2: no number"),
             ("case a\n>*2 \\(# +18446744073709551615)\n", "2: no number"),
             ("case a\nstatus 256\n", "2: no number"),
-            ("case a\nends quit\n", "2: no number"),
+            ("case a\nends quit\n", "2: no such end"),
             ("case a\nends well\n", "2: no such end"),
             ("case a\ntimer tree\n", "2: no such timer, size of reads or fault"),
             ("case a\nreads 3\n", "2: no such timer, size of reads or fault"),

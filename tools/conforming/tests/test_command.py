@@ -107,4 +107,4 @@ class WordsTest(RoomTest):
     def test_a_malformed_file_is_told(self):
         path = self.file("a.case", "# a remark\n\ncase one\n> SIZE\n< SIZE 0\nends input\n")
         status, lines, errors = conform("--cases", path, "true")
-        self.assertEqual((status, lines, errors), (2, [], f"conform: {path}:6: no number\n"))
+        self.assertEqual((status, lines, errors), (2, [], f"conform: {path}:6: no such end\n"))
