@@ -12,16 +12,15 @@ from common.tests.support import Terminal, long_work_at_terminal
 
 EMPTY = "\r" + " " * len("counting") + "\r"
 
+# What work says that says something after each of so many seconds, and what it writes at a terminal of 20 columns.
+SAID = [
+    (["counting"], [1.9], ""), (["counting"] * 3, [1.9, 2.0, 2.1], 2 * "\rcounting" + EMPTY),
+    (["counting", "draw"], [2.0, 2.0], "\rcounting\rdraw    \r    \r"),  # nothing is left of a longer line
+    ([30 * "a"], [2.0], f"\r{19 * 'a'}\r{19 * ' '}\r"),
+]
+
 
 class ProgressTest(RoomTest):
-    def written(self, *seconds: float, what: str = "counting") -> str:
-        """What work writes at a terminal that says something after each of so many seconds, and then is done."""
-        with mock.patch("sys.stderr", Terminal()) as stderr, mock.patch("time.monotonic", side_effect=[0.0, *seconds]):
-            with Progress() as progress:
-                for _ in seconds:
-                    progress.say(what)
-        return stderr.told
-
     def reading(self, path: str) -> list[str]:
         """What is said at a terminal while a file is read that has the text `a` in each of its lines."""
         with long_work_at_terminal(), mock.patch("sys.stderr", Terminal()) as stderr:
@@ -30,8 +29,12 @@ class ProgressTest(RoomTest):
         return stderr.told.split("\r")
 
     def test_only_long_work_says_how_far_it_is(self) -> None:
-        self.assertEqual(self.written(1.9), "")
-        self.assertEqual(self.written(1.9, 2.0, 2.1), 2 * "\rcounting" + EMPTY)
+        for says, seconds, told in SAID:
+            with mock.patch("sys.stderr", Terminal()) as stderr, mock.patch.dict(os.environ, COLUMNS="20"), \
+                    mock.patch("time.monotonic", side_effect=[0.0, *seconds]), Progress() as progress:
+                for it in says:
+                    progress.say(it)
+            self.assertEqual(stderr.told, told)
 
     def test_nothing_is_said_where_there_is_no_terminal(self) -> None:
         with mock.patch("sys.stderr") as stderr, mock.patch("time.monotonic", side_effect=[0.0, 100.0]):
@@ -47,24 +50,12 @@ class ProgressTest(RoomTest):
                 raise OSError
         self.assertEqual(stderr.told, "\rcounting" + EMPTY)
 
-    def test_a_shorter_line_leaves_nothing_of_the_one_before(self) -> None:
-        with long_work_at_terminal(), mock.patch("sys.stderr", Terminal()) as stderr:
-            progress = Progress()
-            progress.say("counting")
-            progress.say("draw")
-        self.assertEqual(stderr.told, "\rcounting\rdraw    ")
-
-    def test_a_line_is_no_longer_than_the_terminal_is_wide(self) -> None:
-        with mock.patch.dict(os.environ, COLUMNS="20"):
-            self.assertEqual(self.written(2.0, what=30 * "a").split("\r")[1], 19 * "a")
-
     def test_how_much_of_a_file_has_been_read(self) -> None:
         for lines, most in ((40_000, 10), (1_000_000, 101)):  # of 8,192 bytes, of which a percent may have several
             path = self.file("text.txt", lines * "a\n")
             told = self.reading(path)
             self.assertEqual(told[1], f"reading {path}: 0 %")
-            self.assertIn(f"reading {path}: 51 %", told)
-            self.assertIn(f"reading {path}: 100 %", told)
+            self.assertLessEqual({f"reading {path}: 51 %", f"reading {path}: 100 %"}, {*told})
             self.assertLessEqual(len(told), most + 4)
 
     def test_a_file_without_a_size(self) -> None:

@@ -13,41 +13,38 @@ DOC = """Does something: tools/it [--n N]
     more of it
 """
 
+# What reads numbers, words with theirs, and the words that it refuses, with what is said of them.
+NUMBERS = [
+    (number(int, 1, 65_535), {"1": 1, "65535": 65_535}, ["0", "65536"], "^{} is not from 1 to 65535$"),
+    (number(float, 0, 1), {"0.5": 0.5}, ["nan"], ""),
+    (whole_number(1, 1000), {"1": 1, "1000": 1000}, ["0", "1001", "-1", "1_0", "٣", "1s", ""],
+     "^'{}' is no number from 1 to 1,000$"),
+    (whole_number(0, 9, "all"), {"9": 9}, ["10"], "from 0 to all$"),
+]
 
-class ParserTest(unittest.TestCase):
+
+class WordsTest(unittest.TestCase):
+    def ended(self, *words: str) -> tuple[object, str]:
+        """The status with which a parser ends the program at these words, and what it says."""
+        said, parser = io.StringIO(), parser_of("tools/it", DOC)
+        parser.add_argument("--number")
+        with contextlib.redirect_stdout(said), contextlib.redirect_stderr(said), self.assertRaises(SystemExit) as end:
+            parser.parse_args(words)
+        return end.exception.code, said.getvalue()
+
     def test_the_text_of_a_file_is_its_help(self) -> None:
-        said = io.StringIO()
-        with contextlib.redirect_stdout(said), self.assertRaises(SystemExit) as end:
-            parser_of("tools/it", DOC).parse_args(["--help"])
-        self.assertEqual(end.exception.code, 0)
-        self.assertIn("usage: tools/it [-h]", said.getvalue())
-        self.assertIn("Does something: tools/it [--n N]\n", said.getvalue())
-        self.assertTrue(said.getvalue().endswith("\n    more of it\n"))
+        status, said = self.ended("--help")
+        self.assertEqual(status, 0)
+        self.assertIn("usage: tools/it [-h]", said)
+        self.assertIn("Does something: tools/it [--n N]\n", said)
+        self.assertTrue(said.endswith("\n    more of it\n"))
 
     def test_options_are_not_shortened(self) -> None:
-        parser = parser_of("tools/it", DOC)
-        parser.add_argument("--number")
-        with contextlib.redirect_stderr(io.StringIO()), self.assertRaises(SystemExit) as end:
-            parser.parse_args(["--num", "1"])
-        self.assertEqual(end.exception.code, 2)
+        self.assertEqual(self.ended("--num", "1")[0], 2)
 
-
-class NumberTest(unittest.TestCase):
-    def test_both_ends_of_a_range(self) -> None:
-        read = number(int, 1, 65_535)
-        self.assertEqual([read("1"), read("65535")], [1, 65_535])
-        for word in ("0", "65536"):
-            with self.assertRaisesRegex(argparse.ArgumentTypeError, f"^{word} is not from 1 to 65535$"):
-                read(word)
-        self.assertRaises(ValueError, read, "x")
-
-    def test_what_is_no_number_at_all(self) -> None:
-        self.assertRaises(argparse.ArgumentTypeError, number(float, 0, 1), "nan")
-
-    def test_numbers_of_digits_alone(self) -> None:
-        read = whole_number(1, 1000)
-        self.assertEqual([read("1"), read("1000")], [1, 1000])
-        for word in ("0", "1001", "-1", "1_0", "٣", "1s", ""):
-            with self.assertRaisesRegex(argparse.ArgumentTypeError, f"^{word!r} is no number from 1 to 1,000$"):
-                read(word)
-        self.assertRaisesRegex(argparse.ArgumentTypeError, "from 0 to all$", whole_number(0, 9, "all"), "10")
+    def test_numbers(self) -> None:
+        for read, told, refused, says in NUMBERS:
+            self.assertEqual({word: read(word) for word in told}, told)
+            for word in refused:
+                self.assertRaisesRegex(argparse.ArgumentTypeError, says.format(word), read, word)
+        self.assertRaises(ValueError, NUMBERS[0][0], "x")
