@@ -10,6 +10,7 @@ import asyncio
 import contextlib
 import email.utils
 import functools
+import json
 import os
 import socket
 import sys
@@ -49,6 +50,10 @@ class Answer:
     def line(cls, status: HTTPStatus, says: str, *headers: tuple[str, str]) -> Answer:
         """A line of text."""
         return cls(status, "text/plain; charset=utf-8", f"{says}\n".encode(), headers)
+
+    @classmethod
+    def json(cls, told: Any) -> Answer:
+        return cls(HTTPStatus.OK, "application/json", json.dumps(told).encode())
 
     @property
     def head(self) -> bytes:

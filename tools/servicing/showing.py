@@ -11,6 +11,7 @@ from servicing.looking import Looks
 from servicing.runs import Runs
 from servicing.saying import notify, say
 from servicing.settings import Settings
+from servicing.shown import headline
 from servicing.state import Alert, Board, DiskFault, Phase, Reason, Run, State, Traffic
 
 MANY_ELEMENTS = 900_000
@@ -76,7 +77,7 @@ class Showing:
         self._board.put(state)
         # An end takes as long as --stop-within says, and an opening of many elements its time.
         longer = {} if state.phase is Phase.SERVING else {"EXTEND_TIMEOUT_USEC": MORE_TIME}
-        notify(STATUS=status_line(state), **longer)
+        notify(STATUS=headline(state), **longer)
 
     def _alerts(self) -> Iterator[Alert]:
         """Those that follow from what is seen."""
@@ -100,18 +101,3 @@ def lost_text(run: Run) -> str:
     return (f"run {run.number} was lost after {text_of(run.lasted)}: what was offered, taken and done in it is gone, "
             f"and the {run.opening:,} elements that it began with are in the queue again")
 
-
-def status_line(state: State) -> str:
-    """The state in a line."""
-    words = [state.phase.value]
-    if state.run:
-        words.append(f"run {state.run.number}")
-    if state.queue:
-        words.append(f"{state.queue.elements:,} elements")
-        if state.queue.head and state.queue.head.late > 1:
-            words.append(f"the first {text_of(state.queue.head.late)} late")
-    if state.clients:
-        words.append(f"{state.clients.served} clients served")
-    if state.lost_runs:
-        words.append(f"{state.lost_runs} lost runs")
-    return ", ".join([*words, *state.waits_for[:1]])

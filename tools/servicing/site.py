@@ -1,8 +1,8 @@
 """The page, the metrics and the health of a service, on one thread of their own.
 
     /             the page
-    /state.json   what it shows
-    /metrics      the same for Prometheus
+    /shown.json   what it shows
+    /state.json   the state for scripts, /metrics for Prometheus
     /health       200 as long as clients are served, or will be within seconds; 503 otherwise
     /runs/NUMBER  the report on a run that has ended; 202 while it is made
 
@@ -13,7 +13,6 @@ whoever may use the folder may connect there. If there is no room for the socket
 from __future__ import annotations
 
 import dataclasses
-import json
 import os
 import re
 import time
@@ -24,12 +23,14 @@ from servicing.address import Address
 from servicing.http import Answer, HttpServer
 from servicing.page import page
 from servicing.reports import HTML, Reports
+from servicing.shown import shown
 from servicing.state import Board, State, Traffic
 from servicing.told import told
-from servicing.trend import Trend
+from servicing.trend import PLOTS, Trend, drawn
 
 SOCKET = "status"  # in the folder
-JSON = "application/json"
+SHOWN, STATE = "/shown.json", "/state.json"
+UNAVAILABLE = HTTPStatus.SERVICE_UNAVAILABLE
 
 STALE = 60.0  # seconds without a new state after which the service is not healthy
 COUNTS = ("offered", "left", "failed", "dead_or_done")  # of the traffic, which rise
@@ -56,8 +57,8 @@ class Pages:
 
     def stop(self) -> None:
         """Cuts all connections, ends a report that is being made, and listens no more, within five seconds."""
-        self._reports.stop()
         self._server.stop()
+        self._reports.stop()
 
 
 class Site:
@@ -68,37 +69,41 @@ class Site:
         self._seen: State | None = None
         self._changed = time.monotonic()
         self._counted = Traffic()
-        self._told: Answer | None = None  # which is made once, however many ask
-        self._told_of: State | None = None
+        self._made: dict[str, Answer] = {}  # for a second of one state, however many ask
+        self._made_of: State | None = None
 
     def beat(self) -> None:
         """Takes note of the present state. To be called about once a second."""
-        state = self._board.state
+        self._made, state = {}, self._board.state
         if state is not self._seen and state is not None:
-            self._seen, self._changed, self._told = state, time.monotonic(), None
+            self._seen, self._changed = state, time.monotonic()
             self._trend.add(state)
-        elif self._is_stale:
-            self._told = None
 
     def answer(self, path: str) -> Answer | None:
         """The answer to a path. None if there is nothing."""
         if path == "/":
             return Answer(HTTPStatus.OK, HTML, self._page)
-        answers = {"/state.json": self._state, "/metrics": self._metrics, "/health": self._health}
         run, state = re.fullmatch(r"/runs/([1-9][0-9]{0,8})", path), self._board.state
-        if not run and path not in answers:
+        make = {SHOWN: self._shown, STATE: self._told, "/metrics": self._metrics, "/health": self._health}.get(path)
+        if not run and not make:
             return None
-        if state is None and path == "/state.json":
-            return Answer(HTTPStatus.OK, JSON, b"null")
         if state is None:
-            return Answer.line(HTTPStatus.SERVICE_UNAVAILABLE, "starting")
-        return self._report(state, int(run[1])) if run else answers[path](state)
+            return Answer.json(None) if path in (SHOWN, STATE) else Answer.line(UNAVAILABLE, "starting")
+        if run:
+            return self._report(state, int(run[1]))
+        if state is not self._made_of:
+            self._made, self._made_of = {}, state
+        if make and path not in self._made:
+            self._made[path] = make(state)
+        return self._made[path]
 
-    def _state(self, state: State) -> Answer:
-        if self._told is None or self._told_of is not state:
-            whole = {**told(state), "is_healthy": self._is_healthy(state), "trend": self._trend.told()}
-            self._told, self._told_of = Answer(HTTPStatus.OK, JSON, json.dumps(whole).encode()), state
-        return self._told
+    def _shown(self, state: State) -> Answer:
+        values = self._trend.values(state.runs)
+        plots = {name: drawn(it, values, state.at) for name, it in PLOTS.items()}
+        return Answer.json({**shown(state, self._is_healthy(state)), "plots": plots})
+
+    def _told(self, state: State) -> Answer:
+        return Answer.json({**told(state), "is_healthy": self._is_healthy(state)})
 
     def _metrics(self, state: State) -> Answer:
         """A counter is never less than before: a run whose end corrects a count must not look like a reset."""
@@ -112,8 +117,7 @@ class Site:
         if self._is_healthy(state):
             return Answer.line(HTTPStatus.OK, state.phase.value)
         why = f"{state.phase.value}; {state.disk.file}: {state.disk.why}" if state.disk else state.phase.value
-        why = f"the service has found nothing for {STALE:g} seconds" if self._is_stale else why
-        return Answer.line(HTTPStatus.SERVICE_UNAVAILABLE, why)
+        return Answer.line(UNAVAILABLE, f"the service has found nothing for {STALE:g} seconds" if self._is_stale else why)
 
     def _report(self, state: State, number: int) -> Answer | None:
         run = next((it for it in state.runs if it.number == number and it.history is not None), None)

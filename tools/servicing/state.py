@@ -219,6 +219,10 @@ class DiskFault:
     since: float
     kept: int  # bytes that are in memory only
 
+    @property
+    def text(self) -> str:
+        return f"{self.file} can't be written: {self.why}; {self.kept:,} bytes are kept in memory"
+
 
 @dataclass(frozen=True)
 class State:

@@ -1,5 +1,5 @@
-"""The state of a service in a terminal, asked at the socket in its folder. It costs the server nothing: it shows what
-the service has seen."""
+"""What a service shows in a terminal, asked at the socket in its folder. It costs the server nothing: it is what the
+service has seen."""
 from __future__ import annotations
 
 import http.client
@@ -10,22 +10,27 @@ import signal
 import socket
 import sys
 import time
+from typing import Any
 
 from common.words import give_up_output
+from reporting.tables import table
 from reporting.units import counted
 from servicing.http import short_name
-from servicing.site import SOCKET
-from servicing.status_lines import DIM, PLAIN, RED, Line, client_lines, head_lines
-from servicing.told import Told
+from servicing.shown import BAD, FAIR, TABLES, Row, Texts
+from servicing.site import SHOWN, SOCKET, STATE
 
 EVERY = 2.0  # seconds from one drawing to the next
 PATIENCE = 5.0  # seconds for an answer
+MOST_ROWS = {"room": 3, "runs": 2}  # of the tables above that of the clients
 
 # Sequences that every terminal of the last decades knows.
 HOME, REST_OF_LINE, REST_OF_SCREEN, CLEAR = "\x1b[H", "\x1b[K", "\x1b[J", "\x1b[2J"
+PLAIN, STYLES = "\x1b[0m", {BAD: "\x1b[31m", FAIR: "\x1b[33m", "head": "\x1b[1m", "dim": "\x1b[2m"}
 NEXT_LINE = "\r\n"
 
-STARTING: Line = (RED, "starting")
+Line = tuple[str, str]  # a mark and a text
+
+STARTING: Line = (BAD, "starting")
 
 
 class _Connection(http.client.HTTPConnection):
@@ -42,13 +47,12 @@ class _Connection(http.client.HTTPConnection):
             self.sock.connect(name)
 
 
-def state_in(folder: str) -> Told | None:
-    """The state of the service of a folder, or None before its first. Raises an OSError if no service answers."""
+def asked(folder: str, path: str = STATE) -> Any:
+    """What the service of a folder answers: None before its first state. Raises an `OSError` if no service answers."""
     connection = _Connection(folder)
     try:
-        connection.request("GET", "/state.json")
-        told: Told | None = json.loads(connection.getresponse().read())
-        return told
+        connection.request("GET", path)
+        return json.loads(connection.getresponse().read())
     except (http.client.HTTPException, ValueError) as fault:
         raise OSError(0, f"no service answers there ({fault})") from fault
     finally:
@@ -62,10 +66,10 @@ def show(folder: str, as_json: bool) -> int:
     the output; 130 after Ctrl-C, 143 after SIGTERM.
     """
     try:
-        told = state_in(folder)
+        told = asked(folder, STATE if as_json else SHOWN)
         if sys.stdout.isatty() and not as_json:
             return _show_again(folder, told)
-        text = json.dumps(told) if as_json else "\n".join(_printable(it) for _, it in _lines(told))
+        text = json.dumps(told) if as_json else "\n".join(_printable(it) for _, it in sum(_lines(told), []))
         print(text, flush=True)
         return 0 if told is not None and told["is_healthy"] else 1
     except BrokenPipeError:
@@ -76,7 +80,7 @@ def show(folder: str, as_json: bool) -> int:
         return 1
 
 
-def _show_again(folder: str, told: Told | None) -> int:
+def _show_again(folder: str, told: Texts | None) -> int:
     """Draws the screen again and again. A service that ends may come back."""
     signal.signal(signal.SIGTERM, lambda *_: sys.exit(128 + signal.SIGTERM))
     try:
@@ -87,7 +91,7 @@ def _show_again(folder: str, told: Told | None) -> int:
             sys.stdout.flush()
             time.sleep(EVERY)
             try:
-                told, is_gone = state_in(folder), False
+                told, is_gone = asked(folder, SHOWN), False
             except OSError:
                 is_gone = True
     except KeyboardInterrupt:
@@ -97,20 +101,40 @@ def _show_again(folder: str, told: Told | None) -> int:
         sys.stdout.flush()
 
 
-def frame(told: Told | None, is_gone: bool = False) -> str:
+def frame(told: Texts | None, is_gone: bool = False) -> str:
     """What is written to the terminal, cut to its size. `is_gone` says that the service does not answer any more."""
     width, height = shutil.get_terminal_size()
-    head = head_lines(told) if told else [STARTING]
-    gone = [(RED, "no service answers; this was seen last:")] if is_gone else []
+    head, rows = _lines(told)
+    if is_gone:
+        head.insert(0, (BAD, "no service answers; this was seen last:"))
     drawn = []
-    for style, text in _fitting([*gone, *head], client_lines(told) if told else [], height - 1):
-        text = _printable(text)[:width - 1]
-        drawn.append((f"{style}{text}{PLAIN}" if style and "NO_COLOR" not in os.environ else text) + REST_OF_LINE)
+    for kind, text in _fitting(head, rows, height - 1):
+        style, text = STYLES.get(kind) if "NO_COLOR" not in os.environ else None, _printable(text)[:width - 1]
+        drawn.append((f"{style}{text}{PLAIN}" if style else text) + REST_OF_LINE)
     return HOME + NEXT_LINE.join(drawn) + REST_OF_SCREEN
 
 
-def _lines(told: Told | None) -> list[Line]:
-    return [*head_lines(told), *client_lines(told)] if told else [STARTING]
+def _lines(told: Texts | None) -> tuple[list[Line], list[Line]]:
+    """The lines of the service, and those of its clients."""
+    if told is None:
+        return [STARTING], []
+    head = [("head" if told["is_healthy"] else BAD, f"port {told['port']}: {told['phase']} {told['since']}")]
+    head += [(BAD, f"! {it}") for it in told["attention"]]
+    figures = told["figures"]
+    head += [("", ""), *((kind or other, f"{value:>9} {name:30}{number:>9} {what}") for (name, value, kind), (
+        what, number, other) in zip(figures[::2], figures[1::2])), ("", told["head"])]
+    for name, most in MOST_ROWS.items():
+        head += [("", ""), *_table(name, told[name]["rows"][:most])]
+    clients = told["clients"]
+    return [*head, ("", ""), ("", clients["note"])], _table("clients", clients["rows"])
+
+
+def _table(name: str, rows: list[Row]) -> list[Line]:
+    """A table without what a narrow page leaves out, too."""
+    columns = TABLES[name].columns
+    places = [it for it, (_, kind) in enumerate(columns) if kind not in ("from-720", "link")]
+    lines = table([columns[it][0] for it in places], ([cells[it] for it in places] for _, cells in rows), len(places))
+    return [("dim", lines[0]), *((kind, line) for (kind, _), line in zip(rows, lines[1:]))] if rows else []
 
 
 def _fitting(head: list[Line], rows: list[Line], height: int) -> list[Line]:
@@ -118,8 +142,8 @@ def _fitting(head: list[Line], rows: list[Line], height: int) -> list[Line]:
     if len(head) + len(rows) <= height:
         return head + rows
     shown = rows[:max(height - len(head) - 1, 0)]
-    more = (DIM, f"  and {counted(len(rows) - len(shown), 'client more', 'clients more')}")
-    return [*head[:height - 1], *shown, more]
+    more = counted(len(rows) - max(len(shown), 1), "client more", "clients more")
+    return [*head[:height - 1], *shown, ("dim", f"  and {more}")]
 
 
 def _printable(text: str) -> str:

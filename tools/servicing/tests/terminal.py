@@ -11,16 +11,17 @@ import termios
 import time
 from collections.abc import Callable
 
+from servicing.status_view import HOME, NEXT_LINE, REST_OF_SCREEN
+
 PATIENCE = 30
 
-_SEQUENCE = re.compile(r"\x1b\[([0-9;]*)([A-Za-z])")
+_SEQUENCE = re.compile(r"\x1b\[[0-9;]*[A-Za-z]")
 
 
 class Terminal:
     """A program whose input, output and errors are a terminal of this size."""
 
     def __init__(self, words: list[str], columns: int, rows: int) -> None:
-        self._screen = Screen(columns, rows)
         self._master, slave = pty.openpty()
         self.resize(columns, rows)
         environment = {**os.environ, "TERM": "xterm", "COLUMNS": "", "LINES": ""}
@@ -30,21 +31,27 @@ class Terminal:
         self.written = ""
 
     def resize(self, columns: int, rows: int) -> None:
-        self._screen.resize(columns, rows)
+        self._columns, self._rows = columns, rows
         fcntl.ioctl(self._master, termios.TIOCSWINSZ, struct.pack("HHHH", rows, columns, 0, 0))
 
     def type(self, keys: str) -> None:
         os.write(self._master, keys.encode())
 
     def lines(self, until: Callable[[list[str]], bool]) -> list[str]:
-        """What the screen shows, once this holds for it."""
+        """What the screen shows, once this holds for it. It has room for that."""
         end = time.monotonic() + PATIENCE
-        while time.monotonic() < end:
-            if until(self._screen.lines()):
-                return self._screen.lines()
-            if not self._read(end - time.monotonic()):
-                break
-        raise AssertionError("it did not come to that:\n" + "\n".join(self._screen.lines()))
+        while not until(self._lines) and self._read(end - time.monotonic()):
+            pass
+        if not until(self._lines):
+            raise AssertionError("it did not come to that:\n" + "\n".join(self._lines))
+        assert len(self._lines) < self._rows and all(len(it) < self._columns for it in self._lines), self._lines
+        return self._lines
+
+    @property
+    def _lines(self) -> list[str]:
+        """Those of the last frame that is whole, which clears what was there, or all that was written."""
+        frames = [it for it in self.written.split(HOME) if it.endswith(REST_OF_SCREEN)]
+        return _SEQUENCE.sub("", frames[-1] if frames else self.written).split(NEXT_LINE)
 
     def end(self) -> int:
         """Waits for the end of the program. Returns its status."""
@@ -67,7 +74,6 @@ class Terminal:
                 raise
             some = b""
         self.written += some.decode()
-        self._screen.write(some.decode())
         return bool(some)
 
 
@@ -75,57 +81,3 @@ def _take_terminal() -> None:
     """Makes standard input the controlling terminal, so that Ctrl-C is a signal."""
     os.setsid()
     fcntl.ioctl(0, termios.TIOCSCTTY, 0)
-
-
-class Screen:
-    """The cells of a terminal that knows the sequences which the status view uses, and no others."""
-
-    def __init__(self, columns: int, rows: int) -> None:
-        self._row = self._column = 0
-        self._cells: list[list[str]] = []
-        self.resize(columns, rows)
-
-    def resize(self, columns: int, rows: int) -> None:
-        self._columns, self._rows = columns, rows
-        self._cells = [(line + [" "] * columns)[:columns] for line in self._cells[:rows]]
-        self._cells += [[" "] * columns for _ in range(rows - len(self._cells))]
-
-    def lines(self) -> list[str]:
-        return ["".join(it).rstrip() for it in self._cells]
-
-    def write(self, text: str) -> None:
-        while text:
-            sequence = _SEQUENCE.match(text)
-            if sequence:
-                self._obey(sequence[2])
-                text = text[sequence.end():]
-            else:
-                self._put(text[0])
-                text = text[1:]
-
-    def _obey(self, letter: str) -> None:
-        rest = [" "] * (self._columns - self._column)
-        if letter == "H":
-            self._row = self._column = 0
-        elif letter == "K":
-            self._cells[self._row][self._column:] = rest
-        elif letter == "J":
-            self._cells[self._row][self._column:] = rest
-            for row in range(self._row + 1, self._rows):
-                self._cells[row] = [" "] * self._columns
-        elif letter != "m":
-            raise AssertionError(f"a sequence that ends with {letter!r}")
-
-    def _put(self, character: str) -> None:
-        if character == "\r":
-            self._column = 0
-        elif character == "\n":
-            if self._row == self._rows - 1:
-                self._cells = [*self._cells[1:], [" "] * self._columns]
-            else:
-                self._row += 1
-        elif character >= " ":
-            if self._column >= self._columns:
-                raise AssertionError(f"{character!r} is written behind the right edge")
-            self._cells[self._row][self._column] = character
-            self._column += 1

@@ -116,8 +116,8 @@ class ShownTest(ServiceTest):
                 service.wait("serving", 2)
                 link = "document.querySelector('#runs a')"
                 self.until(lambda: bool(browser.value(f"{link} !== null")), "a run with a report")
-                title = f"serving, 20 elements: rb_broker {self.port}"
-                self.until(lambda: bool(browser.value("document.title") == title), title)
+                begins = "document.title.startsWith('serving, run 2, 20 elements, ')"
+                self.until(lambda: bool(browser.value(begins)), begins)
                 browser.value(f"{link}.click()")
                 self.until(lambda: ": report" in self.title(browser), "a report")
                 self.assertEqual(browser.complaints, [])
@@ -134,10 +134,10 @@ class ShownTest(ServiceTest):
     def test_the_status_in_a_terminal(self) -> None:
         service = self.begin("--every", "1h")
         self.offer(3)
-        self.until(lambda: "queue      3 elements" in self.status().stdout, "three elements")
+        self.until(lambda: "        3 elements " in self.status().stdout, "three elements")
         shown = self.status()
         self.assertEqual((shown.returncode, shown.stderr), (0, ""))
-        self.assertRegex(shown.stdout, rf"^port {self.port}, serving for ")
+        self.assertRegex(shown.stdout, rf"^port {self.port}: serving for ")
         self.assertEqual(self.status("--json").stdout[:1], "{")
         self.assertEqual(service.stop(), 0)
         self.assertEqual(self.status().returncode, 1)

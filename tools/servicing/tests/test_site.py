@@ -12,11 +12,11 @@ from servicing import reports as making
 from servicing import site as served
 from servicing.http import Answer
 from servicing.reports import Reports
+from servicing.shown import shown
 from servicing.site import Site
-from servicing.state import Board, DiskFault, Head, Phase, Queue, State, Traffic
+from servicing.state import Board, DiskFault, Phase, State, Traffic
 from servicing.tests.states import AT, ENDED, LOST, first_state, state
 from servicing.told import told
-from servicing.trend import BETWEEN, SPAN, Trend
 
 PATIENCE = 120.0  # for a report, which gives way to all other processes
 
@@ -48,7 +48,7 @@ class SiteTest(RoomTest):
 class PathsTest(SiteTest):
     def test_before_the_first_state(self) -> None:
         self.assertEqual(self.answer("/").kind, "text/html; charset=utf-8")
-        self.assertIsNone(self.told())
+        self.assertEqual([self.answer(it).body for it in ("/state.json", "/shown.json")], [b"null"] * 2)
         for path in ("/health", "/metrics", "/runs/1"):
             self.assertEqual((self.answer(path).status, self.answer(path).body), (503, b"starting\n"), path)
 
@@ -124,69 +124,30 @@ class PathsTest(SiteTest):
             self.assertEqual(self.told()["phase"], "ending", "also before it was taken note of")
         self.assertEqual(made.call_count, 2)
 
+    def test_what_the_page_shows(self) -> None:
+        self.put(state())
+        told = json.loads(self.answer("/shown.json").body)
+        plots = told.pop("plots")
+        self.assertEqual(told, json.loads(json.dumps(shown(state(), True))))
+        self.assertEqual([plots[it]["readings"] for it in ("elements", "late", "rates")], [
+            [[1000, "08:00:00 UTC\nelements: 1,204"]],
+            [[1000, "08:00:00 UTC\ntime since the first element expired: 3.25 s"]], [[1000, ""]]])
+
     def test_no_path_of_a_history_is_told(self) -> None:
         self.put(state())
-        self.assertNotIn(b"nowhere", self.answer("/state.json").body)
+        for path in ("/state.json", "/shown.json"):
+            self.assertNotIn(b"nowhere", self.answer(path).body)
 
     def test_many_runs_and_clients_are_bounded(self) -> None:
         clients = state().clients
         assert clients is not None
         runs = tuple(dataclasses.replace(ENDED, number=it) for it in range(5000, 0, -1))
         self.put(state(runs=runs, clients=dataclasses.replace(clients, all=clients.all * 100)))
-        self.assertLess(len(self.answer("/state.json").body), 100_000)
+        for path in ("/state.json", "/shown.json"):
+            self.assertLess(len(self.answer(path).body), 100_000)
         shown = self.told()
         self.assertEqual((shown["runs"][0]["number"], shown["runs_kept"]), (5000, 5000))
         self.assertEqual((shown["clients"]["served"], len(shown["clients"]["all"])), (500, 32))
-
-
-class TrendTest(SiteTest):
-    def moments(self, count: int, step: float) -> list[State]:
-        return [state(at=AT + it * step, queue=Queue(AT + it * step, 1204, Head(1, 1, 1, "a", 3.25)),
-                      traffic=Traffic(100 * it, 50 * it, 0, 0)) for it in range(count)]
-
-    def test_a_server_that_is_asked_more_rarely_than_states_are_put(self) -> None:
-        """It answers every six seconds, of which each had 10 offers a second."""
-        for place in range(7):
-            at = AT + place // 3 * 6
-            self.put(state(at=AT + 2 * place, queue=Queue(at, 0, None),
-                           traffic=Traffic(60 * (place // 3), 0, 0, 0)))
-        self.assertEqual(self.told()["trend"]["offers"], [None, None, None, 10, 10, 10, 10])
-
-    def test_the_last_minutes_with_their_rates(self) -> None:
-        for it in self.moments(3, 2.0):
-            self.put(it)
-        self.assertEqual(self.told()["trend"], {
-            "at": [AT, AT + 2, AT + 4], "elements": [1204] * 3, "late": [3.25] * 3, "offers": [None, 50, 50],
-            "gifts": [None, 25, 25]})
-
-    def test_it_is_bounded(self) -> None:
-        trend = Trend()
-        for it in self.moments(5000, 1.0):
-            trend.add(it)
-        told = trend.told()
-        self.assertEqual({len(it) for it in told.values()}, {int(SPAN / BETWEEN) + 1})
-        self.assertEqual(told["at"][-1], AT + 4998)
-
-    def test_what_is_not_known(self) -> None:
-        self.put(first_state())
-        self.assertEqual(self.told()["trend"], {"at": [AT], "elements": [None], "late": [None], "offers": [None],
-                                                "gifts": [None]})
-
-    def test_an_element_that_is_not_due_is_not_late(self) -> None:
-        queue = state().queue
-        assert queue is not None and queue.head is not None
-        self.put(state(queue=dataclasses.replace(queue, head=dataclasses.replace(queue.head, late=-60.0))))
-        self.assertEqual(self.told()["trend"]["late"], [0])
-
-    def test_a_clock_that_is_set_back(self) -> None:
-        for at in (AT, AT + 10, AT - 3600):
-            self.put(state(at=at))
-        self.assertEqual(self.told()["trend"]["at"], [AT - 3600])
-
-    def test_counts_that_are_corrected(self) -> None:
-        for offered, at in ((100, AT), (90, AT + 2)):
-            self.put(state(at=at, queue=None, traffic=Traffic(offered, 0, 0, 0)))
-        self.assertEqual(self.told()["trend"]["offers"], [None, 0])
 
 
 class ReportsTest(SiteTest):
