@@ -2,7 +2,7 @@
 
     service.py       one server after the other, each of which begins with what the one before left
     current.py, between.py, parts.py         the run that goes on; what is done between two; what these share
-    settings.py, durations.py                the words of the command line
+    settings.py      the words of the command line
     folder.py, runs.py                       the folder of a service: what is written of a run, and in what order
     clock.py, opening.py                     what a run begins with: its moment, its ids and its elements
     deciding.py                              how a service begins, when a run ends, and which old ones are dropped

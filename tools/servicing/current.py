@@ -5,13 +5,14 @@ import time
 from dataclasses import replace
 from typing import Callable
 
+from reporting.units import SECOND
 from servicing.clock import elapsed, read_clock
 from servicing.deciding import Seen, is_to_prepare, why_to_end
-from servicing.durations import SECOND, text_of
 from servicing.looking import Looks, silent_ports
 from servicing.parts import LeftBehind, Parts
 from servicing.saying import notify, say
 from servicing.server import Server
+from servicing.shown import span_of
 from servicing.sockets import Unwatchable
 from servicing.state import Phase, Reason, Run
 from servicing.visits import Crowd, STAYS, Visits
@@ -47,7 +48,7 @@ class Current:
     def held_by(self) -> tuple[str, ...]:
         """Who was waited for longest."""
         order = sorted(self._held.items(), key=lambda it: -it[1])[:MOST_NAMED]
-        return tuple(f"{name}: {text_of(seconds)}" for name, seconds in order if seconds >= LAST_LOOK)
+        return tuple(f"{name}: {span_of(seconds)}" for name, seconds in order if seconds >= LAST_LOOK)
 
     def go_on(self) -> None:
         """Watches the server until its run has to end, and brings it to its end if it has not ended by itself. Raises a
@@ -149,7 +150,7 @@ class Current:
         ports = silent_ports(self.looks.connections, silent / SECOND) if silent is not None else []
         if silent is not None and ports:
             count, why = self._parts.keeping.cut(ports)
-            say("warning", "cut-silent", sessions=count, silent=text_of(silent / SECOND), why=why or None)
+            say("warning", "cut-silent", sessions=count, silent=span_of(silent / SECOND), why=why or None)
 
     def _end(self) -> None:
         """Lets clients leave, and cuts their sessions if they do not.
@@ -198,7 +199,7 @@ class Current:
 
     def _tell(self, seconds: float) -> None:
         names = self._doings(self.looks.ports)
-        self._parts.showing.waits_for = tuple(f"{it}, for {text_of(seconds)}" for it in names or ["the server"])
+        self._parts.showing.waits_for = tuple(f"{it}, for {span_of(seconds)}" for it in names or ["the server"])
         self._parts.showing.show()
         say("info", "waiting", run=self.server.run, seconds=round(seconds),
             clients="; ".join(names[:MOST_NAMED]) or "none")

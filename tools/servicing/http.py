@@ -94,7 +94,7 @@ class HttpServer:
         self._answer, self._beat = answer, beat
         self._listening: list[tuple[socket.socket, Address | None]] = []  # no address for one of the file system
         self._at_end = contextlib.ExitStack()
-        self._talks: dict[Any, None] = {}  # the tasks of open connections, the oldest first
+        self._talks: dict[asyncio.Future[None], asyncio.WriteTransport] = {}  # open connections, the oldest first
         self._turn = 0.0  # of the next answer, by the thread's clock
         self._has_begun = threading.Event()
         self._thread = threading.Thread(target=self._run, name="http", daemon=True)
@@ -121,7 +121,7 @@ class HttpServer:
         """Cuts all connections, and listens no more."""
         if self._thread.is_alive():
             with contextlib.suppress(RuntimeError):  # it has ended by itself
-                self._loop.call_soon_threadsafe(self._serving.cancel)
+                self._loop.call_soon_threadsafe(self._cancel)
             self._thread.join(STOP_SECONDS)
         self._at_end.close()
 
@@ -134,7 +134,9 @@ class HttpServer:
 
     async def _serve(self) -> None:
         """Serves until the task is cancelled, with which all connections are."""
-        self._loop, self._serving = asyncio.get_running_loop(), _present_task()
+        self._loop, task = asyncio.get_running_loop(), asyncio.current_task()
+        assert task
+        self._cancel = task.cancel
         self._loop.set_exception_handler(_complain)
         servers = [await asyncio.start_server(functools.partial(self._meet, address), sock=it, limit=MOST_HEAD)
                    for it, address in self._listening]
@@ -147,22 +149,24 @@ class HttpServer:
             for it in servers:
                 it.close()
 
-    async def _meet(
-        self, address: Address | None, reader: asyncio.StreamReader, writer: asyncio.StreamWriter
-    ) -> None:
-        """One connection to an address."""
+    def _meet(self, address: Address | None, reader: asyncio.StreamReader, writer: asyncio.StreamWriter) -> None:
+        """Begins to talk with who has connected to an address."""
         if len(self._talks) >= MOST_CONNECTIONS:
             oldest = next(iter(self._talks))
-            del self._talks[oldest]
+            self._talks.pop(oldest).abort()
             oldest.cancel()
-        self._talks[_present_task()] = None
-        try:
-            await asyncio.wait_for(self._talk(address, reader, writer), TALK_SECONDS)
-        except (asyncio.CancelledError, asyncio.TimeoutError, OSError):
-            pass  # a client that gave way to another, is too slow, or is gone
-        finally:
-            self._talks.pop(_present_task(), None)
-            writer.transport.abort()
+        talk = asyncio.ensure_future(self._talk(address, reader, writer))
+        self._loop.call_later(TALK_SECONDS, talk.cancel)
+        self._talks[talk] = writer.transport
+        talk.add_done_callback(self._leave)
+
+    def _leave(self, talk: asyncio.Future[None]) -> None:
+        """Ends a connection, also one that was cut before anything was said."""
+        if talk in self._talks:
+            self._talks.pop(talk).abort()
+        fault = None if talk.cancelled() else talk.exception()
+        if fault and not isinstance(fault, OSError):  # of a client that is gone
+            raise fault
 
     async def _talk(
         self, address: Address | None, reader: asyncio.StreamReader, writer: asyncio.StreamWriter
@@ -191,12 +195,6 @@ class HttpServer:
         except Exception:  # a fault of one page ends neither the others nor the service
             traceback.print_exc(file=sys.stderr)
             return FAULTY
-
-
-def _present_task() -> asyncio.Task[Any]:
-    task = asyncio.current_task()
-    assert task is not None
-    return task
 
 
 def _complain(loop: asyncio.AbstractEventLoop, context: dict[str, Any]) -> None:

@@ -6,7 +6,7 @@ import time
 from dataclasses import dataclass
 from typing import Callable, TypeVar
 
-from servicing.durations import SECOND
+from reporting.units import SECOND
 from servicing.folder import Folder
 from servicing.keeping import Keeping
 from servicing.runs import Runs

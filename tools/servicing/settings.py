@@ -1,23 +1,49 @@
-"""The words of tools/service, and what follows from them for servers."""
+"""The settings of tools/service: one table of its options, and what follows from them for servers."""
 from __future__ import annotations
 
 import argparse
-import dataclasses
 import functools
 import math
 import os
-from dataclasses import dataclass
-from typing import Callable, NoReturn
+import re
+from dataclasses import dataclass, field, fields
+from decimal import Decimal
+from typing import Any, Callable, NoReturn
 
 from common.words import number, parser_of
+from reporting.units import SECOND
 from servicing.address import Address, address_of
-from servicing.durations import SECOND, nanoseconds_of
 from servicing.keeper import HISTORY, OPENING
 
 TURN = 20_000_000  # nanoseconds that a turn of a wait lasts while nothing happens
-MOST_TURNS = 1_000_000
-DELAY = 30 * SECOND
-DAY = 86_400 * SECOND
+UNITS = {"ns": 1, "us": 1_000, "ms": 1_000_000, "s": SECOND, "m": 60 * SECOND, "h": 3600 * SECOND, "d": 86_400 * SECOND}
+
+_SPAN = re.compile(r"([0-9]{1,20}(?:\.[0-9]{1,9})?)(ns|us|ms|s|m|h|d)")
+
+
+def nanoseconds_of(word: str) -> int:
+    """The nanoseconds of a span such as 30s. Raises an `ArgumentTypeError` that says what a span is."""
+    found = _SPAN.fullmatch(word)
+    if found is None:
+        raise argparse.ArgumentTypeError(f"{word!r} is no time: a number with ns, us, ms, s, m, h or d, such as 30s")
+    return int(Decimal(found[1]) * UNITS[found[2]])
+
+
+def _span(least: str, most: str) -> Callable[[str], int]:
+    """Reads a span from `least` to `most`."""
+
+    def read(word: str) -> int:
+        value = nanoseconds_of(word)
+        if not nanoseconds_of(least) <= value <= nanoseconds_of(most):
+            raise argparse.ArgumentTypeError(f"{word} is not from {least} to {most}")
+        return value
+
+    read.__name__ = f"{least} to {most}"  # which help tells
+    return read
+
+
+def _silent(word: str) -> int | None:
+    return None if word == "never" else _span("1s", "1d")(word)
 
 
 @dataclass(frozen=True)
@@ -28,26 +54,63 @@ class Keep:
     age: int | None
 
 
+def _keep(word: str) -> Keep:
+    """A number of runs, or an age."""
+    if word.isascii() and word.isdigit():
+        return Keep(int(number(int, 1, 1_000_000)(word)), None)
+    return Keep(None, nanoseconds_of(word))
+
+
+def _http(word: str) -> Address:
+    try:
+        return address_of(word)
+    except ValueError as fault:
+        raise argparse.ArgumentTypeError(str(fault)) from None
+
+
+def _option(help: str, read: Callable[[str], Any], default: Any = None, metavar: str | None = "TIME", **more: Any) -> Any:
+    """An option, named as its field is unless it has a `flag`. Its default is told behind its help."""
+    told = f"{help} ({default})" if default is not None else help
+    return field(metadata={"help": told, "type": read, "default": default, "metavar": metavar, **more})
+
+
 @dataclass(frozen=True)
 class Settings:
     """How the service is to run. Spans are nanoseconds."""
 
-    port: int
-    folder: str
-    program: str
-    begin_with: str | None  # the history whose elements the first run begins with
-    workers: int
-    sessions: int
-    calls: int
-    turns: int
-    retry: tuple[str, int]  # --delay or --rate, with its time
-    attempts: int
-    timer: str
-    every: int
-    stop_within: int
-    silent: int | None  # sessions that are silent for so long are cut
-    keep: Keep
-    http: Address | None
+    port: int = _option("the port on 127.0.0.1", number(int, 1, 65_535), 7011, "P")
+    folder: str = _option("where the runs are kept (~/.local/state/rb_broker/PORT)", str, None, "DIR")
+    program: str = _option("the program that serves (that of ./broker)", str, None, "PATH")
+    begin_with: str | None = _option(
+        "begins an empty folder with what this history left", str, None, "HISTORY", flag="--from", dest="begin_with")
+    workers: int = _option("clients served at once, 1 to 16", number(int, 1, 16), 16, "N")
+    sessions: int = _option("sessions of a run, 1 to 10000", number(int, 1, 10_000), 10_000, "N")
+    calls: int = _option("calls of a run, 1 to 1000000", number(int, 1, 1_000_000), 1_000_000, "N")
+    wait: int = _option("how long a TAKE or POLLFOR waits at most, %(type)s", _span("0s", "20000s"), "1s")
+    delay: int = _option("how long after a failure the job comes back", _span("0s", "213503d"), "30s")
+    rate: int | None = _option(
+        "instead: the time from one attempt's expiry to the next", _span("0s", "213503d"))
+    attempts: int = _option("attempts of a job, 1 to 1000", number(int, 1, 1000), 20, "N")
+    timer: str = _option(
+        "how the next element is found", str, "heap", None, choices=["list", "heap", "pairing", "wheel"])
+    every: int = _option(
+        "the longest that a run lasts, and so the most that a kill loses, %(type)s", _span("1s", "30d"), "1h")
+    stop_within: int = _option(
+        "how long a run's end waits for clients to leave, before it cuts their sessions, %(type)s", _span("1s", "1h"),
+        "60s")
+    silent: int | None = _option(
+        "cuts sessions over which nothing came and nothing went for so long, 1s to 1d or never", _silent, "never")
+    keep: Keep = _option("how many old runs are kept, or for how long", _keep, "7d", "N|TIME")
+    http: Address | None = _option("serves a page, /metrics and /health there (nowhere)", _http, None, "HOST:PORT")
+
+    @property
+    def turns(self) -> int:
+        return math.ceil(self.wait / TURN)
+
+    @property
+    def retry(self) -> tuple[str, int]:
+        """`--delay` or `--rate`, with its time."""
+        return ("--delay", self.delay) if self.rate is None else ("--rate", self.rate)
 
     @property
     def policy(self) -> list[str]:
@@ -66,76 +129,18 @@ def _refuse(made: argparse.ArgumentParser, message: str) -> NoReturn:
     made.exit(2, f"service: {message}\n")
 
 
-def _span(least: int, most: int, said: str) -> Callable[[str], int]:
-    """Reads a span from `least` to `most`, which `said` says."""
-
-    def read(word: str) -> int:
-        value = nanoseconds_of(word)
-        if not least <= value <= most:
-            raise argparse.ArgumentTypeError(f"{word} is not from {said}")
-        return value
-
-    return read
-
-
-def _silent(word: str) -> int | None:
-    return None if word == "never" else _span(SECOND, DAY, "1s to 1d")(word)
-
-
-def _keep(word: str) -> Keep:
-    """A number of runs, or an age."""
-    if word.isascii() and word.isdigit():
-        return Keep(int(number(int, 1, 1_000_000)(word)), None)
-    return Keep(None, nanoseconds_of(word))
-
-
-def _http(word: str) -> Address:
-    try:
-        return address_of(word)
-    except ValueError as fault:
-        raise argparse.ArgumentTypeError(str(fault)) from None
-
-
 def parser(doc: str | None) -> argparse.ArgumentParser:
     """The parser of all words."""
     made = parser_of("service", doc, "service [--port P] [--folder DIR] [OPTION ..]")
     made.error = functools.partial(_refuse, made)  # type: ignore[assignment]
-    add = made.add_argument
-    add("--port", type=number(int, 1, 65_535), default=7011, metavar="P", help="the port on 127.0.0.1 (7011)")
-    add("--folder", metavar="DIR", help="where the runs are kept (~/.local/state/rb_broker/PORT)")
-    add("--program", metavar="PATH", help="the program that serves (that of ./broker)")
-    add("--from", dest="begin_with", metavar="HISTORY", help="begins an empty folder with what this history left")
-    add("--status", action="store_true", help="shows the service of the folder in this terminal")
-    add("--json", action="store_true", help="with --status: one object of JSON")
-    _add_server_options(made)
-    add("--every", type=_span(SECOND, 30 * DAY, "1s to 30d"), default=3600 * SECOND, metavar="TIME",
-        help="the longest that a run lasts, and so the most that a kill loses, 1s to 30d (1h)")
-    add("--stop-within", type=_span(SECOND, 3600 * SECOND, "1s to 1h"), default=60 * SECOND, metavar="TIME",
-        help="how long a run's end waits for clients to leave, before it cuts their sessions, 1s to 1h (60s)")
-    add("--silent", type=_silent, metavar="TIME",
-        help="cuts sessions over which nothing came and nothing went for so long, 1s to 1d or never (never)")
-    add("--keep", type=_keep, default=Keep(None, 7 * DAY), metavar="N|TIME",
-        help="how many old runs are kept, or for how long (7d)")
-    add("--http", type=_http, metavar="HOST:PORT", help="serves a page, /metrics and /health there (nowhere)")
+    retry = made.add_mutually_exclusive_group()
+    for it in fields(Settings):
+        told = {**it.metadata}
+        add = retry.add_argument if it.name in ("delay", "rate") else made.add_argument
+        add(told.pop("flag", f"--{it.name.replace('_', '-')}"), **told)
+    made.add_argument("--status", action="store_true", help="shows the service of the folder in this terminal")
+    made.add_argument("--json", action="store_true", help="with --status: one object of JSON")
     return made
-
-
-def _add_server_options(made: argparse.ArgumentParser) -> None:
-    add, retry = made.add_argument, made.add_mutually_exclusive_group().add_argument
-    any_span = _span(0, 2**64 - 1, "0s to 584 years")
-    add("--workers", type=number(int, 1, 16), default=16, metavar="N", help="clients served at once, 1 to 16 (16)")
-    add("--sessions", type=number(int, 1, 10_000), default=10_000, metavar="N",
-        help="sessions of a run, 1 to 10000 (10000)")
-    add("--calls", type=number(int, 1, 1_000_000), default=1_000_000, metavar="N",
-        help="calls of a run, 1 to 1000000 (1000000)")
-    add("--wait", type=_span(0, MOST_TURNS * TURN, "0s to 20000s"), default=SECOND, metavar="TIME",
-        help="how long a TAKE or POLLFOR waits at most, 0s to 20000s (1s)")
-    retry("--delay", type=any_span, metavar="TIME", help="how long after a failure the job comes back (30s)")
-    retry("--rate", type=any_span, metavar="TIME",
-          help="instead: the time from one attempt's expiry to the next")
-    add("--attempts", type=number(int, 1, 1000), default=20, metavar="N", help="attempts of a job, 1 to 1000 (20)")
-    add("--timer", choices=["list", "heap", "pairing", "wheel"], default="heap",
-        help="how the next element is found (heap)")
 
 
 def folder_of(given: str | None, port: int) -> str:
@@ -148,8 +153,5 @@ def folder_of(given: str | None, port: int) -> str:
 
 def settings_of(words: argparse.Namespace, program: str) -> Settings:
     """The settings that the words of the command line say."""
-    delay = DELAY if words.delay is None else words.delay
-    said = {**vars(words), "program": program, "folder": folder_of(words.folder, words.port),
-            "turns": math.ceil(words.wait / TURN),
-            "retry": ("--delay", delay) if words.rate is None else ("--rate", words.rate)}
-    return Settings(**{it.name: said[it.name] for it in dataclasses.fields(Settings)})
+    said: dict[str, Any] = {**vars(words), "program": program, "folder": folder_of(words.folder, words.port)}
+    return Settings(**{it.name: said[it.name] for it in fields(Settings)})

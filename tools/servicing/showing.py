@@ -6,12 +6,11 @@ from dataclasses import replace
 from typing import Iterator
 
 from histories.grammar import MOST_OPENING_ELEMENTS
-from servicing.durations import text_of
 from servicing.looking import Looks
 from servicing.runs import Runs
 from servicing.saying import notify, say
 from servicing.settings import Settings
-from servicing.shown import headline
+from servicing.shown import headline, span_of
 from servicing.state import Alert, Board, DiskFault, Phase, Reason, Run, State, Traffic
 
 MANY_ELEMENTS = 900_000
@@ -98,6 +97,6 @@ class Showing:
 
 def lost_text(run: Run) -> str:
     """What the loss of a run means."""
-    return (f"run {run.number} was lost after {text_of(run.lasted)}: what was offered, taken and done in it is gone, "
+    return (f"run {run.number} was lost after {span_of(run.lasted)}: what was offered, taken and done in it is gone, "
             f"and the {run.opening:,} elements that it began with are in the queue again")
 

@@ -11,7 +11,7 @@ import termios
 import time
 from collections.abc import Callable
 
-from servicing.status_view import HOME, NEXT_LINE, REST_OF_SCREEN
+from servicing.status_view import HOME, REST_OF_SCREEN
 
 PATIENCE = 30
 
@@ -51,7 +51,7 @@ class Terminal:
     def _lines(self) -> list[str]:
         """Those of the last frame that is whole, which clears what was there, or all that was written."""
         frames = [it for it in self.written.split(HOME) if it.endswith(REST_OF_SCREEN)]
-        return _SEQUENCE.sub("", frames[-1] if frames else self.written).split(NEXT_LINE)
+        return [it.rstrip("\r") for it in _SEQUENCE.sub("", frames[-1] if frames else self.written).split("\n")]
 
     def end(self) -> int:
         """Waits for the end of the program. Returns its status."""

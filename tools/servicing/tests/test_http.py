@@ -7,6 +7,7 @@ import socket
 import threading
 import time
 import unittest
+from concurrent.futures import ThreadPoolExecutor
 from http import HTTPStatus
 from unittest import mock
 
@@ -70,6 +71,27 @@ def split(message: bytes) -> tuple[str, bytes]:
     return head.split(b"\r\n")[0].decode(), body
 
 
+OK, WRONG, NOTHING = "200 OK", "400 Bad Request", "404 Not Found"
+ASKED: dict[bytes, str] = {
+    b"HEAD / HTTP/1.1\r\nHost: localhost": OK, b"GET /?a=/b HTTP/1.0": OK,
+    # No path leads out.
+    **{b"GET %s HTTP/1.1" % path.encode(): NOTHING for path in (
+        "/none", "//", "/..", "/../../etc/passwd", "/%2e%2e/etc/passwd", "/./", "/\u00e9")},
+    **{b"%s / HTTP/1.1" % method: "405 Method Not Allowed" for method in (
+        b"POST", b"PUT", b"DELETE", b"OPTIONS", b"TRACE", b"get")},
+    # A page of another name that its server lets lead to 127.0.0.1 reads nothing.
+    **{b"GET / HTTP/1.1\r\nHost: %s" % host: OK for host in (
+        b"127.0.0.1", b"localhost:80", b"LOCALHOST", b"[::1]:7080")},
+    **{b"GET / HTTP/1.1\r\nHost: %s" % host: "421 Misdirected Request" for host in (
+        b"evil.example", b"evil.example:7080", b"127.0.0.1.evil.example")},
+    # What is no request.
+    **{sent: WRONG for sent in (
+        b"", b"GET /", b"GET / HTTP/2", b"GET  / HTTP/1.1", b"\0\xff\x16\x03\x01", b"OFFER 0 a\r\nTAKE",
+        b"GET http://x/ HTTP/1.1", b"GET / HTTP/1.1\r\nHost: localhost\r\nHost: x")},
+}
+BODIES = {OK: b"<p>page</p>", NOTHING: b"there is nothing here\n"}
+
+
 class AnsweredTest(HttpTest):
     def test_a_page(self) -> None:
         status, body, headers = self.get("/")
@@ -77,26 +99,21 @@ class AnsweredTest(HttpTest):
         self.assertEqual((headers["Content-Length"], headers["Cache-Control"]), ("11", "no-store"))
         self.assertEqual((headers["X-Content-Type-Options"], headers["X-Frame-Options"]), ("nosniff", "DENY"))
         self.assertEqual(self.get("/long")[1], LONG)
+        self.assertEqual((self.get("/", "HEAD")[2]["Content-Length"], self.get("/", "PUT")[2]["Allow"]), (
+            "11", "GET, HEAD"))
 
-    def test_only_the_head_of_a_page(self) -> None:
-        self.assertEqual(self.ask(b"HEAD / HTTP/1.1\r\nHost: localhost\r\n\r\n"), ("HTTP/1.1 200 OK", b""))
-        self.assertEqual(self.get("/", "HEAD")[2]["Content-Length"], "11")
+    def test_what_is_asked(self) -> None:
+        for sent, says in ASKED.items():
+            line, body = self.ask(sent + b"\r\n\r\n")
+            self.assertEqual(line, f"HTTP/1.1 {says}", sent)
+            is_head = sent.startswith(b"HEAD")
+            self.assertEqual(body, b"" if is_head else BODIES.get(says, body), sent)
+            self.assertEqual(b"page" in body, says == OK and not is_head)
 
-    def test_what_follows_a_question_mark_is_passed_over(self) -> None:
-        self.assertEqual(self.get("/?a=/b")[:2], (200, b"<p>page</p>"))
-
-    def test_a_path_that_is_not_known(self) -> None:
-        for path in ("/none", "//", "/..", "/../../etc/passwd", "/%2e%2e/etc/passwd", "/./", "/\u00e9"):
-            sent = b"GET %s HTTP/1.1\r\n\r\n" % path.encode()
-            self.assertEqual(self.ask(sent), ("HTTP/1.1 404 Not Found", b"there is nothing here\n"), path)
-
-    def test_nothing_but_get_and_head(self) -> None:
-        for method in ("POST", "PUT", "DELETE", "OPTIONS", "TRACE", "get"):
-            status, body, headers = self.get("/", method)
-            self.assertEqual((status, headers["Allow"]), (405, "GET, HEAD"), method)
+    def test_what_follows_a_request_is_read(self) -> None:
         body = b"x" * 100_000
         sent = b"POST / HTTP/1.1\r\nContent-Length: %d\r\n\r\n%s" % (len(body), body)
-        self.assertEqual(self.ask(sent)[0], "HTTP/1.1 405 Method Not Allowed", "it is read, and no reset loses it")
+        self.assertEqual(self.ask(sent)[0], "HTTP/1.1 405 Method Not Allowed", "no reset loses it")
 
     def test_a_fault_of_a_page(self) -> None:
         with contextlib.redirect_stderr(io.StringIO()) as said:
@@ -104,22 +121,8 @@ class AnsweredTest(HttpTest):
         self.assertIn("ZeroDivisionError: of a test", said.getvalue())
         self.assertEqual(self.get("/")[0], 200)
 
-    def test_a_host_that_leads_here(self) -> None:
-        """A page of another name that its server lets lead to 127.0.0.1 reads nothing."""
-        for host, status in (("127.0.0.1", 200), ("localhost:80", 200), ("LOCALHOST", 200), ("[::1]:7080", 200),
-                             ("evil.example", 421), ("evil.example:7080", 421), ("127.0.0.1.evil.example", 421)):
-            line, body = self.ask(b"GET / HTTP/1.1\r\nHost: %s\r\n\r\n" % host.encode())
-            self.assertEqual(line.split(" ")[1], str(status), host)
-            self.assertEqual(b"page" in body, status == 200)
-
 
 class HostileTest(HttpTest):
-    def test_what_is_no_request(self) -> None:
-        for sent in (b"\r\n\r\n", b"GET /\r\n\r\n", b"GET / HTTP/2\r\n\r\n", b"GET  / HTTP/1.1\r\n\r\n",
-                     b"\0\xff\x16\x03\x01\r\n\r\n", b"OFFER 0 a\r\nTAKE\r\n\r\n", b"GET http://x/ HTTP/1.1\r\n\r\n",
-                     b"GET / HTTP/1.1\r\nHost: localhost\r\nHost: x\r\n\r\n"):
-            self.assertEqual(self.ask(sent)[0], "HTTP/1.1 400 Bad Request", sent)
-
     def test_a_request_that_ends_early(self) -> None:
         connection = self.connect()
         connection.sendall(b"GET / HT")
@@ -173,17 +176,8 @@ class HostileTest(HttpTest):
         self.assertEqual(self.ask(b"GET / HTTP/1.1\r\n\r\n", idle[-1])[1], b"<p>page</p>")
 
     def test_many_clients_at_once(self) -> None:
-        found: list[int] = []
-
-        def ask() -> None:
-            found.extend(self.get("/")[0] for _ in range(10))
-
-        clients = [threading.Thread(target=ask) for _ in range(16)]
-        for client in clients:
-            client.start()
-        for client in clients:
-            client.join()
-        self.assertEqual(found, [200] * 160)
+        with ThreadPoolExecutor(16) as clients:
+            self.assertEqual([*clients.map(lambda _: self.get("/")[0], range(160))], [200] * 160)
 
     def test_a_flood_of_requests(self) -> None:
         """Each is answered in its turn, and then who comes is answered at once."""
@@ -214,25 +208,20 @@ class StartedTest(HttpTest):
         self.server.stop()
         self.assertNotIn("http", [it.name for it in threading.enumerate()])
 
-    def test_the_port_can_be_had_again_at_once(self) -> None:
-        self.get("/")
-        self.server.stop()
-        self.assertEqual(self.begin(self.port)[1].port, self.port)
-        self.assertEqual(self.get("/")[0], 200)
-
-    def test_a_port_that_is_taken(self) -> None:
+    def test_ports(self) -> None:
+        """One that is taken, one that can be had again at once, and a stop without a start."""
         with self.assertRaises(OSError) as caught:
             HttpServer(answer).listen(Address("127.0.0.1", self.port))
         self.assertEqual(caught.exception.strerror, "Address already in use")
         self.assertEqual(self.get("/")[0], 200)
-
-    def test_a_stop_without_a_start(self) -> None:
+        self.server.stop()
+        self.assertEqual(self.begin(self.port)[1].port, self.port)
+        self.assertEqual(self.get("/")[0], 200)
         HttpServer(answer).stop()
         server = HttpServer(answer)
         port = server.listen(Address("127.0.0.1", 0)).port
         server.stop()
-        with self.assertRaises(ConnectionRefusedError):
-            socket.create_connection(("127.0.0.1", port))
+        self.assertRaises(ConnectionRefusedError, socket.create_connection, ("127.0.0.1", port))
 
     def test_it_beats_as_long_as_it_runs(self) -> None:
         beats: list[float] = []

@@ -3,9 +3,9 @@ import argparse
 import unittest
 
 from servicing.clock import elapsed, read_clock
-from servicing.durations import nanoseconds_of, text_of
 from servicing.opening import Left
 from servicing.runs import Next
+from servicing.settings import nanoseconds_of
 from servicing.tests.support import SECOND, reading
 
 
@@ -48,10 +48,3 @@ class DurationTest(unittest.TestCase):
         for word in ("30", "s", "", "-1s", "1 s", "1S", "1sec", "1h30m", "1e3s", "١s", "30000000000"):
             with self.subTest(word), self.assertRaisesRegex(argparse.ArgumentTypeError, "such as 30s"):
                 nanoseconds_of(word)
-
-    def test_texts(self) -> None:
-        for seconds, wanted in (
-            (0, "0.0s"), (0.26, "0.3s"), (9.94, "9.9s"), (10.4, "10s"), (60, "1m"), (61, "1m 1s"), (3600, "1h"),
-            (3661, "1h 1m"), (86_400, "1d"), (90_000, "1d 1h"),
-        ):
-            self.assertEqual(text_of(seconds), wanted)
