@@ -14,7 +14,7 @@
     showing.py       what the service shows of itself
     state.py         all that the service knows and shows at one moment; `Board` holds the latest
     shown.py         a state as texts, for the page, the terminal view and systemd; trend.py has the plots
-    told.py, metrics.py                      a state as JSON, and as Prometheus reads it
+    metrics.py       a state as Prometheus reads it
     site.py          `Pages(board, port, folder, http).start()` serves the page, /metrics and /health: always at the
                      socket FOLDER/status, and at an address if --http names one
     address.py, http.py, reports.py          where they are served, a small server of HTTP on a thread of its own, and

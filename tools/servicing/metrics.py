@@ -1,38 +1,34 @@
-"""A state as Prometheus reads it, made from the object of told.py. A metric whose value is not known is left out.
-Counters rise as long as the service lasts, whatever becomes of its runs; what is counted of one run is a gauge."""
+"""A state as Prometheus reads it. A metric whose value is not known is left out. Counters rise as long as the service lasts, whatever becomes of its runs; what is counted of one run is a gauge."""
 from __future__ import annotations
 
 from typing import Any, Iterator
 
 from servicing.looking import SILENT_FROM
 from servicing.state import Phase, State
-from servicing.told import past, told
 
 KIND = "text/plain; version=0.0.4; charset=utf-8"
 
 Metric = tuple[str, str, dict[str, Any], str]  # its name, its help, its values, and the label that tells these apart
 
-# The name of each metric that is a number, where the object has it, and what it means.
+# The name of each metric that is a number, which attribute of the state it is, and what it means.
 NUMBERS: tuple[tuple[str, str, str], ...] = (
-    ("up", "is_up", "Whether a server serves clients."),
-    ("healthy", "is_healthy", "Whether /health says 200."),
     ("service_start_time_seconds", "began", "When the service began, since the epoch."),
     ("state_time_seconds", "at", "When what is shown here was found, since the epoch."),
     ("unwritten_bytes", "unwritten", "Bytes of files that could not be written yet."),
-    ("run_start_time_seconds", "run.began", "When the run began, since the epoch."),
+    ("run_start_time_seconds", "run.date", "When the run began, since the epoch."),
     ("run_opening_elements", "run.opening", "Elements with which the run began."),
     ("elements_aside", "run.aside", "Elements beyond those that an opening may have, which wait in a file."),
     ("runs_total", "run.number", "Runs since the folder exists, this one included."),
     ("elements", "queue.elements", "Elements in the queue, expired or not."),
-    ("head_late_seconds", "late", "Time since the first element expired; below 0 before it does, 0 without one."),
+    ("head_late_seconds", "queue.late", "Time since the first element expired; below 0 before it does, 0 without one."),
     ("queue_time_seconds", "queue.at", "When the server last answered about its queue, since the epoch."),
     ("workers", "clients.workers", "Clients that can be served at once."),
     ("clients_served", "clients.served", "Clients that have a worker."),
     ("clients_waiting", "clients.waiting", "Clients that wait for a worker."),
     ("clients_not_reading", "clients.not_reading", "Clients that do not read their replies."),
     ("clients_hung_up", "clients.hung_up", "Clients that have hung up while a request waits."),
-    ("clients_silent", "clients.silent", f"Clients that said nothing for {SILENT_FROM:g} seconds."),
-    ("longest_silence_seconds", "silence", "The longest of these silences, or 0."),
+    ("clients_silent", "clients.silent_count", f"Clients that said nothing for {SILENT_FROM:g} seconds."),
+    ("longest_silence_seconds", "clients.silence", "The longest of these silences, or 0."),
     ("run_calls", "calls.used", "Calls of the run that were used, as far as was seen."),
     ("run_calls_limit", "calls.limit", "Calls for which the run has room."),
     ("run_calls_left_seconds", "calls.lasts", "Time until none of them is left, at the pace of the last minute."),
@@ -45,10 +41,10 @@ NUMBERS: tuple[tuple[str, str, str], ...] = (
     ("last_attempts_total", "traffic.dead_or_done",
      "Jobs that were given their last attempt, in those runs: done or dead."),
     ("lost_runs_total", "lost_runs", "Runs that were lost since the folder exists."),
-    ("last_run_closed_seconds", "last.closed", "Time between the last two runs without a server for new clients."),
-    ("last_run_cut_sessions", "last.cut", "Sessions that were cut at the end of the last run."),
-    ("last_run_lost_jobs", "last.lost_jobs", "Jobs of the last run that failed and could not come back."),
-    ("lost_run_time_seconds", "lost.ended", "When the last run that was lost ended, since the epoch."),
+    ("last_run_closed_seconds", "last.end.closed", "Time between the last two runs without a server for new clients."),
+    ("last_run_cut_sessions", "last.end.cut", "Sessions that were cut at the end of the last run."),
+    ("last_run_lost_jobs", "last.end.lost_jobs", "Jobs of the last run that failed and could not come back."),
+    ("lost_run_time_seconds", "lost.end.date", "When the last run that was lost ended, since the epoch."),
     ("lost_run_lasted_seconds", "lost.lasted", "How long that run had lasted."),
     ("lost_run_opening_elements", "lost.opening", "Elements that it had at its beginning."),
 )
@@ -56,21 +52,14 @@ NUMBERS: tuple[tuple[str, str, str], ...] = (
 
 def metrics(state: State, is_healthy: bool) -> str:
     """The text of all metrics."""
-    queue, clients, port = state.queue, state.clients, str(state.settings.port)
-    lost = next((it for it in state.runs if it.is_lost), None)
-    whole = {
-        **told(state), "is_up": int(state.phase is Phase.SERVING), "is_healthy": int(is_healthy),
-        "unwritten": state.disk.kept if state.disk else 0,
-        "late": queue and (queue.head.late if queue.head else 0),
-        "silence": clients and (clients.silent[0].seconds if clients.silent else 0),
-        "last": past(state.runs[0]) if state.runs else None, "lost": past(lost) if lost else None,
-    }
-    numbers = ((name, help, {"": _found(whole, path)}, "") for name, path, help in NUMBERS)
-    return "".join(_text(port, *it) for it in (*_labelled(state), *numbers))
+    numbers = ((name, help, {"": _found(state, path)}, "") for name, path, help in NUMBERS)
+    return "".join(_text(str(state.settings.port), *it) for it in (*_labelled(state, is_healthy), *numbers))
 
 
-def _labelled(state: State) -> Iterator[Metric]:
-    """The metrics of which a label has a value for each."""
+def _labelled(state: State, is_healthy: bool) -> Iterator[Metric]:
+    """The metrics that say yes or no, most of them by labels."""
+    yield "up", "Whether a server serves clients.", {"": int(state.phase is Phase.SERVING)}, ""
+    yield "healthy", "Whether /health says 200.", {"": int(is_healthy)}, ""
     yield ("phase", "What the service is doing: 1 for its phase, 0 for the others.",
            {it.value: int(it is state.phase) for it in Phase}, "phase")
     yield ("alert", "What an operator has to know of, by its name, for as long as it is so.",
@@ -80,9 +69,9 @@ def _labelled(state: State) -> Iterator[Metric]:
 
 
 def _found(whole: Any, path: str) -> Any:
-    """What an object has at a path, or None if it has nothing there."""
+    """What is at a path of attributes, or None if nothing is there."""
     for name in path.split("."):
-        whole = whole and whole[name]
+        whole = None if whole is None else getattr(whole, name)
     return round(whole, 3) if isinstance(whole, float) else whole
 
 

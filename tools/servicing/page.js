@@ -83,7 +83,7 @@ function showSilence() {
 
 async function look() {
   try {
-    const told = await (await fetch("shown.json", { signal: AbortSignal.timeout(PATIENCE) })).json();
+    const told = await (await fetch("state.json", { signal: AbortSignal.timeout(PATIENCE) })).json();
     if (told !== null) {
       show(told);
     }

@@ -10,11 +10,10 @@ from reporting.units import SECOND
 from servicing.folder import Folder
 from servicing.keeping import Keeping
 from servicing.runs import Runs
-from servicing.saying import say
 from servicing.settings import Settings
 from servicing.showing import Showing
 from servicing.signals import Signals
-from servicing.state import DiskFault
+from servicing.state import DISK
 
 AGAIN = 1.0  # seconds until something that failed is tried again
 
@@ -40,9 +39,8 @@ class Parts:
         while True:
             try:
                 done = write()
-                if self.showing.disk is not None:
-                    self.showing.disk = None
-                    say("info", "disk-over", file=name)
+                self.showing.unwritten = 0
+                self.showing.lower_alert(DISK)
                 return done
             except OSError as fault:
                 self._show(self.folder.file(name), kept, fault)
@@ -54,9 +52,8 @@ class Parts:
             self.signals.wait(AGAIN)
 
     def _show(self, path: str, kept: int, fault: OSError) -> None:
-        showing = self.showing
-        if showing.disk is None:
-            showing.disk = DiskFault(path, fault.strerror or repr(fault), time.time(), kept)
-            say("error", "disk", file=path, why=showing.disk.why, kept=kept)
-        showing.waits_for = (f"{showing.disk.file}: {showing.disk.why}",)
-        showing.show()
+        why, self.showing.unwritten = fault.strerror or repr(fault), kept
+        text = f"{path} can't be written: {why}; {kept:,} bytes are kept in memory"
+        self.showing.raise_alert(DISK, text, "error", file=path, why=why, kept=kept)
+        self.showing.waits_for = (f"{path}: {why}",)
+        self.showing.show()

@@ -11,7 +11,7 @@ from servicing.runs import Runs
 from servicing.saying import notify, say
 from servicing.settings import Settings
 from servicing.shown import headline, span_of
-from servicing.state import Alert, Board, DiskFault, Phase, Reason, Run, State, Traffic
+from servicing.state import Alert, Board, Phase, Reason, Run, State, Traffic
 
 MANY_ELEMENTS = 900_000
 MANY_IDS = 2**40 - 10**9
@@ -28,7 +28,7 @@ class Showing:
         self.run: Run | None = None
         self.looks: Looks | None = None
         self.waits_for: tuple[str, ...] = ()
-        self.disk: DiskFault | None = None
+        self.unwritten = 0
         self._raised: dict[str, Alert] = {}  # alerts that the service has raised
         self._counted = Traffic()  # in runs that have ended
         self.renew_runs()
@@ -44,11 +44,11 @@ class Showing:
             why=why.value if why else None, **told)
         self.show()
 
-    def raise_alert(self, name: str, text: str, level: str = "warning") -> None:
+    def raise_alert(self, name: str, text: str, level: str = "warning", **told: object) -> None:
         """Raises an alert, or says another text of one. A line says it each time that the text is new."""
         before = self._raised.get(name)
         if before is None or before.text != text:
-            say(level, name, text=text)
+            say(level, name, **(told or {"text": text}))
         self._raised[name] = Alert(name, text, before.since if before else time.time())
 
     def lower_alert(self, name: str) -> None:
@@ -72,7 +72,7 @@ class Showing:
         seen = {it: getattr(looks, it, None) for it in ("queue", "clients", "calls", "sessions")}
         self._state = state = replace(
             self._state, at=time.time(), waits_for=self.waits_for, run=self.run, traffic=traffic, runs=self._runs,
-            lost_runs=self._history.lost, alerts=(*self._raised.values(), *self._alerts()), disk=self.disk, **seen)
+            lost_runs=self._history.lost, alerts=(*self._raised.values(), *self._alerts()), unwritten=self.unwritten, **seen)
         self._board.put(state)
         # An end takes as long as --stop-within says, and an opening of many elements its time.
         longer = {} if state.phase is Phase.SERVING else {"EXTEND_TIMEOUT_USEC": MORE_TIME}

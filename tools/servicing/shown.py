@@ -4,13 +4,11 @@ from __future__ import annotations
 
 import time
 from dataclasses import dataclass
-from typing import Any, Iterator, Union
+from typing import Any, Iterator
 
 from histories.grammar import MOST_OPENING_ELEMENTS
 from reporting.units import SECOND, counted, number, percent, span
-from servicing.state import (
-    Alert, Client, Clients, DiskFault, Doing, End, Phase, Queue, Reason, Run, State, Supply,
-)
+from servicing.state import Client, Clients, Doing, End, Phase, Queue, Reason, Run, State, Supply
 
 MOST_CLIENTS, MOST_RUNS, MOST_HELD_BY = 32, 100, 2  # that are told one by one; and of those who held up one run
 LATE = 1.0  # seconds from which on lateness is marked
@@ -65,7 +63,7 @@ def shown(state: State, is_healthy: bool) -> Texts:
 def headline(state: State) -> str:
     """The state in a line."""
     queue, clients = state.queue, state.clients
-    late = queue.head.late if queue and queue.head else 0
+    late = queue.late if queue else 0
     return ", ".join(filter(None, (
         counted(len(state.alerts), "alert") if state.alerts else "", state.phase.value,
         f"run {state.run.number}" if state.run else "", counted(queue.elements, "element") if queue else "",
@@ -105,16 +103,14 @@ def _since(state: State) -> str:
 
 def _attention(state: State) -> Iterator[str]:
     """What an operator has to know of."""
-    told: list[Union[Alert, DiskFault]] = [*state.alerts, *([state.disk] if state.disk else [])]
-    yield from (f"{it.text} (since {date(it.since)} UTC)" for it in told)
+    yield from (f"{it.text} (since {date(it.since)} UTC)" for it in state.alerts)
     yield from (f"The service waits: {it}" for it in state.waits_for)
 
 
 def _figures(state: State) -> Iterator[tuple[str, str, str]]:
     """A name, a value and a mark each."""
     queue, clients, traffic = state.queue, state.clients, state.traffic
-    late = None if queue is None else max(queue.head.late, 0.0) if queue.head else 0.0
-    waiting = clients.count(Doing.WAITING) if clients else None
+    late, waiting = max(queue.late, 0.0) if queue else None, clients.waiting if clients else None
     yield "elements", _number(queue.elements if queue else None), ""
     yield "lateness of the first", span_of(late), FAIR if late and late > LATE else ""
     yield "offers a second", rate(traffic.offered_a_second), ""
@@ -138,14 +134,13 @@ def _head(queue: Queue | None) -> str:
 def _clients(clients: Clients | None) -> Texts:
     if clients is None:
         return {"note": "Not known.", "rows": []}
-    waiting, not_reading, hung_up = map(clients.count, (Doing.WAITING, Doing.NOT_READING, Doing.HUNG_UP))
-    longest = f", the longest for {span_of(clients.silent[0].seconds)}" if clients.silent else ""
+    longest = f", the longest for {span_of(clients.silence)}" if clients.silent else ""
     more = len(clients.all) - MOST_CLIENTS
     unlisted = f" {counted(more, 'client more is', 'clients more are')} not listed." if more > 0 else ""
     return {"note": (
-        f"{clients.served} served by {counted(clients.workers, 'worker')}, {waiting} waiting for one, {not_reading} not "
-        f"reading, {hung_up} hung up while their request waits, {len(clients.silent)} silent for "
-        f"{span_of(clients.silent_from)} or longer{longest}.{unlisted}"),
+        f"{clients.served} served by {counted(clients.workers, 'worker')}, {clients.waiting} waiting for one, "
+        f"{clients.not_reading} not reading, {clients.hung_up} hung up while their request waits, {len(clients.silent)} "
+        f"silent for {span_of(clients.silent_from)} or longer{longest}.{unlisted}"),
         "rows": [_client(it) for it in clients.all[:MOST_CLIENTS]]}
 
 

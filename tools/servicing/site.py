@@ -1,8 +1,8 @@
 """The page, the metrics and the health of a service, on one thread of their own.
 
     /             the page
-    /shown.json   what it shows
-    /state.json   the state for scripts, /metrics for Prometheus
+    /state.json   what it shows
+    /metrics      the numbers, as Prometheus reads them
     /health       200 as long as clients are served, or will be within seconds; 503 otherwise
     /runs/NUMBER  the report on a run that has ended; 202 while it is made
 
@@ -25,11 +25,10 @@ from servicing.page import page
 from servicing.reports import HTML, Reports
 from servicing.shown import shown
 from servicing.state import Board, State, Traffic
-from servicing.told import told
 from servicing.trend import PLOTS, Trend, drawn
 
 SOCKET = "status"  # in the folder
-SHOWN, STATE = "/shown.json", "/state.json"
+STATE = "/state.json"
 UNAVAILABLE = HTTPStatus.SERVICE_UNAVAILABLE
 
 STALE = 60.0  # seconds without a new state after which the service is not healthy
@@ -84,11 +83,11 @@ class Site:
         if path == "/":
             return Answer(HTTPStatus.OK, HTML, self._page)
         run, state = re.fullmatch(r"/runs/([1-9][0-9]{0,8})", path), self._board.state
-        make = {SHOWN: self._shown, STATE: self._told, "/metrics": self._metrics, "/health": self._health}.get(path)
+        make = {STATE: self._shown, "/metrics": self._metrics, "/health": self._health}.get(path)
         if not run and not make:
             return None
         if state is None:
-            return Answer.json(None) if path in (SHOWN, STATE) else Answer.line(UNAVAILABLE, "starting")
+            return Answer.json(None) if path == STATE else Answer.line(UNAVAILABLE, "starting")
         if run:
             return self._report(state, int(run[1]))
         if state is not self._made_of:
@@ -102,9 +101,6 @@ class Site:
         plots = {name: drawn(it, values, state.at) for name, it in PLOTS.items()}
         return Answer.json({**shown(state, self._is_healthy(state)), "plots": plots})
 
-    def _told(self, state: State) -> Answer:
-        return Answer.json({**told(state), "is_healthy": self._is_healthy(state)})
-
     def _metrics(self, state: State) -> Answer:
         """A counter is never less than before: a run whose end corrects a count must not look like a reset."""
         counts = {it: max(getattr(state.traffic, it), getattr(self._counted, it)) for it in COUNTS}
@@ -116,7 +112,7 @@ class Site:
         """In one line, which says what is wrong."""
         if self._is_healthy(state):
             return Answer.line(HTTPStatus.OK, state.phase.value)
-        why = f"{state.phase.value}; {state.disk.file}: {state.disk.why}" if state.disk else state.phase.value
+        why = "; ".join(filter(None, (state.phase.value, state.disk)))
         return Answer.line(UNAVAILABLE, f"the service has found nothing for {STALE:g} seconds" if self._is_stale else why)
 
     def _report(self, state: State, number: int) -> Answer | None:

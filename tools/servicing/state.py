@@ -14,6 +14,8 @@ from servicing.settings import Settings
 # Nanoseconds in which a server begins to serve, and for each element of its opening.
 SLOWEST_START, SLOWEST_ELEMENT = 10_000_000_000, 100_000
 
+DISK = "disk"  # the alert that a file can't be written, which is kept in memory and tried again
+
 
 class Phase(Enum):
     """What the service is doing. A phase follows the one before, or SERVING and the rest again with the next run."""
@@ -77,10 +79,17 @@ class Clients:
         return len(self.all) - self.count(Doing.WAITING)
 
     @property
-    def silent(self) -> tuple[Client, ...]:
-        """Those that have said nothing for so long that it counts, the longest silence first."""
-        silent = [it for it in self.all if it.doing is Doing.SILENT and (it.seconds or 0) >= self.silent_from]
-        return tuple(sorted(silent, key=lambda it: -(it.seconds or 0)))
+    def silent(self) -> list[float]:
+        """For how many seconds clients have said nothing, if that counts, the longest silence first."""
+        silent = (it.seconds or 0.0 for it in self.all if it.doing is Doing.SILENT)
+        return sorted((it for it in silent if it >= self.silent_from), reverse=True)
+
+    # What metrics and pages tell of them.
+    waiting = property(lambda self: self.count(Doing.WAITING))
+    not_reading = property(lambda self: self.count(Doing.NOT_READING))
+    hung_up = property(lambda self: self.count(Doing.HUNG_UP))
+    silent_count = property(lambda self: len(self.silent))
+    silence = property(lambda self: max(self.silent, default=0))
 
 
 @dataclass(frozen=True)
@@ -101,6 +110,11 @@ class Queue:
     at: float  # when it was looked at
     elements: int  # the depth: expired or not, without those that are set aside
     head: Head | None  # None if the queue is empty
+
+    @property
+    def late(self) -> float:
+        """That of the first element, or 0."""
+        return self.head.late if self.head else 0.0
 
 
 @dataclass(frozen=True)
@@ -151,10 +165,6 @@ class End:
     closed: float | None = None  # seconds without a server that served new clients, before the next run
     held_by: tuple[str, ...] = ()  # the clients that were waited for longest
     cut: int = 0  # sessions that were cut
-
-    @property
-    def new_jobs(self) -> int | None:
-        return None if self.offered is None or self.failed is None else self.offered - self.failed
 
 
 @dataclass(frozen=True)
@@ -211,20 +221,6 @@ class Alert:
 
 
 @dataclass(frozen=True)
-class DiskFault:
-    """A file could not be written. It is kept in memory, and tried again."""
-
-    file: str
-    why: str  # the system's words, such as "No space left on device"
-    since: float
-    kept: int  # bytes that are in memory only
-
-    @property
-    def text(self) -> str:
-        return f"{self.file} can't be written: {self.why}; {self.kept:,} bytes are kept in memory"
-
-
-@dataclass(frozen=True)
 class State:
     """The whole."""
 
@@ -244,12 +240,27 @@ class State:
     runs: tuple[Run, ...] = ()  # those that are kept, the latest first
     lost_runs: int = 0  # since the folder exists
     alerts: tuple[Alert, ...] = ()
-    disk: DiskFault | None = None
+    unwritten: int = 0  # bytes of a file that can't be written, and that are in memory only
+
+    @property
+    def last(self) -> Run | None:
+        """The last run that has ended."""
+        return next(iter(self.runs), None)
+
+    @property
+    def lost(self) -> Run | None:
+        """The last run that was lost."""
+        return next((it for it in self.runs if it.is_lost), None)
+
+    @property
+    def disk(self) -> str:
+        """Which file can't be written and why, if one can't."""
+        return next((it.text for it in self.alerts if it.name == DISK), "")
 
     @property
     def is_healthy(self) -> bool:
         """Whether clients are served, or will be within seconds."""
-        return self.disk is None and self.phase in (Phase.SERVING, Phase.ENDING)
+        return not self.disk and self.phase in (Phase.SERVING, Phase.ENDING)
 
 
 class Board:

@@ -10,14 +10,13 @@ import signal
 import socket
 import sys
 import time
-from typing import Any
 
 from common.words import give_up_output
 from reporting.tables import table
 from reporting.units import counted
 from servicing.http import short_name
 from servicing.shown import BAD, FAIR, TABLES, Row, Texts
-from servicing.site import SHOWN, SOCKET, STATE
+from servicing.site import SOCKET, STATE
 
 EVERY = 2.0  # seconds from one drawing to the next
 PATIENCE = 5.0  # seconds for an answer
@@ -47,12 +46,13 @@ class _Connection(http.client.HTTPConnection):
             self.sock.connect(name)
 
 
-def asked(folder: str, path: str = STATE) -> Any:
-    """What the service of a folder answers: None before its first state. Raises an `OSError` if no service answers."""
+def asked(folder: str) -> Texts | None:
+    """What the service of a folder shows: None before its first state. Raises an `OSError` if no service answers."""
     connection = _Connection(folder)
     try:
-        connection.request("GET", path)
-        return json.loads(connection.getresponse().read())
+        connection.request("GET", STATE)
+        told: Texts | None = json.loads(connection.getresponse().read())
+        return told and {name: it for name, it in told.items() if name != "plots"}
     except (http.client.HTTPException, ValueError) as fault:
         raise OSError(0, f"no service answers there ({fault})") from fault
     finally:
@@ -66,7 +66,7 @@ def show(folder: str, as_json: bool) -> int:
     the output; 130 after Ctrl-C, 143 after SIGTERM.
     """
     try:
-        told = asked(folder, STATE if as_json else SHOWN)
+        told = asked(folder)
         if sys.stdout.isatty() and not as_json:
             return _show_again(folder, told)
         text = json.dumps(told) if as_json else "\n".join(_printable(it) for _, it in sum(_lines(told), []))
@@ -91,7 +91,7 @@ def _show_again(folder: str, told: Texts | None) -> int:
             sys.stdout.flush()
             time.sleep(EVERY)
             try:
-                told, is_gone = asked(folder, SHOWN), False
+                told, is_gone = asked(folder), False
             except OSError:
                 is_gone = True
     except KeyboardInterrupt:

@@ -36,8 +36,7 @@ def sample_of(state: State) -> Sample:
     queue, counts = state.queue, (state.traffic.offered, state.traffic.left)
     if queue is None:
         return Sample(state.at, None, None, state.at, *counts)
-    late = round(max(queue.head.late, 0.0), 3) if queue.head else 0.0
-    return Sample(state.at, queue.elements, late, queue.at, *counts)
+    return Sample(state.at, queue.elements, max(queue.late, 0.0), queue.at, *counts)
 
 
 class Trend:

@@ -4,7 +4,7 @@ from typing import Any
 
 from servicing.settings import parser, settings_of
 from servicing.state import (
-    Alert, Client, Clients, DiskFault, Doing, End, Head, Phase, Queue, Reason, Run, State, Supply, Traffic,
+    DISK, Alert, Client, Clients, Doing, End, Head, Phase, Queue, Reason, Run, State, Supply, Traffic,
 )
 from servicing.tests.support import reading, record
 
@@ -21,6 +21,10 @@ CLIENTS = (
     Client(41005, "java", 77, Doing.IN_CALL, 5.0, 0, 0),
     Client(41000, "python3", 9, Doing.ACTIVE, 0.1, 0, 0),
 )
+
+
+FULL_DISK = Alert(DISK, "/var/lib/rb_broker/7011/run-11.txt can't be written: No space left on device; 57,000,000 bytes "
+                  "are kept in memory", AT - 4000)
 
 
 def ended(number: int, began: float, opening: int, end: End, history: str = "") -> Run:
@@ -45,8 +49,7 @@ def state(**changes: Any) -> State:
         run=PRESENT, queue=Queue(AT - 1, 1204, Head(17, 10**15, 2, "letter-17", 3.25)),
         clients=Clients(CLIENTS, 8, 10.0),
         calls=Supply(400_000, False, 1_000_000, 12.5), sessions=Supply(57, True, 10_000, 0.5),
-        traffic=Traffic(600_000, 590_000, 16_345, 12, 6.25, 6.0, 1.125), runs=(ENDED, LOST, HELD), lost_runs=1,
-        alerts=(), disk=None)
+        traffic=Traffic(600_000, 590_000, 16_345, 12, 6.25, 6.0, 1.125), runs=(ENDED, LOST, HELD), lost_runs=1)
     return dataclasses.replace(usual, **changes)
 
 
@@ -65,6 +68,5 @@ def troubled_state(**changes: Any) -> State:
         queue=Queue(AT - 30, 987_654, Head(2**40 - 1, 10**15, 1000, LONG, 86_400.5)),
         calls=Supply(999_990, False, 1_000_000, 300.0),
         alerts=(Alert("many-elements", "The queue has 987,654 elements; a run can begin with 1,000,000.", AT - 3600),
-                Alert("lost-run", "Run 10 was lost after 23 min: its opening had 900 elements.", AT - 7600)),
-        disk=DiskFault("/var/lib/rb_broker/7011/run-11.txt", "No space left on device", AT - 4000, 57_000_000),
-        **changes)
+                Alert("lost-run", "Run 10 was lost after 23 min: its opening had 900 elements.", AT - 7600), FULL_DISK),
+        unwritten=57_000_000, **changes)

@@ -149,7 +149,7 @@ class ShownTest(ServedTest):
     def test_it_asks_for_nothing_but_what_is_shown(self) -> None:
         self.show(state())
         asked = self.browser.value("[...new Set(performance.getEntriesByType('resource').map((it) => it.name))]")
-        self.assertEqual(asked, [f"http://127.0.0.1:{self.port}/shown.json"])
+        self.assertEqual(asked, [f"http://127.0.0.1:{self.port}/state.json"])
 
     def test_texts_stay_text(self) -> None:
         it = state(
@@ -185,7 +185,7 @@ class PlotsTest(ServedTest):
         for it in range(1, 4):
             self.put(moment(it))
         self.browser.value("document.querySelector('h1').tabIndex = -1; document.querySelector('h1').focus()")
-        for plot, told in json.loads(self.site.answer("/shown.json").body)["plots"].items():
+        for plot, told in json.loads(self.site.answer("/state.json").body)["plots"].items():
             self.browser.press("Tab")
             self.shows("document.activeElement.id", f"plot-{plot}")
             for place, key in enumerate(("Home", "ArrowRight", "ArrowRight", "End")):

@@ -7,7 +7,6 @@ import sys
 import threading
 import time
 import unittest
-from pathlib import Path
 
 from common.program import TOP, tested_program
 from serving.session import Session
@@ -21,13 +20,11 @@ class EndsTest(ServiceTest):
         with Session(self.port) as it:
             self.assertRegex(it.ask("OFFER 0 left"), "^OFFERED ")
             service.process.send_signal(signal.SIGTERM)
-            told = service.wait("waiting")
-            self.assertIn(f"client {it.own_port}", told["clients"])
+            self.assertIn(f"client {it.own_port}", service.wait("waiting")["clients"])
             self.assertEqual(it.ask("SIZE"), "SIZE 1")
             it.ask("QUIT")
         self.assertEqual(service.end(), 0)
-        self.assertEqual(service.all("saved")[0]["left"], "1")
-        self.assertEqual(service.all("stopped")[0]["why"], "asked")
+        self.assertEqual((service.all("saved")[0]["left"], service.all("stopped")[0]["why"]), ("1", "asked"))
 
     def test_it_cuts_clients_that_stay(self) -> None:
         service = self.begin("--stop-within", "2s", "--delay", "0s")
@@ -166,10 +163,3 @@ class EndsTest(ServiceTest):
         service = self.begin()
         self.assertEqual(service.all("lost-run"), [])
         self.assertEqual(self.ask("SIZE"), ["SIZE 3"])
-
-    def test_the_last_call_tells_when_a_run_ended(self) -> None:
-        with self.serving():
-            self.ask("OFFER 0 job")
-            time.sleep(2.5)
-        *_, last, _ = Path(self.path("runs/run-1.txt")).read_text("ascii").splitlines()
-        self.assertGreaterEqual(int(last.split(" ")[2]), 2_500_000_000)

@@ -81,9 +81,8 @@ class KilledTest(ServiceTest):
         self.assertEqual(sorted(done), sorted(offered))
 
     def until_over(self, is_over: threading.Event, act: Callable[[list[str]], None], them: list[str]) -> None:
-        while not is_over.is_set():
+        while not is_over.wait(0.01):
             act(them)
-            time.sleep(0.01)
 
     def produce(self, offered: list[str]) -> None:
         name = f"job-{len(offered)}"
@@ -102,44 +101,36 @@ class KilledTest(ServiceTest):
             it.ask("QUIT")
 
     def test_the_keeper_is_killed(self) -> None:
+        """Another one holds the server; and then the service and the keeper are killed at once."""
         service = self.begin()
-        keeper = service.keeper()
         self.offer(3)
-        os.kill(keeper, signal.SIGKILL)
+        os.kill(service.keeper(), signal.SIGKILL)
         service.wait("keeper")
         service.kill()
-        with self.serving() as again:
-            self.assertEqual(again.all("resume")[0]["how"], "go on")
-            self.assertRegex(self.ask("SIZE")[0], "^SIZE [34]$")  # the service's own element may be there
-        self.assertEqual(again.all("saved")[0]["left"], "3")
-
-    def test_the_service_and_the_keeper_are_killed(self) -> None:
-        service = self.begin()
-        keeper = service.keeper()
-        self.offer(3)
-        service.kill()
+        again = self.begin()
+        self.assertRegex(self.ask("SIZE")[0], "^SIZE [34]$")  # the service's own element may be there
+        keeper = again.keeper()
+        again.kill()
         os.kill(keeper, signal.SIGKILL)
-        with self.serving() as again:
-            self.assertEqual(again.all("resume")[0]["how"], "go on")
-        self.assertEqual(again.all("saved")[0]["left"], "3")
+        with self.serving() as last:
+            self.assertEqual([it.all("resume")[0]["how"] for it in (again, last)], ["go on"] * 2)
+        self.assertEqual(last.all("saved")[0]["left"], "3")
 
-    def test_all_are_killed(self) -> None:
+    def test_the_server_is_killed_too(self) -> None:
+        """With all, and while no service is there."""
         with self.serving():
             self.offer(3)
         service = self.begin()
         self.offer(5, name="lost")
         service.kill_all()
-        with self.serving(lost=1) as again:
-            self.assertEqual(again.all("lost-run")[0]["opening"], "3")
-            self.assertEqual(self.ask("SIZE"), ["SIZE 3"])
-
-    def test_the_server_is_killed_while_no_service_is_there(self) -> None:
-        service = self.begin()
-        server = service.server
-        service.kill()
+        again = self.begin()
+        self.assertEqual(again.all("lost-run")[0]["opening"], "3")
+        self.assertEqual(self.ask("SIZE"), ["SIZE 3"])
+        server = again.server
+        again.kill()
         os.kill(server, signal.SIGKILL)
-        with self.serving(lost=1) as again:
-            self.assertEqual(again.all("lost-run")[0]["run"], "1")
+        with self.serving(lost=1) as last:
+            self.assertEqual((again.all("lost-run")[0]["run"], last.all("lost-run")[0]["run"]), ("2", "3"))
 
     def test_the_server_is_killed_while_it_ends(self) -> None:
         service = self.begin()
@@ -151,15 +142,13 @@ class KilledTest(ServiceTest):
             self.assertEqual(service.end(), 0)
         self.assertEqual(service.all("lost-run")[0]["run"], "1")
 
-    def test_a_second_service_says_who_has_the_folder(self) -> None:
+    def test_what_is_taken(self) -> None:
+        """A second service says who has the folder, and a second folder is refused at the port."""
         service = self.begin()
         second = Service(self.path("runs"), port=self.port)
         self.assertEqual((second.end(), len(second.lines)), (1, 1))
         self.assertIn(f"is in use by the service of process {service.process.pid} at port {self.port}", second.lines[0])
+        other = self.start(folder=self.path("others"))
+        self.assertEqual(other.end(), 1)
+        self.assertIn(f"no server at port {self.port}: rb_broker: cannot listen", other.lines[-1])
         self.assertEqual(self.ask("SIZE"), ["SIZE 0"])
-
-    def test_a_second_folder_at_the_port_is_refused(self) -> None:
-        self.begin()
-        second = self.start(folder=self.path("others"))
-        self.assertEqual(second.end(), 1)
-        self.assertIn(f"no server at port {self.port}: rb_broker: cannot listen", second.lines[-1])

@@ -60,7 +60,7 @@ class MetricsTest(RoomTest):
 
     def test_what_is_wrong(self) -> None:
         told = self.told(troubled_state(), False)
-        self.assertEqual((told['alert{name="many-elements"}'], told['alert{name="lost-run"}']), (1, 1))
+        self.assertEqual([told[f'alert{{name="{it}"}}'] for it in ("many-elements", "lost-run", "disk")], [1] * 3)
         self.assertEqual((told["unwritten_bytes"], told["up"], told['phase{phase="ending"}']), (57_000_000, 0, 1))
 
     def test_labels_are_escaped(self) -> None:

@@ -26,9 +26,13 @@ class RunsTest(ServiceTest):
             self.assertGreaterEqual(len(service.all("serving")), 2)
 
     def test_a_job_comes_when_it_is_due_though_no_service_was_there(self) -> None:
+        """And the last call tells when a run ended."""
         with self.serving():
             self.ask("OFFER 4000000000 later")
-        time.sleep(4)
+            time.sleep(2.5)
+        *_, last, _ = Path(self.path("runs/run-1.txt")).read_text("ascii").splitlines()
+        self.assertGreaterEqual(int(last.split(" ")[2]), 2_500_000_000)
+        time.sleep(1.5)
         with self.serving():
             self.assertRegex(self.ask("POLL")[0], "^ITEM [0-9]+ [0-9]+ 1 later$")
 
@@ -65,14 +69,14 @@ class RunsTest(ServiceTest):
         with self.serving():
             self.assertEqual(self.ask("SIZE"), ["SIZE 501"])
 
-    def test_calls_run_low(self) -> None:
+    def test_calls_and_sessions_run_out(self) -> None:
+        """Sessions unseen."""
         service = self.begin("--calls", "60")
         self.offer(54)
         service.wait("serving", 2)
         self.assertEqual(service.all("ending")[0]["why"], "calls")
         self.assertEqual(self.ask("SIZE"), ["SIZE 54"])
-
-    def test_sessions_run_out_unseen(self) -> None:
+        self.ends(service)
         with self.serving("--sessions", "20") as service:
             for _ in range(40):
                 self.ask("SIZE")

@@ -14,9 +14,8 @@ from servicing.http import Answer
 from servicing.reports import Reports
 from servicing.shown import shown
 from servicing.site import Site
-from servicing.state import Board, DiskFault, Phase, State, Traffic
-from servicing.tests.states import AT, ENDED, LOST, first_state, state
-from servicing.told import told
+from servicing.state import Board, Phase, State, Traffic
+from servicing.tests.states import ENDED, FULL_DISK, LOST, state
 
 PATIENCE = 120.0  # for a report, which gives way to all other processes
 
@@ -48,7 +47,7 @@ class SiteTest(RoomTest):
 class PathsTest(SiteTest):
     def test_before_the_first_state(self) -> None:
         self.assertEqual(self.answer("/").kind, "text/html; charset=utf-8")
-        self.assertEqual([self.answer(it).body for it in ("/state.json", "/shown.json")], [b"null"] * 2)
+        self.assertIsNone(self.told())
         for path in ("/health", "/metrics", "/runs/1"):
             self.assertEqual((self.answer(path).status, self.answer(path).body), (503, b"starting\n"), path)
 
@@ -77,8 +76,8 @@ class PathsTest(SiteTest):
         for phase in (Phase.STARTING, Phase.BETWEEN, Phase.STOPPED):
             self.put(state(phase=phase))
             self.assertEqual(self.health(), (503, f"{phase.value}\n".encode()))
-        self.put(state(disk=DiskFault("/var/run.txt", "No space left on device", AT, 1)))
-        self.assertEqual(self.health(), (503, b"serving; /var/run.txt: No space left on device\n"))
+        self.put(state(alerts=(FULL_DISK,)))
+        self.assertEqual(self.health(), (503, f"serving; {FULL_DISK.text}\n".encode()))
 
     def test_a_service_that_finds_nothing_more(self) -> None:
         with mock.patch.object(served, "STALE", 0.2):
@@ -92,62 +91,34 @@ class PathsTest(SiteTest):
             self.put(state())
             self.assertEqual(self.health()[0], 200)
 
-    def test_the_state(self) -> None:
-        """All that was seen of a server, and nothing that is not known."""
-        self.put(state())
-        shown = self.told()
-        self.assertEqual(shown["clients"].pop("all")[0], {
-            "port": 41004, "program": "python3", "pid": 12, "doing": "does not read", "seconds": 30,
-            "unread_by_client": 163_298, "unread_by_server": 7})
-        self.assertEqual(shown["clients"], {"workers": 8, "served": 5, "waiting": 1, "not_reading": 1, "hung_up": 0,
-                                           "silent": 1, "silent_from": 10, "longest_silence": 725})
-        self.assertEqual(shown["queue"], {"at": AT - 1, "elements": 1204, "head": {
-            "id": 17, "expiry": 10**15, "attempt": 2, "payload": "letter-17", "late": 3.25}})
-        self.assertEqual(shown["calls"], {"used": 400_000, "is_least": False, "limit": 1_000_000, "a_second": 12.5,
-                                         "lasts": 48_000})
-        self.assertEqual(shown["sessions"], {"used": 57, "is_least": True, "limit": 10_000, "a_second": 0.5,
-                                            "lasts": 19_886})
-        plain = (shown["phase"], shown["why"], shown["is_healthy"], shown["lost_runs"])
-        self.assertEqual(plain, ("serving", None, True, 1))
-        self.assertEqual([it["number"] for it in shown["runs"]], [11, 10, 9])
-        self.assertEqual({name: shown["runs"][1][name] for name in ("why", "is_lost", "lasted", "opening", "calls")},
-                         {"why": "killed", "is_lost": True, "lasted": 1400, "opening": 900, "calls": None})
-        self.put(first_state())
-        nothing = ("run", "queue", "clients", "calls", "sessions", "why", "disk")
-        self.assertEqual([self.told()[it] for it in nothing], [None] * len(nothing))
-
-    def test_a_state_is_told_once_however_many_ask(self) -> None:
-        self.put(state())
-        with mock.patch.object(served, "told", side_effect=told) as made:
-            self.assertIs(self.answer("/state.json"), self.answer("/state.json"))
-            self.board.put(state(phase=Phase.ENDING))
-            self.assertEqual(self.told()["phase"], "ending", "also before it was taken note of")
-        self.assertEqual(made.call_count, 2)
-
     def test_what_the_page_shows(self) -> None:
         self.put(state())
-        told = json.loads(self.answer("/shown.json").body)
+        told = self.told()
         plots = told.pop("plots")
         self.assertEqual(told, json.loads(json.dumps(shown(state(), True))))
         self.assertEqual([plots[it]["readings"] for it in ("elements", "late", "rates")], [
             [[1000, "08:00:00 UTC\nelements: 1,204"]],
             [[1000, "08:00:00 UTC\ntime since the first element expired: 3.25 s"]], [[1000, ""]]])
+        self.assertNotIn(b"nowhere", self.answer("/state.json").body, "no path of a history is told")
 
-    def test_no_path_of_a_history_is_told(self) -> None:
+    def test_a_state_is_told_once_however_many_ask(self) -> None:
         self.put(state())
-        for path in ("/state.json", "/shown.json"):
-            self.assertNotIn(b"nowhere", self.answer(path).body)
+        with mock.patch.object(served, "shown", side_effect=shown) as made:
+            self.assertIs(self.answer("/state.json"), self.answer("/state.json"))
+            self.board.put(state(phase=Phase.ENDING))
+            self.assertEqual(self.told()["phase"], "ending", "also before it was taken note of")
+        self.assertEqual(made.call_count, 2)
 
     def test_many_runs_and_clients_are_bounded(self) -> None:
         clients = state().clients
         assert clients is not None
         runs = tuple(dataclasses.replace(ENDED, number=it) for it in range(5000, 0, -1))
         self.put(state(runs=runs, clients=dataclasses.replace(clients, all=clients.all * 100)))
-        for path in ("/state.json", "/shown.json"):
-            self.assertLess(len(self.answer(path).body), 100_000)
-        shown = self.told()
-        self.assertEqual((shown["runs"][0]["number"], shown["runs_kept"]), (5000, 5000))
-        self.assertEqual((shown["clients"]["served"], len(shown["clients"]["all"])), (500, 32))
+        self.assertLess(len(self.answer("/state.json").body), 100_000)
+        told = self.told()
+        self.assertEqual((told["runs"]["rows"][1][1][0], told["runs"]["note"]), (
+            "5000", "4,900 earlier runs are kept too."))
+        self.assertEqual((told["figures"][5][1], len(told["clients"]["rows"])), ("500 of 8", 32))
 
 
 class ReportsTest(SiteTest):

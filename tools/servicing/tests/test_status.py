@@ -19,7 +19,6 @@ from servicing.state import Board, Client, Clients, Doing, State
 from servicing.status_view import frame, show
 from servicing.tests.states import SETTINGS, first_state, state, troubled_state
 from servicing.tests.terminal import Terminal
-from servicing.told import told
 
 PATIENCE = 30.0
 
@@ -147,7 +146,7 @@ class PrintedTest(ServedTest):
         self.assertEqual(self.show(as_json=True), (1, "null\n", ""))
         self.board.put(state())
         status, text, errors = self.show(as_json=True)
-        self.assertEqual((status, json.loads(text), errors), (0, json.loads(json.dumps(told(state()))), ""))
+        self.assertEqual((status, json.loads(text), errors), (0, json.loads(json.dumps(shown(state(), True))), ""))
 
     def test_before_the_first_state(self) -> None:
         self.assertEqual(self.show(), (1, "starting\n", ""))

@@ -70,7 +70,7 @@ class TextsTest(unittest.TestCase):
         told = shown(troubled_state(), False)
         self.assertEqual((told["phase"], told["kind"]), ("ending", "bad"))
         self.assertEqual(told["since"], "for 42.0 s (few calls were left), as of 2026-11-26 08:00:00 UTC")
-        self.assertTrue(told["title"].startswith("2 alerts, ending, run 12, 987,654 elements, the first 24.0 h late, "))
+        self.assertTrue(told["title"].startswith("3 alerts, ending, run 12, 987,654 elements, the first 24.0 h late, "))
         self.assertEqual(told["attention"][1:4], [
             "Run 10 was lost after 23 min: its opening had 900 elements. (since 2026-11-26 05:53:20 UTC)",
             "/var/lib/rb_broker/7011/run-11.txt can't be written: No space left on device; 57,000,000 bytes are kept in "
