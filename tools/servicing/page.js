@@ -1,7 +1,7 @@
 // Asks every two seconds for what is shown, and shows it. Texts from outside become text of the page, never markup.
 
 const EVERY = 2000, PATIENCE = 10000; // milliseconds
-const TABLES = ["clients", "room", "runs", "losses"];
+const TABLES = ["clients", "room", "runs"];
 
 const place = (name) => document.getElementById(name);
 const before = new Map(); // what each part of the page shows, so that whoever reads or selects is not disturbed
@@ -29,7 +29,6 @@ function show(told) {
   put(place("cards"), told.figures, (figures) => figures.map(card));
   put(place("head"), told.head, (text) => text);
   TABLES.forEach((name) => table(place(name), told[name]));
-  place("losses").className = told.losses.rows.length === 0 ? "" : "alarm";
   Object.entries(told.plots).forEach(([name, plot]) => draw(plots.get(name), plot));
 }
 

@@ -61,13 +61,6 @@ def _keep(word: str) -> Keep:
     return Keep(None, nanoseconds_of(word))
 
 
-def _http(word: str) -> Address:
-    try:
-        return address_of(word)
-    except ValueError as fault:
-        raise argparse.ArgumentTypeError(str(fault)) from None
-
-
 def _option(help: str, read: Callable[[str], Any], default: Any = None, metavar: str | None = "TIME", **more: Any) -> Any:
     """An option, named as its field is unless it has a `flag`. Its default is told behind its help."""
     told = f"{help} ({default})" if default is not None else help
@@ -101,7 +94,7 @@ class Settings:
     silent: int | None = _option(
         "cuts sessions over which nothing came and nothing went for so long, 1s to 1d or never", _silent, "never")
     keep: Keep = _option("how many old runs are kept, or for how long", _keep, "7d", "N|TIME")
-    http: Address | None = _option("serves a page, /metrics and /health there (nowhere)", _http, None, "HOST:PORT")
+    http: Address | None = _option("serves a page, /metrics and /health there (nowhere)", address_of, None, "HOST:PORT")
 
     @property
     def turns(self) -> int:

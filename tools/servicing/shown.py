@@ -6,9 +6,8 @@ import time
 from dataclasses import dataclass
 from typing import Any, Iterator
 
-from histories.grammar import MOST_OPENING_ELEMENTS
 from reporting.units import SECOND, counted, number, percent, span
-from servicing.state import Client, Clients, Doing, End, Phase, Queue, Reason, Run, State, Supply
+from servicing.state import Client, Clients, Doing, End, Phase, Queue, Reason, Run, State
 
 MOST_CLIENTS, MOST_RUNS, MOST_HELD_BY = 32, 100, 2  # that are told one by one; and of those who held up one run
 LATE = 1.0  # seconds from which on lateness is marked
@@ -46,7 +45,6 @@ TABLES = {
     "runs": Table("Runs", (
         ("run", ""), ("began", "date"), ("lasted", "from-720"), ("at the start", "from-720"), ("calls", "from-720"),
         ("left", ""), ("report", "link"), ("how it ended", "words"))),
-    "losses": Table("What was lost", (("run", ""), ("began", "date"), ("lasted", ""), ("what was lost", "words"))),
 }
 
 
@@ -56,7 +54,7 @@ def shown(state: State, is_healthy: bool) -> Texts:
         "title": f"{headline(state)}: rb_broker {state.settings.port}", "port": state.settings.port,
         "is_healthy": is_healthy, "phase": state.phase.value, "kind": _kind(state, is_healthy), "since": _since(state),
         "attention": [*_attention(state)], "figures": [*_figures(state)], "head": _head(state.queue),
-        "clients": _clients(state.clients), "room": _room(state), "runs": _runs(state), "losses": _losses(state),
+        "clients": _clients(state.clients), "room": _room(state), "runs": _runs(state),
     }
 
 
@@ -154,15 +152,9 @@ def _client(it: Client) -> Row:
 
 
 def _room(state: State) -> Texts:
-    traffic, elements = state.traffic, None
-    if state.queue:
-        offers, gifts = traffic.offered_a_second, traffic.left_a_second
-        pace = None if offers is None or gifts is None else max(0.0, offers - gifts)
-        elements = Supply(state.queue.elements, False, MOST_OPENING_ELEMENTS, pace)
-    supplies = (("calls", state.calls), ("sessions", state.sessions), ("elements for the next run", elements))
     rows: list[Row] = [("", [
         name, number(it.used) + (" or more" if it.is_least else ""), number(it.limit), percent(it.used, it.limit),
-        rate(it.a_second), span_of(it.lasts)]) for name, it in supplies if it]
+        rate(it.a_second), span_of(it.lasts)]) for name, it in (("calls", state.calls), ("sessions", state.sessions)) if it]
     return {"note": "" if rows else "Not known.", "rows": rows}
 
 
@@ -184,35 +176,25 @@ def _present(state: State, run: Run) -> Row:
 
 def _past(run: Run) -> Row:
     assert run.end
-    return BAD if run.is_lost else "", [
+    return BAD if run.is_lost or run.end.lost_jobs else "", [
         *_begun(run, run.lasted), number(run.opening), _number(run.end.calls), _number(run.end.left),
-        f"runs/{run.number}" if run.history else "", "; ".join(_says(run.end))]
+        f"runs/{run.number}" if run.history else "", "; ".join(_says(run, run.end))]
 
 
 def _begun(run: Run, lasted: float) -> list[str]:
     return [str(run.number), date(run.date), span_of(lasted)]
 
 
-def _says(end: End) -> Iterator[str]:
-    """How a run ended, and what clients felt of that."""
+def _says(run: Run, end: End) -> Iterator[str]:
+    """How a run ended, what clients felt of that, and what was lost."""
     yield WHY[end.why]
+    if run.is_lost:
+        yield f"the next run began again with the {counted(run.opening, 'element')} of its opening"
     if end.closed is not None:
         most, more = end.held_by[:MOST_HELD_BY], len(end.held_by) - MOST_HELD_BY
         held = f", held up by {', '.join(most)}" + (f" and {more} more" if more > 0 else "") if most else ""
         yield f"new clients waited {span_of(end.closed)}{held}"
     if end.cut:
         yield f"{counted(end.cut, 'session')} cut"
-
-
-def _losses(state: State) -> Texts:
-    lost = [(it, _loss(it, it.end)) for it in state.runs if it.end and (it.is_lost or it.end.lost_jobs)]
-    count = counted(state.lost_runs, "run was", "runs were")
-    return {"note": f"{count} lost since this folder exists." if state.lost_runs else "No run was lost.",
-            "rows": [("", [*_begun(it, it.lasted), what]) for it, what in lost]}
-
-
-def _loss(run: Run, end: End) -> str:
-    if run.is_lost:
-        return ("all that happened in it; the next run began again with the "
-                f"{counted(run.opening, 'element')} of its opening")
-    return f"{counted(end.lost_jobs or 0, 'job')} that failed and could not come back, since the run was full"
+    if end.lost_jobs:
+        yield f"{counted(end.lost_jobs, 'job')} lost that failed and could not come back, since the run was full"

@@ -20,7 +20,7 @@ from servicing.site import SOCKET, STATE
 
 EVERY = 2.0  # seconds from one drawing to the next
 PATIENCE = 5.0  # seconds for an answer
-MOST_ROWS = {"room": 3, "runs": 2}  # of the tables above that of the clients
+MOST_ROWS = {"room": 2, "runs": 2}  # of the tables above that of the clients
 
 # Sequences that every terminal of the last decades knows.
 HOME, REST_OF_LINE, REST_OF_SCREEN, CLEAR = "\x1b[H", "\x1b[K", "\x1b[J", "\x1b[2J"

@@ -35,7 +35,7 @@ SEEN = """(() => {
         attention: [...document.querySelectorAll('#attention p')].map((it) => it.textContent),
         figures: [...document.querySelectorAll('#cards div')].map((it) =>
             [it.lastChild.textContent, it.firstChild.textContent, it.className]),
-        ...Object.fromEntries(['clients', 'room', 'runs', 'losses'].map(table)) };
+        ...Object.fromEntries(['clients', 'room', 'runs'].map(table)) };
 })()"""
 # The parts of the page that are wider than their room.
 TOO_WIDE = """[document.documentElement, ...document.querySelectorAll('.scrolled, section, p, td')]

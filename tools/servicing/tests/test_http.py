@@ -1,4 +1,5 @@
 """The server of the page and the metrics, with clients that are slow, wrong or hostile."""
+import argparse
 import contextlib
 import http.client
 import io
@@ -265,7 +266,7 @@ class AddressTest(unittest.TestCase):
                            ("::1:7080", "no address such as"), ("x:7080", "'x' is no address of this machine"),
                            ("1.2.3:80", "'1.2.3' is no address of this machine"), ("-1", "no address such as"),
                            ("127.0.0.1:", "no address such as"), ("http://x", "no address such as")):
-            with self.assertRaisesRegex(ValueError, says):
+            with self.assertRaisesRegex(argparse.ArgumentTypeError, says):
                 address_of(word)
 
     def test_what_listening_elsewhere_means(self) -> None:

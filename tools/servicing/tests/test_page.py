@@ -25,7 +25,7 @@ class PageTest(unittest.TestCase):
 
     def test_headings_and_tables_tell_their_parts(self) -> None:
         tags = [tag for tag, _ in self.outline.tags]
-        self.assertEqual((tags.count("h1"), tags.count("h2"), tags.count("main")), (1, 8, 1))
+        self.assertEqual((tags.count("h1"), tags.count("h2"), tags.count("main")), (1, 7, 1))
         heads = [told for tag, told in self.outline.tags if tag == "th"]
         self.assertTrue(heads and all(it.get("scope") == "col" for it in heads))
         pictures = [told for tag, told in self.outline.tags if tag == "svg"]

@@ -49,10 +49,9 @@ class ScreenTest(unittest.TestCase):
             "        1 clients waiting                       1 runs lost",
             "The first element, at 2026-11-26 07:59:59: id 17, attempt 2, payload letter-17. It expired 3.25 s before that.",
             "",
-            "  of                         used        room for   none left in",
-            "  calls                      400,000     1,000,000  13.3 h",
-            "  sessions                   57 or more  10,000     5.52 h",
-            "  elements for the next run  1,204       1,000,000  46.2 d",
+            "  of        used        room for   none left in",
+            "  calls     400,000     1,000,000  13.3 h",
+            "  sessions  57 or more  10,000     5.52 h",
             "",
             "  run  began                left   how it ended",
             "  12   2026-11-26 06:53:20  1,204  it goes on, process 30170",
@@ -88,7 +87,7 @@ class ScreenTest(unittest.TestCase):
                 lines = plain(drawn(it, columns, rows))
                 self.assertTrue(all(len(it) < columns for it in lines), lines)
                 self.assertLess(len(lines), rows)
-        self.assertEqual(plain(drawn(state(), 80, 24))[-1], "  and 3 clients more")
+        self.assertEqual(plain(drawn(state(), 80, 23))[-1], "  and 3 clients more")
 
     def test_colours(self) -> None:
         self.assertIn("\x1b[31m  41004", drawn(state(), 120, 40))
@@ -191,9 +190,9 @@ class TerminalTest(ServedTest):
         self.board.put(state())
         terminal = self.terminal()
         terminal.lines(lambda lines: any("python3 9" in it for it in lines))
-        terminal.resize(50, 24)
+        terminal.resize(50, 23)
         lines = terminal.lines(lambda lines: lines[-1] == "  and 3 clients more")
-        self.assertEqual(len(lines), 23)
+        self.assertEqual(len(lines), 22)
 
     def test_a_service_that_goes_and_comes_back(self) -> None:
         self.board.put(state())

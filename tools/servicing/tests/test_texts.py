@@ -13,15 +13,16 @@ from servicing.trend import BETWEEN, KEPT, PLOTS, Trend, drawn
 SAYS = {
     "calls": ["400,000", "1,000,000", "40.0 %", "12.5", "13.3 h"],
     "sessions": ["57 or more", "10,000", "0.6 %", "0.50", "5.52 h"],
-    "elements for the next run": ["1,204", "1,000,000", "0.1 %", "0.25", "46.2 d"],
     "12": ["2026-11-26 06:53:20", "66.7 min", "1,200", "400,000", "1,204", "", "it goes on, process 30170"],
     "11": ["2026-11-26 05:53:20", "60.0 min", "900", "250,000", "1,200", "runs/11",
            "its time was over; new clients waited 310 ms"],
     "10": ["2026-11-26 05:30:00", "23.3 min", "900", "?", "?", "",
-           "lost: its server was killed; new clients waited 1.25 s"],
+           "lost: its server was killed; the next run began again with the 900 elements of its opening; new clients waited "
+           "1.25 s"],
     "9": ["2026-11-25 07:00:00", "22.5 h", "0", "1,000,000", "900", "runs/9",
           "few calls were left; new clients waited 61.5 s, held up by client 41007 (python3 4711): 60s, client 41008 "
-          "(python3 4712): 2s and 1 more; 1 session cut"],
+          "(python3 4712): 2s and 1 more; 1 session cut; 3 jobs lost that failed and could not come back, since the run "
+          "was full"],
 }
 
 
@@ -59,12 +60,7 @@ class TextsTest(unittest.TestCase):
                 ("", ["41000", "python3 9", "100 ms ago", "active"])]})
         self.assertEqual((told["room"]["note"], told["runs"]["note"]), ("", ""))
         self.assertEqual({name: cells for name, *cells in rows(told["room"]) + rows(told["runs"])}, SAYS)
-        self.assertEqual([kind for kind, _ in told["runs"]["rows"]], ["", "", "bad", ""])
-        self.assertEqual(told["losses"], {"note": "1 run was lost since this folder exists.", "rows": [
-            ("", ["10", "2026-11-26 05:30:00", "23.3 min",
-                  "all that happened in it; the next run began again with the 900 elements of its opening"]),
-            ("", ["9", "2026-11-25 07:00:00", "22.5 h",
-                  "3 jobs that failed and could not come back, since the run was full"])]})
+        self.assertEqual([kind for kind, _ in told["runs"]["rows"]], ["", "", "bad", "bad"])
 
     def test_what_needs_attention(self) -> None:
         told = shown(troubled_state(), False)
@@ -82,9 +78,9 @@ class TextsTest(unittest.TestCase):
         told = shown(first_state(), False)
         self.assertEqual((told["title"], told["kind"]), ("starting: rb_broker 7011", "fair"))
         self.assertEqual([value for _, value, _ in told["figures"]], ["?"] * 7 + ["0"])
-        self.assertEqual([told[it] for it in ("head", "clients", "room", "runs", "losses")], [
+        self.assertEqual([told[it] for it in ("head", "clients", "room", "runs")], [
             "The server has not answered yet.", {"note": "Not known.", "rows": []}, {"note": "Not known.", "rows": []},
-            {"note": "No run has ended yet.", "rows": []}, {"note": "No run was lost.", "rows": []}])
+            {"note": "No run has ended yet.", "rows": []}])
 
     def test_phases(self) -> None:
         for phase, is_healthy, kind in ((Phase.SERVING, False, "bad"), (Phase.BETWEEN, False, "fair"),
