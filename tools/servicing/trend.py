@@ -27,16 +27,8 @@ class Sample(NamedTuple):
     at: float
     elements: int | None
     late: float | None  # seconds for which the first element has been due; 0 if none is
-    counted_at: float  # when the server last answered, which it is asked more rarely than the system is
     offers: int  # since the service began
     gifts: int
-
-
-def sample_of(state: State) -> Sample:
-    queue, counts = state.queue, (state.traffic.offered, state.traffic.left)
-    if queue is None:
-        return Sample(state.at, None, None, state.at, *counts)
-    return Sample(state.at, queue.elements, max(queue.late, 0.0), queue.at, *counts)
 
 
 class Trend:
@@ -46,33 +38,30 @@ class Trend:
         self._samples: deque[Sample] = deque()
 
     def add(self, state: State) -> None:
-        """Takes a sample. A machine's clock that was set back begins the samples anew."""
-        samples = self._samples
-        if samples and state.at < samples[-1].at:
+        """Takes a sample, of when the server last answered if it does: it is asked more rarely than the system is. A
+        machine's clock that was set back begins the samples anew."""
+        samples, queue, traffic = self._samples, state.queue, state.traffic
+        at = queue.at if queue else state.at
+        if samples and at < samples[-1].at:
             samples.clear()
-        if not samples or state.at >= samples[-1].at + BETWEEN:
-            samples.append(sample_of(state))
-            while samples[0].at < state.at - KEPT:
+        if not samples or at >= samples[-1].at + BETWEEN:
+            seen = (queue.elements, max(queue.late, 0.0)) if queue else (None, None)
+            samples.append(Sample(at, *seen, traffic.offered, traffic.left))
+            while samples[0].at < at - KEPT:
                 samples.popleft()
 
     def values(self, runs: Sequence[Run]) -> dict[str, Values]:
-        """A list for each value, with a place for each sample. Rates are those between the last two counts; failures
-        are those of runs that have ended."""
-        at, elements, late, counted_at, offers, gifts = zip(*self._samples) if self._samples else [()] * 6
-        return {"at": [*at], "elements": [*elements], "late": [*late], "offers": _rates(counted_at, offers),
-                "gifts": _rates(counted_at, gifts), "failures": [_failures(runs, it) for it in at]}
+        """A list for each value, with a place for each sample. Rates are those since the sample before; failures are
+        those of runs that have ended."""
+        at, elements, late, offers, gifts = zip(*self._samples) if self._samples else [()] * 5
+        return {"at": [*at], "elements": [*elements], "late": [*late], "offers": _rates(at, offers),
+                "gifts": _rates(at, gifts), "failures": [_failures(runs, it) for it in at]}
 
 
 def _rates(times: Sequence[float], counts: Sequence[int]) -> Values:
-    rates: Values = []
-    since = before = 0.0
-    for at, count in zip(times, counts):
-        if rates and at <= since:
-            rates.append(rates[-1])
-            continue
-        rates.append(round(max(count - before, 0) / (at - since), 3) if rates else None)
-        since, before = at, count
-    return rates
+    """A count that was corrected has not fallen."""
+    since, before = zip(times, times[1:]), zip(counts, counts[1:])
+    return [None, *(max(count - one, 0) / (at - begin) for (begin, at), (one, count) in zip(since, before))][:len(times)]
 
 
 def _failures(runs: Sequence[Run], at: float) -> float | None:

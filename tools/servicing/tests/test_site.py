@@ -97,8 +97,8 @@ class PathsTest(SiteTest):
         plots = told.pop("plots")
         self.assertEqual(told, json.loads(json.dumps(shown(state(), True))))
         self.assertEqual([plots[it]["readings"] for it in ("elements", "late", "rates")], [
-            [[1000, "08:00:00 UTC\nelements: 1,204"]],
-            [[1000, "08:00:00 UTC\ntime since the first element expired: 3.25 s"]], [[1000, ""]]])
+            [[983.3, "07:59:59 UTC\nelements: 1,204"]],
+            [[983.3, "07:59:59 UTC\ntime since the first element expired: 3.25 s"]], [[983.3, ""]]])
         self.assertNotIn(b"nowhere", self.answer("/state.json").body, "no path of a history is told")
 
     def test_a_state_is_told_once_however_many_ask(self) -> None:

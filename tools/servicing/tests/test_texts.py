@@ -127,7 +127,7 @@ class TrendTest(unittest.TestCase):
         """It answers every six seconds, of which each had 10 offers a second."""
         told = self.values(*(state(at=AT + 2 * it, queue=Queue(AT + it // 3 * 6, 0, None),
                                    traffic=Traffic(60 * (it // 3), 0, 0, 0)) for it in range(7)))
-        self.assertEqual(told["offers"], [None, None, None, 10, 10, 10, 10])
+        self.assertEqual((told["at"], told["offers"]), ([AT, AT + 6, AT + 12], [None, 10, 10]))
 
     def test_the_last_minutes_with_their_rates(self) -> None:
         self.assertEqual(self.values(*self.moments(3, 2.0)), {
@@ -148,7 +148,8 @@ class TrendTest(unittest.TestCase):
             self.assertEqual(self.values(it), {"at": [AT], **nothing, **wanted})
 
     def test_a_clock_that_is_set_back(self) -> None:
-        self.assertEqual(self.values(*(state(at=at) for at in (AT, AT + 10, AT - 3600)))["at"], [AT - 3600])
+        states = (state(at=at, queue=Queue(at, 1, None)) for at in (AT, AT + 10, AT - 3600))
+        self.assertEqual(self.values(*states)["at"], [AT - 3600])
 
     def test_counts_that_are_corrected(self) -> None:
         told = self.values(*(state(at=at, queue=None, traffic=Traffic(offered, 0, 0, 0))
