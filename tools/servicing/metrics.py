@@ -1,4 +1,5 @@
-"""A state as Prometheus reads it. A metric whose value is not known is left out. Counters rise as long as the service lasts, whatever becomes of its runs; what is counted of one run is a gauge."""
+"""A state as Prometheus reads it. A metric whose value is not known is left out. Counters rise as long as the service
+lasts, whatever becomes of its runs; what is counted of one run is a gauge."""
 from __future__ import annotations
 
 from typing import Any, Iterator

@@ -8,8 +8,8 @@ from typing import Iterator
 
 from reporting.head import head
 from reporting.svg import HEIGHT
-from servicing.shown import TABLES, Table
-from servicing.trend import PLOTS, Plot
+from servicing.shown import TABLES
+from servicing.trend import PLOTS
 
 HERE = Path(__file__).resolve().parent
 REPORTING = HERE.parent / "reporting"
@@ -46,12 +46,13 @@ def page(port: int) -> bytes:
 def _plots() -> Iterator[str]:
     for name, it in PLOTS.items():
         keys = "".join(f'<span class="key {kind}">{what}</span>' for kind, _, what in it.lines)
-        yield (f'<section class="plot"><h2>{it.title}</h2><p class="legend">{keys}</p>\n<div class="drawing"'
-               f' id="plot-{name}"><svg height="{HEIGHT}" role="img" aria-label="{it.title}"><g></g></svg></div></section>\n')
+        yield (f'<section class="plot"><h2>{it.title}</h2><p class="legend">{keys}</p>\n'
+               f'<div class="drawing" id="plot-{name}"><svg height="{HEIGHT}" role="img" aria-label="{it.title}">'
+               "<g></g></svg></div></section>\n")
 
 
 def _tables() -> Iterator[str]:
     for name, it in TABLES.items():
         columns = "".join(f'<th scope="col" class="{kind}">{title}</th>' for title, kind in it.columns)
-        yield (f'<section id="{name}"><h2>{it.title}</h2><p></p>\n<div class="scrolled"><table><thead><tr>{columns}</tr>'
-               "</thead><tbody></tbody></table></div></section>\n")
+        yield (f'<section id="{name}"><h2>{it.title}</h2><p></p>\n<div class="scrolled"><table><thead><tr>{columns}'
+               "</tr></thead><tbody></tbody></table></div></section>\n")

@@ -62,11 +62,12 @@ class Reports:
     def _begin(self, run: Run, settings: Settings) -> None:
         """Begins a process that Ctrl-C does not end. What it writes is in memory, and in no folder."""
         self._page, self._errors = (open(os.memfd_create(it), "w+b") for it in ("report", "errors"))
-        words = ["nice", "-n", str(NICENESS), "timeout", str(MOST_SECONDS), sys.executable, "-B", TOOL, str(run.history),
-                 "--html", f"/dev/fd/{self._page.fileno()}", "--began", f"@{run.date:.3f}",
+        page, none = self._page.fileno(), subprocess.DEVNULL
+        words = ["nice", "-n", str(NICENESS), "timeout", str(MOST_SECONDS), sys.executable, "-B", TOOL,
+                 str(run.history), "--html", f"/dev/fd/{page}", "--began", f"@{run.date:.3f}",
                  "--attempts", str(settings.attempts)]
-        self._process = subprocess.Popen(words, stdin=subprocess.DEVNULL, stdout=subprocess.DEVNULL, stderr=self._errors,
-                                         pass_fds=[self._page.fileno()], start_new_session=True)
+        self._process = subprocess.Popen(words, stdin=none, stdout=none, stderr=self._errors, pass_fds=[page],
+                                         start_new_session=True)
         self._making = run.id
 
     def _made(self, status: int) -> Answer:
@@ -75,7 +76,8 @@ class Reports:
             self._errors.seek(0)
             said = self._errors.read(1 << 16).decode(errors="replace").strip().splitlines()
             if status:
-                why = "it timed out" if status == TIMED_OUT else said[-1] if said else f"tools/report ended with {status}"
+                said = ["it timed out"] if status == TIMED_OUT else said
+                why = said[-1] if said else f"tools/report ended with {status}"
             elif os.fstat(self._page.fileno()).st_size > MOST_BYTES:
                 why = f"the report is larger than {MOST_BYTES:,} bytes"
             else:

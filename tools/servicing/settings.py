@@ -61,7 +61,9 @@ def _keep(word: str) -> Keep:
     return Keep(None, nanoseconds_of(word))
 
 
-def _option(help: str, read: Callable[[str], Any], default: Any = None, metavar: str | None = "TIME", **more: Any) -> Any:
+def _option(
+    help: str, read: Callable[[str], Any], default: Any = None, metavar: str | None = "TIME", **more: Any
+) -> Any:
     """An option, named as its field is unless it has a `flag`. Its default is told behind its help."""
     told = f"{help} ({default})" if default is not None else help
     return field(metadata={"help": told, "type": read, "default": default, "metavar": metavar, **more})
@@ -113,7 +115,8 @@ class Settings:
     @property
     def serve_words(self) -> list[str]:
         """The command that serves a run, for a keeper."""
-        said = ((f"--{it}", str(getattr(self, it))) for it in ("port", "workers", "sessions", "calls", "turns", "timer"))
+        names = ("port", "workers", "sessions", "calls", "turns", "timer")
+        said = ((f"--{it}", str(getattr(self, it))) for it in names)
         return [self.program, "serve", *sum(said, ()), *self.policy, "--from", OPENING, "--history", HISTORY]
 
 

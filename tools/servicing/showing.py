@@ -72,7 +72,8 @@ class Showing:
         seen = {it: getattr(looks, it, None) for it in ("queue", "clients", "calls", "sessions")}
         self._state = state = replace(
             self._state, at=time.time(), waits_for=self.waits_for, run=self.run, traffic=traffic, runs=self._runs,
-            lost_runs=self._history.lost, alerts=(*self._raised.values(), *self._alerts()), unwritten=self.unwritten, **seen)
+            lost_runs=self._history.lost, alerts=(*self._raised.values(), *self._alerts()), unwritten=self.unwritten,
+            **seen)
         self._board.put(state)
         # An end takes as long as --stop-within says, and an opening of many elements its time.
         longer = {} if state.phase is Phase.SERVING else {"EXTEND_TIMEOUT_USEC": MORE_TIME}

@@ -125,8 +125,8 @@ def _head(queue: Queue | None) -> str:
         return f"The queue was empty at {date(queue.at)}." if queue else "The server has not answered yet."
     it = queue.head
     when = f"expired {span_of(it.late)} before" if it.late > 0 else f"expires {span_of(-it.late)} after"
-    return (f"The first element, at {date(queue.at)}: id {it.id}, attempt {it.attempt}, payload {it.payload}. It {when} "
-            "that.")
+    return (f"The first element, at {date(queue.at)}: id {it.id}, attempt {it.attempt}, payload {it.payload}. "
+            f"It {when} that.")
 
 
 def _clients(clients: Clients | None) -> Texts:
@@ -137,8 +137,8 @@ def _clients(clients: Clients | None) -> Texts:
     unlisted = f" {counted(more, 'client more is', 'clients more are')} not listed." if more > 0 else ""
     return {"note": (
         f"{clients.served} served by {counted(clients.workers, 'worker')}, {clients.waiting} waiting for one, "
-        f"{clients.not_reading} not reading, {clients.hung_up} hung up while their request waits, {len(clients.silent)} "
-        f"silent for {span_of(clients.silent_from)} or longer{longest}.{unlisted}"),
+        f"{clients.not_reading} not reading, {clients.hung_up} hung up while their request waits, "
+        f"{len(clients.silent)} silent for {span_of(clients.silent_from)} or longer{longest}.{unlisted}"),
         "rows": [_client(it) for it in clients.all[:MOST_CLIENTS]]}
 
 
@@ -152,17 +152,18 @@ def _client(it: Client) -> Row:
 
 
 def _room(state: State) -> Texts:
+    supplies = (("calls", state.calls), ("sessions", state.sessions))
     rows: list[Row] = [("", [
         name, number(it.used) + (" or more" if it.is_least else ""), number(it.limit), percent(it.used, it.limit),
-        rate(it.a_second), span_of(it.lasts)]) for name, it in (("calls", state.calls), ("sessions", state.sessions)) if it]
+        rate(it.a_second), span_of(it.lasts)]) for name, it in supplies if it]
     return {"note": "" if rows else "Not known.", "rows": rows}
 
 
 def _runs(state: State) -> Texts:
     more = len(state.runs) - MOST_RUNS
     note = f"{counted(more, 'earlier run is', 'earlier runs are')} kept too." if more > 0 else ""
-    rows = [_present(state, state.run)] if state.run else []
-    return {"note": note if state.runs else "No run has ended yet.", "rows": rows + [*map(_past, state.runs[:MOST_RUNS])]}
+    rows = [*([_present(state, state.run)] if state.run else []), *map(_past, state.runs[:MOST_RUNS])]
+    return {"note": note if state.runs else "No run has ended yet.", "rows": rows}
 
 
 def _present(state: State, run: Run) -> Row:

@@ -113,7 +113,8 @@ class Site:
         if self._is_healthy(state):
             return Answer.line(HTTPStatus.OK, state.phase.value)
         why = "; ".join(filter(None, (state.phase.value, state.disk)))
-        return Answer.line(UNAVAILABLE, f"the service has found nothing for {STALE:g} seconds" if self._is_stale else why)
+        why = f"the service has found nothing for {STALE:g} seconds" if self._is_stale else why
+        return Answer.line(UNAVAILABLE, why)
 
     def _report(self, state: State, number: int) -> Answer | None:
         run = next((it for it in state.runs if it.number == number and it.history is not None), None)

@@ -60,8 +60,8 @@ class Trend:
 
 def _rates(times: Sequence[float], counts: Sequence[int]) -> Values:
     """A count that was corrected has not fallen."""
-    since, before = zip(times, times[1:]), zip(counts, counts[1:])
-    return [None, *(max(count - one, 0) / (at - begin) for (begin, at), (one, count) in zip(since, before))][:len(times)]
+    pairs = zip(times, times[1:], counts, counts[1:])
+    return [None, *(max(count - before, 0) / (at - since) for since, at, before, count in pairs)][:len(times)]
 
 
 def _failures(runs: Sequence[Run], at: float) -> float | None:

@@ -3,7 +3,7 @@ import atexit
 import contextlib
 import json
 import os
-import re
+import shlex
 import signal
 import socket
 import subprocess
@@ -20,16 +20,9 @@ from serving import HOST, PATIENCE
 from serving.server import free_port
 from serving.session import Session
 
-WORD = re.compile(r'([a-z_]+)=(?:"((?:[^"\\]|\\.)*)"|(\S+))')
-
 SYSTEMS_PYTHON = "/usr/bin/python3"
 
 Event = dict[str, str]
-
-
-def event_of(line: str) -> Event:
-    """The words of a line, with their values."""
-    return {name: re.sub(r"\\(.)", r"\1", quoted) or plain for name, quoted, plain in WORD.findall(line)}
 
 
 class Service:
@@ -60,7 +53,9 @@ class Service:
             self._came.notify_all()
 
     def all(self, event: str) -> list[Event]:
-        return [it for it in map(event_of, [*self.lines]) if it.get("event") == event]
+        """The words of each line of an event, with their values."""
+        lines = (it for it in [*self.lines] if f" event={event} " in f"{it} ")
+        return [dict(word.split("=", 1) for word in shlex.split(it)) for it in lines]
 
     def wait(self, event: str, count: int = 1, patience: float = PATIENCE) -> Event:
         """The last of this many lines of an event, once they are there."""

@@ -23,8 +23,8 @@ CLIENTS = (
 )
 
 
-FULL_DISK = Alert(DISK, "/var/lib/rb_broker/7011/run-11.txt can't be written: No space left on device; 57,000,000 bytes "
-                  "are kept in memory", AT - 4000)
+FULL_DISK = Alert(DISK, "/var/lib/rb_broker/7011/run-11.txt can't be written: No space left on device; 57,000,000 "
+                  "bytes are kept in memory", AT - 4000)
 
 
 def ended(number: int, began: float, opening: int, end: End, history: str = "") -> Run:

