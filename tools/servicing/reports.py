@@ -20,11 +20,7 @@ MOST_SECONDS, TIMED_OUT = 300.0, 124  # and the status of `timeout` behind them
 NICENESS = 15  # the server and its clients come first
 
 HTML = "text/html; charset=utf-8"
-MAKING = """<!DOCTYPE html>
-<html lang="en"><head><meta charset="utf-8"><meta name="viewport" content="width=device-width, initial-scale=1">
-<meta name="color-scheme" content="light dark"><link rel="icon" href="data:,"><title>run {0}: report</title></head>
-<body><p>The report on run {0} is being made. This page asks again every two seconds.</p></body></html>
-"""
+MAKING = "the report on this run, or another one, is being made; this page asks again every two seconds"
 
 
 class Reports:
@@ -48,7 +44,7 @@ class Reports:
         if answer is None:
             if self._process is None:
                 self._begin(run, settings)
-            return Answer(HTTPStatus.ACCEPTED, HTML, MAKING.format(run.number).encode(), (("Refresh", "2"),))
+            return Answer.line(HTTPStatus.ACCEPTED, MAKING, ("Refresh", "2"))
         if answer.status is HTTPStatus.OK:
             self._kept[run.id] = answer
         return answer

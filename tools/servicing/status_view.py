@@ -2,7 +2,6 @@
 service has seen."""
 from __future__ import annotations
 
-import http.client
 import json
 import os
 import shutil
@@ -32,31 +31,18 @@ Line = tuple[str, str]  # a mark and a text
 STARTING: Line = (BAD, "starting")
 
 
-class _Connection(http.client.HTTPConnection):
-    """A connection to a socket in a folder, whose path may be longer than a socket's name."""
-
-    def __init__(self, folder: str) -> None:
-        super().__init__("localhost", timeout=PATIENCE)
-        self._folder = folder
-
-    def connect(self) -> None:
-        with short_name(os.path.join(self._folder, SOCKET)) as name:
-            self.sock = socket.socket(socket.AF_UNIX, socket.SOCK_STREAM)
-            self.sock.settimeout(PATIENCE)
-            self.sock.connect(name)
-
-
 def asked(folder: str) -> Texts | None:
     """What the service of a folder shows: None before its first state. Raises an `OSError` if no service answers."""
-    connection = _Connection(folder)
+    with short_name(os.path.join(folder, SOCKET)) as name, socket.socket(socket.AF_UNIX, socket.SOCK_STREAM) as it:
+        it.settimeout(PATIENCE)
+        it.connect(name)
+        it.sendall(f"GET {STATE} HTTP/1.1\r\n\r\n".encode())
+        answer = b"".join(iter(lambda: it.recv(65_536), b""))
     try:
-        connection.request("GET", STATE)
-        told: Texts | None = json.loads(connection.getresponse().read())
-        return told and {name: it for name, it in told.items() if name != "plots"}
-    except (http.client.HTTPException, ValueError) as fault:
-        raise OSError(0, f"no service answers there ({fault})") from fault
-    finally:
-        connection.close()
+        told: Texts | None = json.loads(answer.partition(b"\r\n\r\n")[2])
+    except ValueError:
+        raise OSError(0, "no service answers there") from None
+    return told and {name: it for name, it in told.items() if name != "plots"}
 
 
 def show(folder: str, as_json: bool) -> int:
