@@ -1,5 +1,8 @@
-"""The acts that an event may be, by small numbers, so that a column of them has a byte for each event."""
+"""The acts that an event may be, by small numbers, so that a column of them has a byte for each event; and what one
+gave, by its words."""
 from __future__ import annotations
+
+from typing import Sequence
 
 (OFFER, POLL, POLL_NONE, TAKE, POLLFOR, POLLFOR_NONE, PEEK, PEEK_NONE,
  REMOVE, REMOVE_NONE, DRAIN, CLEAR, SIZE) = range(13)
@@ -16,3 +19,11 @@ GIVES_ONE = frozenset((POLL, TAKE, POLLFOR))
 GIVES = GIVES_ONE | {DRAIN}  # a drain as many as it says
 FINDS_ONE = GIVES_ONE | {PEEK, REMOVE}
 FINDS_NONE = frozenset((POLL_NONE, POLLFOR_NONE, PEEK_NONE, REMOVE_NONE))
+
+# Where the ids of the elements that an act gave stand among its words, by the first of these.
+IDS: dict[str, slice] = {"poll": slice(1, 2), "take": slice(1, 2), "pollfor": slice(3, 4), "drain": slice(2, None)}
+
+
+def given_ids(act: Sequence[str]) -> list[int]:
+    """The ids of the elements that an act gave, in their order."""
+    return [int(it) for it in act[IDS.get(act[0], slice(0))] if it != "none"]

@@ -9,7 +9,7 @@ from array import array
 from collections import Counter, deque
 from typing import List
 
-from histories.given import given_ids
+from histories.acts import given_ids
 from verifying.account import MOST_HELD
 from verifying.calls import NEVER, Calls, Session
 from verifying.history import NONE

@@ -4,8 +4,8 @@ from __future__ import annotations
 import io
 import unittest
 
+from histories.acts import given_ids
 from histories.faults import Damaged
-from histories.given import given_ids
 from histories.grammar import Head
 from histories.history import Element
 from histories.tests.support import RUN, offers_in
