@@ -38,8 +38,8 @@ class ServedTest(RunTest, ServingTest):
                 clients = [Client(it, timer) for it in range(SESSIONS)]
                 with ThreadPoolExecutor(WORKERS) as pool:
                     self.assertEqual({*pool.map(lambda it: it.run(server.port), clients)}, {""})
-                record = self.file("clients.jsonl", "".join(line for it in clients for line in it.record()))
-                sessions = sum(it.asked != [] for it in clients)  # some say nothing
+                record = self.file("clients.jsonl", "".join(f"{line}\n" for it in clients for line in it.record))
+                sessions = sum(it.record != [] for it in clients)  # some say nothing
                 lines = self.expect_no_fault(server, record)
                 says = rf"^\d,\d+ events at [1-{WORKERS}] seats; [\d,]+ requests of {sessions} sessions$"
                 self.assertRegex(lines[0], says)
