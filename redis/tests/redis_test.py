@@ -6,10 +6,10 @@ import os
 import subprocess
 import tempfile
 import time
-import unittest
 from contextlib import redirect_stderr, redirect_stdout
 from pathlib import Path
 
+from checking import testing
 from gateways import COMMAND
 from nodes import FORGETFUL, Node
 from rb_broker_redis.address import read_address
@@ -20,13 +20,12 @@ SEAT = 1_000_000_000_001
 """That of a session of the first gateway."""
 
 
-class RoomTest(unittest.TestCase):
+class RoomTest(testing.RoomTest):
     """A test with a folder of its own."""
 
     def setUp(self) -> None:
-        room = tempfile.TemporaryDirectory(prefix="rb-test-")
-        self.addCleanup(room.cleanup)
-        self.room = Path(room.name)
+        super().setUp()
+        self.room = Path(self.room)
 
 
 class RedisTest(RoomTest):
