@@ -41,7 +41,7 @@ use Rattle.rb_session.specs.Turn.{lines_for}
 use Rattle.rb_session.proofs.Events.{tells_answer}
 use Rattle.rb_jobs.specs.Among.{IsAmong}
 use Rattle.rb_jobs.specs.Hands.{reply_elements}
-use Rattle.rb_jobs.specs.JobCounts.{IsAccount, JobCounts, begun_by, begun_in, jobs_of, only}
+use Rattle.rb_jobs.specs.JobSums.{IsAccount, JobSums, begun_by, begun_in, jobs_of, only}
 use Rattle.rb_jobs.specs.QueueSums.{amount_at, amount_of, cleared_sum, origins_sum, removed_sum, sum_below, waiting_sum}
 use Rattle.rb_jobs.proofs.EachOnce.{begins_once, offer_sum}
 use Rattle.rb_jobs.proofs.Gifts.{Leaves, Stands, leaves_by, named_from, offered_by}
@@ -50,7 +50,7 @@ use Rattle.rb_jobs.proofs.QueueSums.{empty_sum, given_sum_from, offered_sum, sam
 
 -- What sessions were handed, and the jobs that they began, are what they offered, and the jobs that ended; and they began
 -- no more than they offered, by the ids.
-pub record Balance (gifts offers named : ℕ) (jobs : JobCounts) : Type 0 where
+pub record Balance (gifts offers named : ℕ) (jobs : JobSums) : Type 0 where
   pub even : gifts + jobs.begun ≡ offers + jobs.done + jobs.dead + jobs.lost
   pub few : jobs.begun ≤ named
 
@@ -529,7 +529,7 @@ events_named id opening front (event ∷ events) all =
     )
 
 -- a history whose gifts and offers are those of sessions accounts for each job
-pub accounts : (opening : Opening) (history : List Event) (jobs : (ℕ → ℕ) → JobCounts) → IsLegal opening history
+pub accounts : (opening : Opening) (history : List Event) (jobs : (ℕ → ℕ) → JobSums) → IsLegal opening history
     → ((amount : ℕ → ℕ) → Balance (gifts_in amount (made_after opening [] history))
     (offers_in amount (made_after opening [] history)) (named_in amount (made_after opening [] history)) (jobs amount))
     → IsAccount opening history jobs

@@ -23,7 +23,7 @@ jobs_are_accepted policy opening history (Err (At index reason)) keeps breaks =
 pub none_are_jobs : NoneAreJobs
 none_are_jobs opening none = record {
   one_each = λ one other at_one at_other same. absurd (nowhere one at_one);
-  begun = λ element there. absurd (nowhere element there);
+  given_out = λ element there. absurd (nowhere element there);
 }
   where
     nowhere : (element : Element) → map.get (bag_from opening.elements) element.id ≡ Some element → ⊥

@@ -15,7 +15,7 @@ use Rattle.rb_queue.proofs.Effects.{FitsIn, bit, permitted_fits, times_cons}
 use Rattle.rb_queue.proofs.Leavings.{is_offered_once}
 use Rattle.rb_queue.proofs.Options.{same_or_not}
 use Rattle.rb_jobs.specs.Among.{IsAmong}
-use Rattle.rb_jobs.specs.JobCounts.{only}
+use Rattle.rb_jobs.specs.JobSums.{only}
 use Rattle.rb_jobs.specs.Places.{AreJobs}
 use Rattle.rb_jobs.specs.QueueSums.{origins_sum}
 use Rattle.rb_jobs.proofs.Gifts.{Stands}
@@ -114,7 +114,7 @@ module _ (origin : ℕ) where
           → origins_sum (only origin) opening.elements + offer_sum origin history ≤ 1
       by_sum (inl some) =
           let (element, among, named) = some_among opening.elements some in
-          let below = jobs.begun element (stands element among) in
+          let below = jobs.given_out element (stands element among) in
           omega (
             arith,
             there_once opening.elements opening.next_id opening.opening.order

@@ -39,7 +39,7 @@ use Rattle.rb_session.specs.Held.{AreHeldOnce}
 use Rattle.rb_session.specs.RunEvents.{AreSomeOf}
 use Rattle.rb_session.proofs.HandedOut.{some_all}
 use Rattle.rb_jobs.specs.Among.{IsAmong}
-use Rattle.rb_jobs.specs.Attempts.{HasNext, IsLastAttempt, came_in}
+use Rattle.rb_jobs.specs.Attempts.{HasNext, IsLatestAttempt, came_in}
 use Rattle.rb_jobs.specs.Hands.{RetriesJob, Handles, HandlesAll, AreHands}
 use Rattle.rb_jobs.specs.Places.{Place, waits, held_by, IsAt, AreInOnePlace, AreJobs, JobsAreKept}
 use Rattle.rb_jobs.proofs.Lists.{among_some, among_at, among_cases, among_removed, among_right, any_among, among_found, find_only, once_removed, once_some, taken_gone}
@@ -223,7 +223,7 @@ module _ (policy : Policy) (opening : Opening) where
         place = λ id. waits;
         real = λ origin last is. found_among origin last is;
         begun = λ element among. (
-          jobs.begun element (stands element among),
+          jobs.given_out element (stands element among),
           (below_start opening).below element.id (ap is_some (stands element among)),
         );
         ranked = λ element among. (element, only element among, omega arith);
@@ -579,17 +579,17 @@ jobs_are_kept policy opening history hands jobs legal are = record {
   placed = λ front behind split held are_held one other here there at_one at_other same.
       placed policy opening front held (keeps_all policy opening jobs front (legal_to front behind split) held are_held) one other here
       there at_one at_other same;
-  last = record {
+  latest = record {
     some = λ element among.
         let (last, is, least) = apart.ranked element among in
         let (there, origin) = apart.real element.origin last is in
-        (last, record { among = there; last = λ has. no_next element last is origin has }, origin);
+        (last, record { among = there; unfollowed = λ has. no_next element last is origin has }, origin);
     one = λ one other first second same. same_last one other first second same;
   };
   left = record {
     one_each = λ one other at_one at_other same.
         (placed policy opening history hands apart one other waits waits at_one at_other same).0;
-    begun = λ element there. (apart.begun element (apart.waiting element there).0).0;
+    given_out = λ element there. (apart.begun element (apart.waiting element there).0).0;
   };
 }
   where
@@ -605,16 +605,16 @@ jobs_are_kept policy opening history hands jobs legal are = record {
         same_Some latest last (sym is_latest ∙ ap apart.latest (has.origin ∙ origin) ∙ is) in
         absurd (omega (arith, few, has.attempt, ap (λ (e : Element). e.attempt) same))
 
-    same_last : (one other : Element) → IsLastAttempt (came_in opening history) one
-        → IsLastAttempt (came_in opening history) other → one.origin ≡ other.origin → one ≡ other
+    same_last : (one other : Element) → IsLatestAttempt (came_in opening history) one
+        → IsLatestAttempt (came_in opening history) other → one.origin ≡ other.origin → one ≡ other
     same_last one other first second same =
         both (apart.followed one first.among) (apart.followed other second.among)
       where
         both : (apart.latest one.origin ≡ Some one) ⊎ HasNext (came_in opening history) one
             → (apart.latest other.origin ≡ Some other) ⊎ HasNext (came_in opening history) other → one ≡ other
         both (inl here) (inl there) = same_Some one other (sym here ∙ ap apart.latest same ∙ there)
-        both (inl here) (inr next) = absurd (second.last next)
-        both (inr next) either = absurd (first.last next)
+        both (inl here) (inr next) = absurd (second.unfollowed next)
+        both (inr next) either = absurd (first.unfollowed next)
 
     legal_to : (front behind : List Event) → history ≡ front ++ behind → IsLegal opening front
     legal_to front behind split = legal_front (start_of opening) front behind (subst (IsLegal opening) split legal)

@@ -19,7 +19,7 @@ use Rattle.rb_serving.specs.ServerEvents.{GrowsByVisits, IsOfSessions}
 use Rattle.rb_serving.specs.Terms.{Terms}
 use Rattle.rb_serving.proofs.GatheredNames.{of_history}
 use Rattle.rb_serving.proofs.ServerEvents.{gathers_sessions}
-use Rattle.rb_jobs.specs.JobCounts.{JobCounts, ScriptAccounts, ServerAccounts, jobs_of, jobs_of_visits, jobs_of_workers}
+use Rattle.rb_jobs.specs.JobSums.{JobSums, ScriptAccounts, ServerAccounts, jobs_of, jobs_of_visits, jobs_of_workers}
 use Rattle.rb_jobs.proofs.Accounts.{Balance, accounts, gifts_in, gifts_of, named_in, named_of, offers_in, offers_of, run_told}
 use Rattle.rb_jobs.proofs.KeptHands.{legal_script}
 
@@ -37,7 +37,7 @@ script_accounts sends got policy calls delivery rest opening served to ran =
 
 module _ (amount : ℕ → ℕ) (policy : Policy) where
   -- what visits add to the balance
-  record Adds (old new : List Made) (jobs : JobCounts) : Type 0 where
+  record Adds (old new : List Made) (jobs : JobSums) : Type 0 where
     even : gifts_in amount new + offers_in amount old + jobs.begun
         ≡ offers_in amount new + gifts_in amount old + jobs.done + jobs.dead + jobs.lost
     few : jobs.begun + named_in amount old ≤ named_in amount new
@@ -157,7 +157,7 @@ module _ (f : Made → ℕ) where
       )
 
 -- the balance of these names' events
-abbrev NamesBalance : (ℕ → ℕ) → List ℕ → List Made → JobCounts → Type 0
+abbrev NamesBalance : (ℕ → ℕ) → List ℕ → List Made → JobSums → Type 0
 NamesBalance amount names mades jobs =
     Balance (names_sum (gifts_of amount) names mades) (names_sum (offers_of amount) names mades)
     (names_sum (named_of amount) names mades) jobs

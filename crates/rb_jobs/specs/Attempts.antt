@@ -17,14 +17,14 @@ pub record HasNext (came : List Element) (element : Element) : Type 0 where
   pub origin : next.origin ≡ element.origin
   pub attempt : next.attempt ≡ element.attempt + 1
 
--- the element is the last attempt of its job
-pub record IsLastAttempt (came : List Element) (element : Element) : Type 0 where
+-- the element is the latest attempt of its job
+pub record IsLatestAttempt (came : List Element) (element : Element) : Type 0 where
   pub among : IsAmong element came
-  pub last : ¬ HasNext came element
+  pub unfollowed : ¬ HasNext came element
 
--- Each job has one last attempt, so what becomes of last attempts becomes of jobs.
-pub record HaveOneLast (came : List Element) : Type 0 where
+-- Each job has one latest attempt, so what becomes of latest attempts becomes of jobs.
+pub record HaveOneLatest (came : List Element) : Type 0 where
   pub some : (element : Element) → IsAmong element came
-      → (last : Element) × IsLastAttempt came last × (last.origin ≡ element.origin)
-  pub one : (one other : Element) → IsLastAttempt came one → IsLastAttempt came other → one.origin ≡ other.origin
+      → (latest : Element) × IsLatestAttempt came latest × (latest.origin ≡ element.origin)
+  pub one : (one other : Element) → IsLatestAttempt came one → IsLatestAttempt came other → one.origin ≡ other.origin
       → one ≡ other

@@ -8,5 +8,5 @@ pub mod Places
 pub mod SessionHands
 pub mod RunJobs
 pub mod QueueSums
-pub mod JobCounts
+pub mod JobSums
 pub mod Continued

@@ -9,7 +9,7 @@ use Rattle.rb_queue.specs.declared.opening.Opening.{Opening}
 use Rattle.rb_retry.specs.declared.policy.Policy.{Policy}
 use Rattle.rb_replay.specs.Chaining.{IsChained}
 use Rattle.rb_jobs.specs.Among.{IsAmong}
-use Rattle.rb_jobs.specs.Attempts.{HaveOneLast, came_in}
+use Rattle.rb_jobs.specs.Attempts.{HaveOneLatest, came_in}
 use Rattle.rb_jobs.specs.Hands.{AreHands}
 
 -- where an element may be
@@ -34,16 +34,16 @@ AreInOnePlace queue hands =
 pub record AreJobs (queue : Queue) : Type 0 where
   pub one_each : (one other : Element) → map.get queue.bag one.id ≡ Some one → map.get queue.bag other.id ≡ Some other
       → one.origin ≡ other.origin → one ≡ other
-  pub begun : (element : Element) → map.get queue.bag element.id ≡ Some element → element.origin < queue.next_id
+  pub given_out : (element : Element) → map.get queue.bag element.id ≡ Some element → element.origin < queue.next_id
 
 -- What is true of jobs in a history: each offer begins a job or is the next attempt that the policy gives one; at each
--- moment no job is in two places, whatever the seats may hold then; each job has one last attempt; and what is left is
+-- moment no job is in two places, whatever the seats may hold then; each job has one latest attempt; and what is left is
 -- such a beginning again.
 pub record KeepsJobs (policy : Policy) (opening : Opening) (history : List Event) : Type 0 where
   pub chained : IsChained policy opening history
   pub placed : (front behind : List Event) → history ≡ front ++ behind → (hands : ℕ → List Element)
       → AreHands policy opening front hands → AreInOnePlace (state_of opening front).queue hands
-  pub last : HaveOneLast (came_in opening history)
+  pub latest : HaveOneLatest (came_in opening history)
   pub left : AreJobs (state_of opening history).queue
 
 -- The law of jobs: a legal history keeps them if it begins with jobs of one element each, and if each seat holds what it

@@ -55,5 +55,5 @@ module _ {I O G C : Type 0} (terms : Terms I O G C) where
   -- the law of servers
   abbrev pub ServerKeepsJobs : Type 0 → Type 0
   ServerKeepsJobs T =
-      (begun : Opening) (options : ServerRunOptions) (report : ServeReport T) → AreJobs (start_of begun).queue
-      → IsServersRun terms begun options report → RunKeepsJobs terms.rules.policy begun report.kept.history
+      (opening : Opening) (options : ServerRunOptions) (report : ServeReport T) → AreJobs (start_of opening).queue
+      → IsServersRun terms opening options report → RunKeepsJobs terms.rules.policy opening report.kept.history

@@ -1,6 +1,6 @@
 ghost use Rattle.rb_jobs.specs.Places.{JobsAreKept};
 ghost use Rattle.rb_jobs.specs.Continued.{JobsAreAccepted, JobsGoOn, NoneAreJobs};
-ghost use Rattle.rb_jobs.specs.JobCounts.{ScriptAccounts, ServerAccounts};
+ghost use Rattle.rb_jobs.specs.JobSums.{ScriptAccounts, ServerAccounts};
 ghost use Rattle.rb_jobs.specs.RunJobs.{LinesKeepJobs, ScriptKeepsJobs, ServerKeepsJobs};
 ghost use Rattle.rb_jobs.specs.SessionHands.{HandlesLines, HandlesClosing, HandlesRun};
 ghost use Rattle.rb_retry.specs.declared.policy.Policy.{Policy};

@@ -26,18 +26,18 @@ use Rattle.rb_serving.specs.declared.serve_report.ServeReport.{ServeReport}
 use Rattle.rb_jobs.specs.Places.{AreJobs}
 use Rattle.rb_jobs.specs.QueueSums.{origins_sum, waiting_sum, removed_sum, cleared_sum}
 
--- What became of jobs in sessions: those that were begun, and those that ended as done, as dead after their last attempt,
--- and as lost at a session's end. Each counts with an amount of its own; with 1 for each, this is how many they are.
-pub record JobCounts : Type 0 where
+-- What became of jobs in sessions: those that were begun, and those that ended as done, as dead, and as lost at a session's
+-- end. Each counts with an amount of its own; with 1 for each, this is how many they are.
+pub record JobSums : Type 0 where
   pub begun : ℕ
   pub done : ℕ
   pub dead : ℕ
   pub lost : ℕ
 
-abbrev pub no_jobs : JobCounts
+abbrev pub no_jobs : JobSums
 no_jobs = record { begun = 0; done = 0; dead = 0; lost = 0 }
 
-abbrev pub both_jobs : JobCounts → JobCounts → JobCounts
+abbrev pub both_jobs : JobSums → JobSums → JobSums
 both_jobs one other = record {
   begun = one.begun + other.begun;
   done = one.done + other.done;
@@ -57,7 +57,7 @@ begun_in (turn ∷ turns) = begun_by turn.replies ++ begun_in turns
 
 -- those of a session: the jobs of the elements that its replies name, and of those that it still held at its end
 abbrev pub jobs_of : (ℕ → ℕ) → {policy : Policy} {Over : Type 0} {served : Served} {Grows : List Made → Type 0}
-    → MadeByRun policy Over served Grows → JobCounts
+    → MadeByRun policy Over served Grows → JobSums
 jobs_of amount {policy = policy} run = record {
   begun = sum_by amount (begun_in run.lines);
   done = origins_sum amount run.of_lines.done;
@@ -72,7 +72,7 @@ only origin other = if other == origin then 1 else 0
 -- Jobs in are jobs out: those that were there and those that were begun are done, dead, lost, removed, cleared, or left.
 -- They are so many; and they are the same ones, each as often, since the sums agree however much each job counts. That
 -- is once at most, if each job was there with one element.
-pub record IsAccount (opening : Opening) (history : List Event) (jobs : (ℕ → ℕ) → JobCounts) : Type 0 where
+pub record IsAccount (opening : Opening) (history : List Event) (jobs : (ℕ → ℕ) → JobSums) : Type 0 where
   pub numbers : length opening.elements + (jobs (λ origin. 1)).begun
       ≡ (jobs (λ origin. 1)).done + (jobs (λ origin. 1)).dead + (jobs (λ origin. 1)).lost
       + removed_count history + cleared_count opening history + left_count opening history
@@ -94,28 +94,28 @@ ScriptAccounts sends =
 
 -- those of a worker's visits, by which its calls grew from these to those
 abbrev pub jobs_of_visits : (ℕ → ℕ) → (policy : Policy) (before : List Made) (visits : List (Option Served)) (after : List Made)
-    → GrowsByVisits policy before visits after → JobCounts
+    → GrowsByVisits policy before visits after → JobSums
 jobs_of_visits amount policy before [] after same = no_jobs
 jobs_of_visits amount policy before (None ∷ visits) after grows = jobs_of_visits amount policy before visits after grows
 jobs_of_visits amount policy before (Some served ∷ visits) after (between, (rest, run), grows) =
     both_jobs (jobs_of amount run) (jobs_of_visits amount policy between visits after grows)
 
 -- those of all workers, whose events in the history are those of their visits
-abbrev pub jobs_of_workers : (ℕ → ℕ) → (policy : Policy) (begun : Opening) (history : List Event) (names : List ℕ)
+abbrev pub jobs_of_workers : (ℕ → ℕ) → (policy : Policy) (opening : Opening) (history : List Event) (names : List ℕ)
     (visits : List (List (Option Served)))
-    → AllZip (λ (name : ℕ) (own : List (Option Served)). GrowsByVisits policy [] own (made_by name begun history)) names visits
-    → JobCounts
-jobs_of_workers amount policy begun history (name ∷ names) (own ∷ visits) (grows, others) =
-    both_jobs (jobs_of_visits amount policy [] own (made_by name begun history) grows)
-    (jobs_of_workers amount policy begun history names visits others)
-jobs_of_workers amount policy begun history _ _ all = no_jobs
+    → AllZip (λ (name : ℕ) (own : List (Option Served)). GrowsByVisits policy [] own (made_by name opening history)) names visits
+    → JobSums
+jobs_of_workers amount policy opening history (name ∷ names) (own ∷ visits) (grows, others) =
+    both_jobs (jobs_of_visits amount policy [] own (made_by name opening history) grows)
+    (jobs_of_workers amount policy opening history names visits others)
+jobs_of_workers amount policy opening history _ _ all = no_jobs
 
 module _ {I O G C : Type 0} (terms : Terms I O G C) where
   -- the law of servers, over all their sessions, of whose events the history is made
   abbrev pub ServerAccounts : Type 0 → Type 0
   ServerAccounts T =
-      (begun : Opening) (options : ServerRunOptions) (report : ServeReport T)
-      → (run : IsServersRun terms begun options report)
-      → (sessions : IsOfSessions terms.rules.policy begun report.kept.history run.visits)
-      × IsAccount begun report.kept.history (λ amount.
-      jobs_of_workers amount terms.rules.policy begun report.kept.history sessions.names run.visits sessions.workers)
+      (opening : Opening) (options : ServerRunOptions) (report : ServeReport T)
+      → (run : IsServersRun terms opening options report)
+      → (sessions : IsOfSessions terms.rules.policy opening report.kept.history run.visits)
+      × IsAccount opening report.kept.history (λ amount.
+      jobs_of_workers amount terms.rules.policy opening report.kept.history sessions.names run.visits sessions.workers)
