@@ -128,6 +128,11 @@ class History:
         """The moment that was handed in."""
         return int(self._words(event)[1])
 
+    def began(self, event: int) -> int:
+        """The moment at which a wait began, or for another act the one that was handed in."""
+        _, asked, _, act = self._words(event)
+        return int(act.split(" ")[1] if act.startswith("pollfor ") else asked)
+
     def told(self, event: int) -> str:
         """How messages name an event."""
         shard = "" if self._shard is None else f"shard {self._shard} "

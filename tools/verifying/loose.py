@@ -48,12 +48,13 @@ class Times:
         return min(least, most), max(least, most)
 
     def is_right(self, call: int, event: int) -> bool:
-        """Whether a call may have been asked at the moment of an event."""
+        """Whether a call may have been asked at the moment of an event, and have begun to wait when that did."""
         clocks = self._clocks[self._calls.history.file_of(event)]
         if clocks is None:
             return True
-        asked, (least, most) = self._calls.history.asked(event), clocks
-        return self._calls.sent[call] - most - SLACK <= asked <= self._calls.received[call] - least + SLACK
+        history, (least, most) = self._calls.history, clocks
+        return (self._calls.sent[call] - most - SLACK <= history.began(event)
+                and history.asked(event) <= self._calls.received[call] - least + SLACK)
 
     def events_of(self, call: int) -> range:
         """The events at which a call is in order with those that are known."""
@@ -164,13 +165,14 @@ class Arrangement:
 def place_loose(calls: Calls, sessions: List[Session]) -> None:
     """Places these sessions. Those that fit nowhere in the order of real time are placed out of it.
 
-    Those that were answered first choose first, and take the first events. Of sessions of one call each, that are
-    alike, this leaves a place for each if there is one, so few have to be moved.
+    Those of most calls choose first, since they fit at the fewest places, and of those that are alike the ones that
+    were answered first, which take the first events. Of sessions of one call each this leaves a place for each if there
+    is one, so few have to be moved.
     """
     if not sessions:
         return
     arrangement = Arrangement(calls)
-    left = sorted(sessions, key=lambda it: calls.received[it.calls[-1]])
+    left = sorted(sessions, key=lambda it: (-len(it.calls), calls.received[it.calls[-1]]))
     for keeps_time in (True, False):
         left = [it for it in left if not arrangement.add(it, keeps_time)]
     for session, first in arrangement.firsts.items():

@@ -1,10 +1,11 @@
-"""A simulated run: a queue, clients at several seats, and what each of them would have recorded.
+"""Simulated runs: a queue, clients at several seats, and what each of them would have recorded.
 
 Each call takes effect at one moment, between the moments at which its request was sent and its reply had come. So the
 history keeps the order of real time by the way in which it is made.
 """
 import heapq
 import random
+from collections.abc import Sequence
 from typing import Optional
 
 from histories.history import Element
@@ -180,3 +181,46 @@ class Simulation:
             ("nonsense \u00e9", "ERR 1 syntax"),
         ])
         client.note(self._at, request, reply)
+
+
+class Idle:
+    """Workers that find no job in waits of a second, in sessions of so many waits, beside a client that offers a job
+    now and then. Of some a wait is in no record, since they are killed when it is over."""
+
+    WAIT, LASTS, DEADLY = 1_000_000_000, 45_000_000_000, 0.05
+
+    def __init__(self, seed: int, workers: int, lengths: Sequence[int], offers: int) -> None:
+        random.seed(seed)
+        self.lines: list[Line] = []
+        self._events: list[tuple[int, int, str]] = []  # with moment and seat
+        self._seats = [(0, it) for it in range(16)]  # with the moment at which each is free
+        self._come = [(random.randrange(self.WAIT // 50), it) for it in range(workers)]  # when, and how often before
+        while self._come:
+            self._work(*heapq.heappop(self._come), random.choice(lengths))
+        for id in range(offers):
+            at = self.WAIT // 7 + id * self.LASTS // offers
+            self._events.append((at, 17, f"offer {id} {at} {id} {at} 1 x"))
+            self._note("giver", at - 80_000, at + 90_000, "OFFER 0 x", f"OFFERED {id} {at}")
+        self.events = [f"{seat} {at} {at} {act}" for at, seat, act in sorted(self._events)]
+
+    def _note(self, session: str, sent: int, received: int, request: str, reply: str) -> None:
+        times = {"sent": sent + BEHIND, "received": received + BEHIND}
+        self.lines.append({"session": session, **times, "request": request, "reply": [reply]})
+
+    def _work(self, at: int, number: int, count: int) -> None:
+        """A session whose worker takes it now. Its first request may have been sent long before."""
+        (_, seat), sent = heapq.heappop(self._seats), max(at - random.randrange(self.WAIT // 3), 0)
+        pause = self.WAIT // 100  # until it comes back, which takes longer if it was killed
+        while at + self.WAIT < self.LASTS and count > 0:
+            began, at, count = at, at + self.WAIT, count - 1
+            self._events.append((at, seat, f"pollfor {began} {self.WAIT} none"))
+            if random.random() < self.DEADLY:
+                pause = self.WAIT // 2
+                break
+            received = at + random.randrange(5_000_000)
+            self._note(f"{number}", sent, received, f"POLLFOR {self.WAIT}", "NONE")
+            sent = received + random.randrange(200_000)
+            at = sent + random.randrange(300_000)
+        heapq.heappush(self._seats, (at, seat))
+        if at + self.WAIT < self.LASTS:
+            heapq.heappush(self._come, (at + random.randrange(pause), number + 100))

@@ -5,7 +5,7 @@ from typing import Sequence
 
 from common.program import tested_program
 from histories.tests.support import text_of
-from verifying.tests.simulated import ATTEMPTS, DELAY, Simulation
+from verifying.tests.simulated import ATTEMPTS, DELAY, Idle, Simulation
 from verifying.tests.support import Line, RunTest, history_of
 
 SEEDS = [*range(20), *range(5000, 5040)]
@@ -33,7 +33,7 @@ class SimulatedTest(RunTest):
         """The faults of a run that was changed, by kind and in words."""
         return self.judged([history_of(text_of(*run.events))], run.lines)
 
-    def expect_none(self, run: Simulation, is_whole: bool = True) -> None:
+    def expect_none(self, run: Simulation | Idle, is_whole: bool = True) -> None:
         """Expects no fault."""
         self.assertEqual(self.judged([history_of(text_of(*run.events))], run.lines, is_whole), ({}, []))
 
@@ -63,6 +63,13 @@ class SimulatedTest(RunTest):
                     run = self.simulated(seed, longest)
                     self.expect_none(run)
                     self.expect_none_of_some_clients(run)
+
+    def test_workers_without_jobs(self) -> None:
+        """Their sessions are alike, go on at the same time, and each kill leaves an event of no record at its seat."""
+        for lengths in ((3,), (3, 30)):
+            for seed in range(3, 7):
+                with self.subTest(seed=seed, lengths=lengths):
+                    self.expect_none(Idle(seed, 6, lengths, 3), is_whole=False)
 
     def test_a_call_left_out_among_sessions_of_one_request(self) -> None:
         """One session is left without a place, whichever it is. Others may then have only places out of order."""
