@@ -8,7 +8,7 @@
     deciding.py                              how a service begins, when a run ends, and which old ones are dropped
     keeper.py, keeping.py                    the process that holds a server and its history, and how it is found
     server.py, cutting.py                    a server, and how its sessions are cut
-    visits.py                                how its sessions are used up, and its clients come to leave soon
+    visits.py, crowd.py                      how its sessions are used up, and its clients come to leave soon
     looking.py, sockets.py, session.py       what is seen of a server
     signals.py, saying.py                    how others ask for the end, and what they are told
     showing.py       what the service shows of itself

@@ -7,7 +7,8 @@ from typing import Callable
 
 from reporting.units import SECOND
 from servicing.clock import elapsed, read_clock
-from servicing.deciding import Seen, is_to_prepare, why_to_end
+from servicing.crowd import Crowd
+from servicing.deciding import Seen, crowd_of, is_to_crowd, is_to_prepare, sessions_to_use_up, why_to_end
 from servicing.looking import Looks, silent_ports
 from servicing.parts import LeftBehind, Parts
 from servicing.saying import notify, say
@@ -15,10 +16,9 @@ from servicing.server import Server
 from servicing.shown import span_of
 from servicing.sockets import Unwatchable
 from servicing.state import Phase, Reason, Run
-from servicing.visits import Crowd, STAYS, Visits
+from servicing.visits import Visits
 
 LOOK, LAST_LOOK = 1.0, 0.1  # seconds between two looks, and while the run ends
-RESERVE = 200  # sessions that are left to clients before a run ends
 BEGINNING = 5.0  # seconds of a run in which clients that outnumbered the workers of the one before come back
 TELL, CUT = 10.0, 1.0  # seconds after which it is said again who is waited for, and after which is cut again
 MOST_NAMED = 5
@@ -35,9 +35,11 @@ class Current:
         self.record, self.server, self._first_aside = replace(record, server=server.pid), server, first_aside
         self.looks = Looks(self._settings.port, record, self._settings.workers, self._settings.sessions)
         self._visits: Visits | None = None  # which use up most sessions in the last part of the run
-        self._crowd: Crowd | None = None  # so that clients come to leave soon
-        self.is_crowded: bool = False  # whether clients outnumbered the workers when its end began
+        self.is_crowded: bool = False  # whether clients outnumbered the workers at its end
         self._was_crowded = before is not None and before.is_crowded
+        # So that clients come to leave soon. That of the run before has its workers before the first client can.
+        self.crowd: Crowd | None = before.crowd if before is not None else None
+        self._crowded = -self.crowd.count if self.crowd else 0  # the sessions of crowds that have left
         self.why = Reason.UNKNOWN  # it ends
         self.closed = 0.0  # since when new clients are served no longer, by the monotonic clock
         self._cut_at, self._why_not = 0.0, ""
@@ -64,20 +66,22 @@ class Current:
                 self._end()
         finally:
             self.looks.own.drop()
-            self._leave()  # not before: whoever comes while the last sessions are used up has to wait, too
+            if not self.is_crowded or self._signals.count:
+                self._leave()  # not before: whoever comes while the last sessions are used up has to wait, too
 
     def _watched(self) -> Reason | None:
         """Watches the server until its run has to end, and returns why. None if it has ended by itself."""
-        self._keep_busy()  # before the first look: clients come at once
+        self._let_wait(self._seen())  # before the first look: clients come at once
         try:
             while not self.server.has_ended:
                 self._see(self.looks.look)
                 self._see_beginning()
-                why = self._why_to_end()
+                seen = self._seen()
+                why = Reason.ASKED if self._signals.count else why_to_end(seen)
                 if why is not None:
                     return why
-                self._prepare_end()
-                self._keep_busy()
+                self._prepare_end(seen)
+                self._let_wait(seen)
                 self._cut_silent()
                 if self._parts.keeping.is_renewed(self.server):
                     say("warning", "keeper", run=self.server.run,
@@ -108,42 +112,41 @@ class Current:
         """The seconds since it began, whatever the machine's date is set to."""
         return elapsed(self.record.began, read_clock()) / SECOND
 
-    def _why_to_end(self) -> Reason | None:
-        if self._signals.count:
-            return Reason.ASKED
+    def _seen(self) -> Seen:
         settings, looks = self._settings, self.looks
-        return why_to_end(Seen(
+        return Seen(
             age=self._age, every=settings.every / SECOND, ending=settings.stop_within / SECOND, calls=looks.calls,
-            sessions=looks.sessions, is_full=looks.own.is_full, unanswered=looks.unanswered,
-            free_workers=looks.free_workers, waiting=looks.waiting_long,
+            sessions=looks.sessions, is_full=looks.own.is_full, idle=looks.idle, unanswered=looks.unanswered,
+            workers=settings.workers, clients=looks.count, waiting=looks.waiting_long,
             elements=looks.queue.elements if looks.queue else None, moment=looks.moment, aside=self.record.aside,
             first_aside=self._first_aside, leaving=looks.leaving,
-            is_prepared=self._visits is not None and self._visits.are_made))
+            is_prepared=self._visits is not None and self._visits.are_made)
 
-    def _prepare_end(self) -> None:
+    def _prepare_end(self, seen: Seen) -> None:
         """In the last part of a run, uses up most of its sessions, so that its end takes no time."""
-        every, looks = self._settings.every / SECOND, self.looks
-        if self._visits is None and is_to_prepare(self._age, every):
-            crowded = max(looks.free_workers, 1) / STAYS * (every - self._age)  # sessions that the crowd takes
-            most = max(looks.sessions.limit - looks.sessions.used - RESERVE - int(crowded), 0)
-            self._visits = Visits(self._settings.port, most, self._parts.keeping.make_room())
+        if self._visits is None and is_to_prepare(seen):
+            room = self._parts.keeping.make_room()
+            self._visits = Visits(self._settings.port, sessions_to_use_up(seen), room)
 
-    def _keep_busy(self) -> None:
-        """Lets clients come to leave soon: in the last part of a run, so that its end takes no time, and in the first
-        seconds if they outnumber the workers, so that those who come first do not keep the others waiting."""
-        is_beginning = self._was_crowded and self._age < BEGINNING
-        if self._crowd is None and (is_beginning or self._visits is not None):
-            self._crowd = Crowd(self._settings.port)
-            self.looks.crowd = self._crowd.ports
-        elif self._visits is None and not is_beginning:
+    def _let_wait(self, seen: Seen) -> None:
+        """Lets clients wait for a moment, so that they come to leave soon: before the end of a run, so that it takes no
+        time, and in the first seconds if they outnumber the workers, so that those who come first do not keep the
+        others waiting."""
+        is_beginning = self._was_crowded and seen.age < BEGINNING
+        if not (is_beginning or is_to_crowd(seen)):
             self._leave()
-        if self._crowd is not None:
-            self._crowd.free = self.looks.free_workers
+        elif self.crowd is None:
+            self.crowd = Crowd(self._settings.port, crowd_of(seen))
+        else:
+            self.crowd.size = crowd_of(seen)
+        crowded = self._crowded + (self.crowd.count if self.crowd else 0)
+        self.looks.count_unseen(crowded, self._visits.count if self._visits else 0)
 
     def _leave(self) -> None:
-        if self._crowd is not None:
-            self._crowd.stop()
-            self._crowd, self.looks.crowd = None, set()
+        if self.crowd is not None:
+            self.crowd.stop()
+            self._crowded += self.crowd.count
+            self.crowd = None
 
     def _cut_silent(self) -> None:
         silent = self._settings.silent
@@ -160,11 +163,11 @@ class Current:
         """
         visits, told = Visits(self._settings.port, room=self._parts.keeping.make_room()), self._end_began
         within = self._settings.stop_within / SECOND
-        self.is_crowded = self.looks.waiting_long > self.looks.free_workers
         try:
             while not self.server.has_ended:
                 now = time.monotonic()
                 self._see(self.looks.see)
+                self.is_crowded |= self.looks.count > self._settings.workers
                 if not self.looks.ports:
                     self.looks.own.last_call()
                 seconds = time.monotonic() - self._end_began  # by now: a look may take long on a busy machine

@@ -13,7 +13,10 @@ import socket
 import struct
 from typing import Collection, Iterator
 
-ROOM = 512  # connections that may wait for a worker. With more of them a look takes too long
+from servicing.sockets import HOST
+
+ROOM = 4096  # connections that may wait for a worker, unless the system allows fewer
+ALLOWED = struct.Struct("28xI")  # how many a system lets wait, where TCP_INFO tells of a door
 PIDFD_GETFD = 438  # the number of the call, the same on all machines but Alpha
 RESETS = struct.pack("ii", 1, 0)
 
@@ -25,8 +28,8 @@ def cut_sessions(pid: int, ports: Collection[int], again: Collection[int] = ()) 
     try:
         for it in _sockets_of(pid):
             with it, contextlib.suppress(OSError):  # a socket that listens has no other end
-                port = it.getpeername()[1]
-                if port in ports:
+                address, port = it.getpeername()
+                if address == HOST and port in ports:
                     it.setsockopt(socket.SOL_SOCKET, socket.SO_LINGER, RESETS)
                     it.shutdown(socket.SHUT_RDWR if port in again else socket.SHUT_RD)
                     done.add(port)
@@ -42,7 +45,7 @@ def make_room(pid: int) -> int:
             with it:
                 if it.getsockopt(socket.SOL_SOCKET, socket.SO_ACCEPTCONN):
                     it.listen(ROOM)
-                    return ROOM
+                    return int(ALLOWED.unpack(it.getsockopt(socket.IPPROTO_TCP, socket.TCP_INFO, ALLOWED.size))[0])
     return 0
 
 

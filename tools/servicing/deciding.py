@@ -1,6 +1,7 @@
 """What the service decides by what it knows, without looking at anything itself."""
 from __future__ import annotations
 
+import math
 from dataclasses import dataclass
 from enum import Enum
 from typing import Sequence
@@ -16,6 +17,9 @@ YOUNG = 60.0  # seconds that a run lasts before elements that were set aside end
 SOON = 30_000_000_000  # nanoseconds
 SHORTLY = 2.0  # seconds
 LAST_PART = 60.0  # seconds of a run in which a good moment for its end is taken
+RESERVE = 400  # sessions that are left to clients in it
+LAST_SESSIONS = 40.0  # seconds before an end in which clients come to leave soon: else they stay for half a minute
+MOMENT = 0.25  # seconds that a client waits for a worker then; at 0.1 it takes it that others wait, too
 
 
 class Start(Enum):
@@ -54,9 +58,11 @@ class Seen:
     calls: Supply
     sessions: Supply
     is_full: bool
-    unanswered: float  # seconds that the service's own session waits for a worker, though one is free
-    free_workers: int
-    waiting: int  # clients
+    idle: float  # seconds in which a worker was free and took nobody
+    unanswered: float  # seconds that the service's own session waits for a worker, though one is idle
+    workers: int
+    clients: int
+    waiting: int  # clients for more than a moment
     elements: int | None
     moment: int | None
     aside: int
@@ -67,25 +73,63 @@ class Seen:
 
 def why_to_end(seen: Seen) -> Reason | None:
     """Why the run has to end now, if it has to."""
-    if seen.is_full or _is_low(seen.calls, seen.ending):
+    if seen.is_full:
         return Reason.CALLS
-    if _is_low(seen.sessions, seen.ending):
-        return Reason.SESSIONS
-    if seen.unanswered > UNANSWERED and seen.free_workers > 0:
+    if seen.unanswered > UNANSWERED:
         return Reason.SESSIONS  # they are used up: a worker that is free takes nobody
-    if seen.age >= seen.every or (seen.is_prepared and (_is_quiet(seen.leaving) or _is_closed(seen))):
-        return Reason.TIME
+    left, why = left_until_end(seen)
+    if left <= 0 or (seen.is_prepared and (_is_quiet(seen.leaving) or _is_closed(seen))):
+        return why
     return Reason.ELEMENTS if _is_wanted_aside(seen) else None
 
 
-def is_to_prepare(age: float, every: float) -> bool:
-    """Whether a run's time is so nearly over that most sessions are used up, and a good moment for its end is taken."""
-    return age >= every - min(LAST_PART, every / 2)
+def left_until_end(seen: Seen) -> tuple[float, Reason]:
+    """In how many seconds the run has to end, as far as that can be told, and why."""
+    calls, sessions = (_until_low(it, seen.ending) for it in (seen.calls, seen.sessions))
+    ends = (calls, Reason.CALLS), (sessions, Reason.SESSIONS), (seen.every - seen.age, Reason.TIME)
+    return min(ends, key=lambda it: it[0])
+
+
+def is_to_prepare(seen: Seen) -> bool:
+    """Whether a run's end is so near that most sessions are used up, and a good moment for it is taken."""
+    left, _ = left_until_end(seen)
+    return left <= min(LAST_PART, (seen.age + left) / 2)
+
+
+def is_to_crowd(seen: Seen) -> bool:
+    """Whether a run's end is so near that a client which stays for half a minute would hold it up."""
+    left, _ = left_until_end(seen)
+    return left <= _crowd_lasts(seen)
+
+
+def crowd_of(seen: Seen) -> int:
+    """How many sessions of the service's own are to wait for a worker then, so that clients wait, too: if all clients
+    leave together as many of them have a worker at once, and as many as there are workers still wait."""
+    return seen.workers + min(seen.clients, seen.workers)
+
+
+def sessions_a_second(crowd: int) -> float:
+    """How many of so many leave in a second, so that who comes behind them waits for a moment."""
+    return crowd / MOMENT
+
+
+def sessions_to_use_up(seen: Seen) -> int:
+    """How many sessions are used up before a run's end: all but those that its clients and the crowd may need."""
+    left, _ = left_until_end(seen)
+    crowded = sessions_a_second(crowd_of(seen)) * min(left, _crowd_lasts(seen))
+    return max(int(seen.sessions.limit - seen.sessions.used - RESERVE - crowded), 0)
+
+
+def _crowd_lasts(seen: Seen) -> float:
+    """For how many seconds before a run's end there is a crowd, which uses at most half of the sessions."""
+    left, _ = left_until_end(seen)
+    half = seen.sessions.limit / 2 / sessions_a_second(crowd_of(seen))
+    return min(LAST_SESSIONS, 0.8 * (seen.age + left), half)
 
 
 def _is_closed(seen: Seen) -> bool:
-    """Whether a client waits though a worker is free: the few sessions that were left are used up."""
-    return seen.waiting > 0 and seen.free_workers > 0
+    """Whether a client waits though a worker is idle: the few sessions that were left are used up."""
+    return seen.waiting > 0 and seen.idle > SHORTLY
 
 
 def _is_quiet(leaving: float | None) -> bool:
@@ -93,10 +137,13 @@ def _is_quiet(leaving: float | None) -> bool:
     return leaving is not None and leaving <= SHORTLY
 
 
-def _is_low(supply: Supply, ending: float) -> bool:
-    """Whether little is left, or so little at this pace that it may be used up before the run has ended."""
-    share = supply.used / supply.limit
-    return share >= LOW or (share >= HALF and supply.lasts is not None and supply.lasts < 2 * ending)
+def _until_low(supply: Supply, ending: float) -> float:
+    """In how many seconds little is left, or so little at this pace that it may be used up before the run has ended."""
+    half, low = (max(share * supply.limit - supply.used, 0) for share in (HALF, LOW))
+    pace = supply.a_second
+    if not low or not pace or supply.lasts is None:
+        return math.inf if low else 0
+    return min(low / pace, max(half / pace, supply.lasts - 2 * ending))
 
 
 def _is_wanted_aside(seen: Seen) -> bool:

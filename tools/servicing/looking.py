@@ -64,7 +64,7 @@ def _doing(it: Connection, was_unread: bool) -> Doing:
 
 def has_given_up(it: Connection) -> bool:
     """Whether a client has left before it had a worker, and has sent nothing that will be carried out. The end of what
-    it sends is counted as a byte. The service itself leaves so, to use up the sessions of a run."""
+    it sends is counted as a byte."""
     return not it.is_served and it.has_hung_up and it.receive_queue <= 1
 
 
@@ -80,13 +80,14 @@ class Looks:
     def __init__(self, port: int, record: Run, workers: int, sessions: int) -> None:
         self._port, self._record, self._workers, self._limit = port, record, workers, sessions
         self.own = OwnSession(port)
-        self.crowd: set[int] = set()  # the ports of sessions that the service begins beside its own
+        self._crowded = self._unseen = 0  # sessions of a crowd, and with visits all that no look lists
         self._asked = 0.0
         self._unread: set[str] = set()  # the connections with a queue to the client at the last look
         self._seen: set[str] = set()  # the connections that were served at the last look
         self._used_sessions = self._used_calls = 0
         self._since: dict[str, float] = {}  # when each client that is served now was first seen so
-        self.last_begun = self._all_busy = 0.0  # when one was last, and when each worker had one
+        self.last_begun = 0.0  # when one was last
+        self._free_since: float | None = None  # when a worker was first free since all of them were busy
         self._lasted: deque[float] = deque(maxlen=MANY)  # seconds that others were served, until they left
         self._sessions, self._calls, self.offers, self.leaves = Pace(), Pace(), Pace(), Pace()
         self.clients: Clients | None = None
@@ -109,20 +110,28 @@ class Looks:
 
     def see(self, sockets: Sockets | None = None) -> None:
         """Takes what the system tells of the connections. Raises an `Unwatchable`."""
-        sockets, crowd = sockets or look_at(self._port), {*self.crowd}
-        own = {self.own.own_port, *crowd}
-        served = {it.key for it in sockets.connections if it.is_served and it.port not in crowd}
+        sockets, own = sockets or look_at(self._port), self.own.own_port
+        served = {it.key for it in sockets.connections if it.is_served}
         self._used_sessions += len(served - self._seen)
         self._seen = served
-        self._time_sessions({it.key for it in sockets.connections if it.is_served and it.port not in own})
-        self.connections = [it for it in sockets.connections if it.port not in own]
+        self.connections = [it for it in sockets.connections if it.port != own]
+        self._time_sessions({it.key for it in self.connections if it.is_served})
         clients = [client_of(it, it.key in self._unread) for it in self.connections if not has_given_up(it)]
         self._unread = {it.key for it in sockets.connections if it.send_queue}
         clients.sort(key=lambda it: (ORDER.index(it.doing), -(it.seconds or 0)))
         self.clients = Clients(tuple(clients), self._workers, SILENT_FROM)
         self._sessions.add(time.monotonic(), self._used_sessions)
-        if self.free_workers <= 0:
-            self._all_busy = time.monotonic()
+        if self._workers <= sum(it.is_served for it in sockets.connections):
+            self._free_since = None
+        elif self._free_since is None:
+            self._free_since = time.monotonic()
+
+    def count_unseen(self, crowd: int, visits: int) -> None:
+        """So many sessions of the service's own were begun that no look lists. There are more of them than before only
+        if workers have taken some."""
+        if crowd + visits > self._unseen:
+            self._free_since = None
+        self._crowded, self._unseen = crowd, crowd + visits
 
     def _time_sessions(self, served: set[str]) -> None:
         now = time.monotonic()
@@ -157,7 +166,7 @@ class Looks:
 
     @property
     def sessions(self) -> Supply:
-        return Supply(self._used_sessions, True, self._limit, self._sessions.a_second)
+        return Supply(self._used_sessions + self._crowded, True, self._limit, self._sessions.a_second)
 
     @property
     def calls(self) -> Supply:
@@ -176,17 +185,23 @@ class Looks:
                    for it in self.connections)
 
     @property
+    def count(self) -> int:
+        """How many clients there are."""
+        return len(self.clients.all) if self.clients else 0
+
+    @property
     def served(self) -> int:
         return self.clients.served if self.clients else 0
 
     @property
-    def free_workers(self) -> int:
-        return self._workers - self.served
+    def idle(self) -> float:
+        """For how many seconds a worker was free at each look, and took nobody between two."""
+        return 0.0 if self._free_since is None else time.monotonic() - self._free_since
 
     @property
     def unanswered(self) -> float:
-        """For how many seconds the service's own session waits, though a worker was free at each look."""
-        return min(self.own.waits, time.monotonic() - self._all_busy)
+        """For how many seconds the service's own session waits, though a worker is idle."""
+        return min(self.own.waits, self.idle)
 
     @property
     def ports(self) -> list[int]:

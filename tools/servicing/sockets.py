@@ -1,11 +1,17 @@
-"""The connections of a port, as `ss` of iproute2 lists them. That uses no session of the server, and no call."""
+"""The connections of a port, as `ss` of iproute2 lists them. That uses no session of the server, and no call.
+
+Those by which the service uses up sessions come from another address of this machine, and are left out: there may be
+thousands at a time.
+"""
 from __future__ import annotations
 
 import re
+import socket
 import subprocess
 from dataclasses import dataclass
 
-HOST = "127.0.0.1"
+HOST, OWN = "127.0.0.1", "127.0.0.2"  # of the server, and of the service's own connections
+ADDRESS_ALONE = 24  # IP_BIND_ADDRESS_NO_PORT, by which a port is chosen no earlier than it is known where it leads
 PATIENCE = 10  # seconds that the command may take
 
 _FIELD = re.compile(r"\b(ino|sk|lastrcv|lastsnd|data_segs_in|data_segs_out):([0-9a-f]+)")
@@ -52,9 +58,25 @@ class Sockets:
     connections: list[Connection]
 
 
+def own_connection(port: int, patience: float) -> socket.socket:
+    """A connection that no look lists, made within so many seconds. Raises an `OSError`."""
+    made = socket.socket()
+    try:
+        made.setsockopt(socket.IPPROTO_IP, ADDRESS_ALONE, 1)
+        made.bind((OWN, 0))
+        made.settimeout(patience)
+        made.connect((HOST, port))
+    except OSError:
+        made.close()
+        raise
+    return made
+
+
 def look_at(port: int) -> Sockets:
     """Lists the connections of a port of 127.0.0.1."""
-    words = ["ss", "-Htinoepa", "exclude", "time-wait", f"( src {HOST}:{port} or dst {HOST}:{port} )"]
+    here = f"{HOST}:{port}"
+    which = f"( src {here} and not dst {OWN} ) or ( dst {here} and not src {OWN} )"
+    words = ["ss", "-Htinoepa", "exclude", "time-wait", f"( {which} )"]
     try:
         run = subprocess.run(words, capture_output=True, encoding="utf-8", errors="replace", timeout=PATIENCE,
                              check=False, start_new_session=True)  # which Ctrl-C does not end

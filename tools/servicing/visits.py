@@ -1,18 +1,15 @@
-"""How the sessions of a server that is to end are used up, so that it ends by itself once it has served them all, and
-how its clients come to leave soon."""
+"""How the sessions of a server that is to end are used up, so that it ends by itself once it has served them all."""
 from __future__ import annotations
 
-import contextlib
 import select
 import socket
 import threading
 
-HOST = "127.0.0.1"
+from servicing.sockets import own_connection
+
 THREADS = 4
 ROOM = 128  # connections that may wait for a worker at a server, unless more room was made
 PATIENCE, TICK = 0.1, 0.02  # seconds; a connection that the system drops is tried again soon
-STAYS = 0.2  # seconds for which a worker is kept busy. Clients take 0.1 for a wait
-MOST_AT_ONCE = 35  # sessions at the same time
 
 
 class Visits:
@@ -49,7 +46,7 @@ class Visits:
         """Makes some visits. Returns the last, which stays until it is served, and so the others before it."""
         for left in reversed(range(self._batch)):
             try:
-                made = socket.create_connection((HOST, self._port), timeout=PATIENCE)
+                made = own_connection(self._port, PATIENCE)
             except OSError:
                 self._is_over.wait(TICK)
                 return None
@@ -76,46 +73,3 @@ class Visits:
         for it in self._threads:
             it.join()
 
-
-class Crowd:
-    """Keeps busy what workers are free by sessions that ask for nothing, on threads of its own.
-
-    A client that had to wait leaves after three seconds, since others may be waiting too, and else after half a minute.
-    So in the last part of a run its clients come to leave soon, and its end is short.
-    """
-
-    def __init__(self, port: int) -> None:
-        """Begins at once, with none."""
-        self._port = port
-        self.free = 0  # workers that no client has
-        self.ports: set[int] = set()  # of all sessions that were begun
-        self._is_over = threading.Event()
-        self._threads = [threading.Thread(target=self._run, args=(it,), name="crowd", daemon=True)
-                         for it in range(MOST_AT_ONCE)]
-        for it in self._threads:
-            it.start()
-
-    def _run(self, place: int) -> None:
-        """Begins sessions as long as there are not enough: one for each free worker, and some more that wait."""
-        while not self._is_over.is_set():
-            if place >= 2 * self.free + 2 or not self._has_visited():
-                self._is_over.wait(PATIENCE)
-
-    def _has_visited(self) -> bool:
-        """Has one session, unless the server takes none now."""
-        with contextlib.suppress(OSError), socket.create_connection((HOST, self._port), PATIENCE) as it:
-            self.ports.add(it.getsockname()[1])
-            it.sendall(b"AT 0\n")  # which is no call, and whose answer shows that a worker serves this session
-            while not self._is_over.is_set() and not select.select([it], [], [], TICK)[0]:
-                pass
-            if it.recv(64, socket.MSG_DONTWAIT):
-                self._is_over.wait(STAYS)
-                it.sendall(b"QUIT\n")
-                return True
-        return False
-
-    def stop(self) -> None:
-        """Leaves."""
-        self._is_over.set()
-        for it in self._threads:
-            it.join()

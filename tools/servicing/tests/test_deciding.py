@@ -2,7 +2,10 @@
 import unittest
 from dataclasses import replace
 
-from servicing.deciding import Seen, Start, how_to_start, is_to_prepare, runs_to_drop, why_to_end
+from servicing.deciding import (
+    Seen, Start, crowd_of, how_to_start, is_to_crowd, is_to_prepare, left_until_end, runs_to_drop, sessions_to_use_up,
+    why_to_end,
+)
 from servicing.folder import record_of, run_in
 from servicing.keeping import Held
 from servicing.settings import Keep
@@ -16,8 +19,9 @@ def supply(used: int, limit: int = 1000, pace: float | None = None) -> Supply:
     return Supply(used, True, limit, pace)
 
 
-QUIET = Seen(age=100, every=3600, ending=60, calls=supply(0), sessions=supply(0), is_full=False, unanswered=0,
-             free_workers=16, waiting=0, elements=5, moment=10**12, aside=0, first_aside=0, leaving=None, is_prepared=False)
+QUIET = Seen(age=100, every=3600, ending=60, calls=supply(0), sessions=supply(0), is_full=False, idle=60,
+             unanswered=0, workers=16, clients=0, waiting=0, elements=5, moment=10**12, aside=0, first_aside=0,
+             leaving=None, is_prepared=False)
 
 
 class StartTest(unittest.TestCase):
@@ -59,10 +63,26 @@ class EndTest(unittest.TestCase):
         self.assertIsNone(self.why(is_prepared=True, leaving=2.1))
         self.assertIsNone(self.why(is_prepared=True, leaving=None))
         self.assertEqual(self.why(is_prepared=True, waiting=1), Reason.TIME)  # the last sessions are used up
-        self.assertIsNone(self.why(is_prepared=True, waiting=1, free_workers=0))
+        self.assertIsNone(self.why(is_prepared=True, waiting=1, idle=1.9))
         self.assertIsNone(self.why(waiting=1))
-        self.assertEqual([is_to_prepare(age, 3600) for age in (3539, 3540)], [False, True])
-        self.assertEqual([is_to_prepare(age, 10) for age in (4.9, 5)], [False, True])
+
+    def test_the_end_is_prepared_in_the_last_minute_or_half_of_a_short_run(self) -> None:
+        for every, ages in ((3600, (3539, 3540)), (10, (4.9, 5))):
+            prepared = [is_to_prepare(replace(QUIET, age=it, every=every)) for it in ages]
+            self.assertEqual(prepared, [False, True], every)
+
+    def test_an_end_for_want_of_calls_is_foreseen(self) -> None:
+        """A run that makes so many calls a second ends behind half of them, and once those that are left last no longer
+        than twice the time of an end. A good moment before that is taken for the same reason."""
+        for limit, pace, until in ((1_000_000, 5_000, 100), (100_000, 100, 880), (20_000, 50, 280)):
+            for used, ends in ((0, until), (20 * pace, until - 20)):
+                left, why = left_until_end(replace(QUIET, calls=supply(used, limit, pace)))
+                self.assertEqual((left, why), (ends, Reason.CALLS))
+        soon = replace(QUIET, calls=supply(400_000, 1_000_000, 5_000), sessions=supply(0, 10_000))
+        self.assertEqual((left_until_end(soon)[0], is_to_prepare(soon), is_to_crowd(soon)), (20, True, True))
+        self.assertEqual(why_to_end(replace(soon, is_prepared=True, leaving=1.0)), Reason.CALLS)
+        self.assertEqual(left_until_end(replace(QUIET, sessions=supply(0, 1000, 2)))[0], 380)
+        self.assertEqual(left_until_end(QUIET), (3500, Reason.TIME))
 
     def test_calls_run_low(self) -> None:
         self.assertEqual(self.why(calls=supply(900)), Reason.CALLS)
@@ -77,7 +97,6 @@ class EndTest(unittest.TestCase):
 
     def test_a_free_worker_that_takes_nobody_has_no_sessions_left(self) -> None:
         self.assertEqual(self.why(unanswered=3.5), Reason.SESSIONS)
-        self.assertIsNone(self.why(unanswered=3.5, free_workers=0))
         self.assertIsNone(self.why(unanswered=2.5))
 
     def test_elements_that_were_set_aside_are_wanted(self) -> None:
@@ -88,6 +107,27 @@ class EndTest(unittest.TestCase):
         self.assertIsNone(self.why(aside=300_000, first_aside=late, elements=950_000))
         self.assertEqual(self.why(aside=300_000, first_aside=late, elements=899_000), Reason.ELEMENTS)
         self.assertIsNone(self.why(aside=5, first_aside=soon, age=59))
+
+
+class CrowdTest(unittest.TestCase):
+    """Sessions of the service's own let clients wait, before a run's end."""
+
+    def test_when(self) -> None:
+        """Clients stay for half a minute unless they had to wait."""
+        for every, sessions, first in ((3600, 10_000, 3560), (45, 10_000, 9), (10, 10_000, 2), (10, 400, 6.9)):
+            runs = [replace(QUIET, every=every, age=age, sessions=supply(0, sessions)) for age in (first - 0.1, first)]
+            self.assertEqual([*map(is_to_crowd, runs)], [False, True], (every, sessions))
+
+    def test_how_many(self) -> None:
+        for clients, wanted in ((0, 16), (1, 17), (9, 25), (16, 32), (50, 32)):
+            self.assertEqual(crowd_of(replace(QUIET, clients=clients)), wanted)
+
+    def test_what_they_leave_of_the_sessions_that_are_used_up(self) -> None:
+        """All but a reserve for clients, and theirs."""
+        run = replace(QUIET, clients=9, sessions=supply(1000, 10_000))
+        self.assertEqual(sessions_to_use_up(replace(run, age=3540)), 10_000 - 1000 - 400 - 100 * 40)
+        self.assertEqual(sessions_to_use_up(replace(run, age=3590)), 10_000 - 1000 - 400 - 100 * 10)
+        self.assertEqual(sessions_to_use_up(replace(run, age=3540, sessions=supply(10, 400))), 0)
 
 
 class KeepTest(unittest.TestCase):

@@ -94,7 +94,7 @@ class EndsTest(ServiceTest):
         the first seconds of the next run a client waits for a moment, though nobody else is there."""
         is_over, whole = threading.Event(), []  # type: threading.Event, list[str]
         clients = [threading.Thread(target=self.take_turns, args=(whole, is_over)) for _ in range(2)]
-        with self.serving("--every", "1s", "--stop-within", "3s", "--workers", "1", "--sessions", "3000") as service:
+        with self.serving("--every", "1s", "--stop-within", "2s", "--workers", "1", "--sessions", "10000") as service:
             for it in clients:
                 it.start()
             service.wait("ending")
@@ -109,7 +109,7 @@ class EndsTest(ServiceTest):
             if time.monotonic() - served < 4:  # on a busy machine the clients may take longer to leave
                 self.assertGreaterEqual(waits[1], 0.1)
             self.assertEqual(service.all("cut"), [])
-        self.assertGreater(passed, 3)
+        self.assertGreater(passed, 2)
         self.assertLess(float(closed.rstrip("s")), passed)
         self.assertGreater(len(whole), 5)
         self.assertEqual({*whole}, {"BYE"})
@@ -125,7 +125,7 @@ class EndsTest(ServiceTest):
         while not is_over.is_set():
             with contextlib.suppress(OSError), Session(self.port) as it:
                 if it.ask("AT 0") == "ERR 1 syntax":
-                    time.sleep(0.3)
+                    time.sleep(0.6)
                     whole.append(it.ask("QUIT"))
 
     def test_silent_clients_are_cut(self) -> None:

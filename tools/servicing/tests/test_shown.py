@@ -55,6 +55,10 @@ class DoingTest(unittest.TestCase):
         with mock.patch("time.monotonic", return_value=time.monotonic() + 5):
             looks.see(Sockets(True, None, []))
             self.assertGreater(looks.unanswered, 4)
+            looks.count_unseen(0, 0)
+            self.assertGreater(looks.unanswered, 4)
+            looks.count_unseen(2, 1)  # more sessions of the service's own, of which some wait until others are served
+            self.assertEqual((looks.unanswered, looks.sessions.used), (0, 3))
 
 
 class ShownTest(ServiceTest):
