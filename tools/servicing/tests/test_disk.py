@@ -33,7 +33,7 @@ class FullDiskTest(ServiceTest):
             self.assertEqual(len(service.all("disk")), 1)
             self.make_room()
             service.wait("disk-over")
-            self.assertEqual(self.ask("SIZE"), [f"SIZE {JOBS}"])
+            self.until(lambda: self.ask("SIZE") == [f"SIZE {JOBS}"], "all jobs, and the service's own element no more")
 
     def make_room(self) -> None:
         subprocess.run(["mount", "-o", "remount,size=4m", self.small], check=True)
@@ -48,7 +48,7 @@ class FullDiskTest(ServiceTest):
         again.kill()
         self.make_room()
         with self.serving(folder=self.small):
-            self.assertEqual(self.ask("SIZE"), [f"SIZE {JOBS}"])
+            self.until(lambda: self.ask("SIZE") == [f"SIZE {JOBS}"], "all jobs, and the service's own element no more")
 
 
 class FolderTest(ServiceTest):
