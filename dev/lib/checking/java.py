@@ -75,7 +75,8 @@ def sources(folder: str) -> list[str]:
 def build(room: str, tally: Tally) -> Optional[str]:
     """Compiles everything and writes the pages. Gives the class path, or None if something does not compile."""
     strict = ("javac", "--release", RELEASE, "-Xlint:all", "-Werror")
-    expect(tally, "javadoc", "javadoc", "-quiet", "-Xdoclint:all", "-Werror", "-d", f"{room}/src.pages", *sources("src"))
+    pages = ("javadoc", "-quiet", "-Xdoclint:all", "-Werror", "-d", f"{room}/pages", *sources("src"))
+    expect(tally, "javadoc", *pages)
     seen = [room]  # where there are no classes
     for name, folder, jars in (("package", "src", ()), ("example", "examples", ()), ("tests", "tests", JARS)):
         seen += jars

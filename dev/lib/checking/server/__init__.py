@@ -80,7 +80,7 @@ def check_jobs(tally: Tally, done: set[int], path: str) -> None:
 
 
 def jobs_that_differ(history: History, done: set[int]) -> Iterator[str]:
-    """Which jobs were given, were neither done nor at their last attempt, and did not come back; or did all the same."""
+    """Which jobs were given, neither done nor at their last attempt, and did not come back; or did all the same."""
     elements = [history.elements.element(row) for row in range(len(history.elements))]
     attempts = {(it.origin, it.attempt) for it in elements}
     for element, left in zip(elements, history.elements.left_in):

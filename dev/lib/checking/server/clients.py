@@ -89,9 +89,10 @@ class Client:
             case "offer" | "any":
                 self.offered += 1
                 asked = f"OFFER {delay or 0}"
-                if word == "any":
-                    delay = self.rng.choice([0, 10**6, 10**7, 10**8]) * self.rng.randrange(1, 5)
-                    asked = f"OFFERAT {self.rng.randrange(10**10)}" if self.rng.random() < 0.1 else f"OFFER {delay}"
+                if word == "any" and self.rng.random() < 0.1:
+                    asked = f"OFFERAT {self.rng.randrange(10**10)}"
+                elif word == "any":
+                    asked = f"OFFER {self.rng.choice([0, 10**6, 10**7, 10**8]) * self.rng.randrange(1, 5)}"
                 return f"{asked} {self.number}-{self.offered}"
         return told
 
