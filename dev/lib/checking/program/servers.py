@@ -1,13 +1,11 @@
-"""Servers whose clients wait for each reply: where they listen, how many they serve at once, when failed jobs come
-back, their clock, and when their histories and last lines are there."""
+"""Servers whose clients wait for each reply: how many they serve at once, when failed jobs come back, their clock, and
+when their histories and last lines are there."""
 import contextlib
 import select
-import socket
 import time
 from typing import Iterator, Optional
 
 from checking.program.cases import Faults, Place, end_of
-from serving import PATIENCE
 from serving.server import Server
 from serving.session import Session
 
@@ -37,19 +35,6 @@ def clients_of(place: Place, words: str, count: int = 1) -> Iterator[list[Sessio
 def differ(told: object, wanted: object) -> Optional[str]:
     """What was told, if it is not what was wanted."""
     return None if told == wanted else f"{told}, not {wanted}"
-
-
-def address(place: Place) -> Faults:
-    """A server listens at 127.0.0.1, and nowhere else."""
-    fault = None
-    with visited(place, "", sessions=2) as server:
-        try:
-            socket.create_connection(("127.0.0.2", server.port), timeout=PATIENCE).close()
-            fault = "it is accepted"
-        except ConnectionRefusedError:
-            Session(server.port).quit()
-        Session(server.port).quit()
-    yield "a connection to 127.0.0.2", fault
 
 
 def workers(place: Place) -> Faults:
@@ -134,6 +119,4 @@ def last_line_of(place: Place, history: str) -> list[str]:
     return (place.room / history).read_text("ascii").splitlines()[-1:]
 
 
-CHECKS = (
-    address, workers, failing_with_a_delay, clock, history_before_the_last_lines, history_without_the_last_lines
-)
+CHECKS = (workers, failing_with_a_delay, clock, history_before_the_last_lines, history_without_the_last_lines)

@@ -11,7 +11,7 @@ from checking.testing import RoomTest
 from common.program import TOP, tested_program
 
 PATIENCE = 300  # seconds that a run of the tool may take, or anything in it
-COUNT = 110  # what is compared
+COUNT = 112  # what is compared
 
 # Notes its process, and becomes the program, which gets other words for some.
 STAND_IN = """#!/bin/sh
