@@ -10,7 +10,7 @@
     server.py, cutting.py                    a server, and how its sessions are cut
     visits.py, crowd.py                      how its sessions are used up, and its clients come to leave soon
     looking.py, sockets.py, session.py       what is seen of a server
-    signals.py, saying.py                    how others ask for the end, and what they are told
+    saying.py        how others ask for the end, and what they are told
     showing.py       what the service shows of itself
     state.py         all that the service knows and shows at one moment; `Board` holds the latest
     shown.py         a state as texts, for the page, the terminal view and systemd; trend.py has the plots

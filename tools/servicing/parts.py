@@ -12,7 +12,7 @@ from servicing.keeping import Keeping
 from servicing.runs import Runs
 from servicing.settings import Settings
 from servicing.showing import Showing
-from servicing.signals import Signals
+from servicing.saying import Signals
 from servicing.state import DISK
 
 AGAIN = 1.0  # seconds until something that failed is tried again

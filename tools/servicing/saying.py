@@ -1,15 +1,21 @@
-"""What the service says: on standard error a line for each change, as words and values that log collectors read, and
-to systemd how a unit with `Type=notify` is. Elsewhere that one hears nothing."""
+"""How the service and the rest of the machine talk: on standard error a line for each change, as words and values that
+log collectors read; to systemd how a unit with `Type=notify` is, which elsewhere hears nothing; and signals, which ask
+for the end: they end a wait at once, and nothing else."""
 from __future__ import annotations
 
 import contextlib
 import os
 import re
+import select
+import signal
 import socket
 import sys
 import time
+from types import FrameType
 
 PATIENCE = 1.0  # seconds; a manager that takes nothing is not waited for
+
+SIGNALS = (signal.SIGINT, signal.SIGTERM, signal.SIGHUP)
 
 _PLAIN = re.compile(r"[^\s\"=]+")
 
@@ -41,3 +47,28 @@ def notify(**values: object) -> None:
         it.settimeout(PATIENCE)
         it.connect("\0" + address[1:] if address.startswith("@") else address)
         it.sendall("\n".join(f"{name}={value}" for name, value in values.items()).encode())
+
+
+class Signals:
+    """Counts signals. The first asks for an end in good order, the second for an end without waiting for clients."""
+
+    def __init__(self) -> None:
+        self.count = 0
+        self._read, write = os.pipe()
+        os.set_blocking(self._read, False)
+        os.set_blocking(write, False)
+        signal.set_wakeup_fd(write, warn_on_full_buffer=False)
+        for number in SIGNALS:
+            signal.signal(number, self._note)
+
+    def wait(self, seconds: float, descriptor: int | None = None) -> bool:
+        """Waits so long, until a signal comes, or until there is something at the descriptor. Returns whether there
+        is."""
+        others = [] if descriptor is None else [descriptor]
+        ready = select.select([self._read, *others], [], [], max(seconds, 0))[0]
+        with contextlib.suppress(BlockingIOError):
+            os.read(self._read, 64)
+        return descriptor is not None and descriptor in ready
+
+    def _note(self, number: int, frame: FrameType | None) -> None:
+        self.count += 1

@@ -14,11 +14,10 @@ from servicing.keeping import Keeping, KeeperLost, NotStarted
 from servicing.opening import NoIdsLeft, Opening
 from servicing.parts import AGAIN, Parts
 from servicing.runs import Next, Runs
-from servicing.saying import notify, say
+from servicing.saying import Signals, notify, say
 from servicing.server import Server, file_name
 from servicing.settings import Settings
 from servicing.showing import Showing
-from servicing.signals import Signals
 from servicing.state import Board, Phase, Reason, Run
 
 POLL = 0.005  # seconds from one look whether a server listens to the next

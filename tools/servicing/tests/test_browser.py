@@ -16,7 +16,7 @@ from servicing.reports import Reports
 from servicing.shown import shown
 from servicing.site import Site
 from servicing.state import Alert, Board, Client, Clients, Doing, Head, Phase, Queue, Reason, Run, State
-from servicing.tests.states import AT, ENDED, first_state, state, troubled_state
+from servicing.tests.support import AT, ENDED, first_state, state, troubled_state
 from servicing.tests.test_texts import moment
 
 PATIENCE, BEAT = 60.0, 0.02  # seconds

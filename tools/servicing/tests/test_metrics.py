@@ -7,7 +7,7 @@ from checking.testing import RoomTest
 from common.program import TOP
 from servicing.metrics import metrics
 from servicing.state import Alert, Queue, State, Supply
-from servicing.tests.states import AT, first_state, state, troubled_state
+from servicing.tests.support import AT, first_state, state, troubled_state
 
 PROMTOOL = shutil.which("promtool")
 ALERTS = f"{TOP}/examples/alerts.yml"

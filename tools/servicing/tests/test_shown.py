@@ -1,10 +1,13 @@
-"""What a service that runs shows: over HTTP, in a browser and in a terminal, through rollovers and a killed server."""
+"""What a service that runs shows over HTTP, in a browser and in a terminal, through rollovers and a killed server, and
+what it tells systemd."""
 import http.client
 import os
 import re
 import signal
+import socket
 import subprocess
 import tempfile
+import threading
 import time
 import unittest
 from unittest import mock
@@ -14,6 +17,7 @@ from common.program import tested_program
 from reporting import tests as browsing
 from reporting.tests.browser import Browser
 from servicing.looking import Looks, client_of
+from servicing.saying import notify
 from servicing.sockets import Connection, Sockets
 from servicing.state import Doing
 from servicing.tests.process import Service, ServiceTest
@@ -159,3 +163,37 @@ class ShownTest(ServiceTest):
         ran = run_tool("service", *other, "--http", f"127.0.0.1:{self.page}")
         says = f"service: --http 127.0.0.1:{self.page}: Address already in use\n"
         self.assertEqual((ran.returncode, ran.stderr[-len(says):]), (1, says))
+
+
+class NotifyingTest(ServiceTest):
+    def test_a_line_for_each_value(self) -> None:
+        with socket.socket(socket.AF_UNIX, socket.SOCK_DGRAM) as it:
+            it.bind(self.path("notify"))
+            with mock.patch.dict(os.environ, NOTIFY_SOCKET=self.path("notify")):
+                notify(READY=1, STATUS="serving, run 1")
+            self.assertEqual(it.recv(4096), b"READY=1\nSTATUS=serving, run 1")
+
+    def test_where_nobody_is_told(self) -> None:
+        for address in ("", self.path("none")):
+            with mock.patch.dict(os.environ, NOTIFY_SOCKET=address):
+                notify(READY=1)
+
+    def read(self, notified: socket.socket, told: list[str]) -> None:
+        while "END=1" not in told:
+            told += notified.recv(4096).decode().splitlines()
+
+    def test_what_a_service_says(self) -> None:
+        with socket.socket(socket.AF_UNIX, socket.SOCK_DGRAM) as it:
+            it.bind(self.path("notify"))
+            told: list[str] = []
+            reader = threading.Thread(target=self.read, args=(it, told))
+            reader.start()
+            with mock.patch.dict(os.environ, NOTIFY_SOCKET=self.path("notify")):
+                with self.serving():
+                    pass
+                notify(END=1)
+            reader.join()
+        self.assertEqual((told.count("READY=1"), told.count("STOPPING=1")), (1, 1))
+        self.assertIn("STATUS=serving, run 1, 0 elements, 0 clients served", told)
+        self.assertLess(told.index("READY=1"), told.index("STOPPING=1"))
+        self.assertIn("EXTEND_TIMEOUT_USEC=300000000", told[told.index("STOPPING=1"):])

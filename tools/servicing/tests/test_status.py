@@ -17,7 +17,7 @@ from servicing.site import Pages
 from servicing.shown import shown
 from servicing.state import Board, Client, Clients, Doing, State
 from servicing.status_view import frame, show
-from servicing.tests.states import SETTINGS, first_state, state, troubled_state
+from servicing.tests.support import SETTINGS, first_state, state, troubled_state
 from servicing.tests.terminal import Terminal
 
 PATIENCE = 30.0

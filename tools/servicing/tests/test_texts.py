@@ -6,8 +6,7 @@ from typing import Any
 
 from servicing.shown import headline, shown
 from servicing.state import Client, Clients, Doing, Head, Phase, Queue, State, Traffic
-from servicing.tests.states import AT, ENDED, FULL_DISK, HELD, LONG, first_state, state, troubled_state
-from servicing.tests.support import reading
+from servicing.tests.support import AT, ENDED, FULL_DISK, HELD, LONG, first_state, reading, state, troubled_state
 from servicing.trend import BETWEEN, KEPT, PLOTS, Trend, drawn
 
 SAYS = {
