@@ -1,6 +1,6 @@
 """The client package for Java, clients/java.
 
-javac compiles the package, its example and its tests with all warnings, none of which it may give, and javadoc writes
+javac compiles the package and its tests with all warnings, none of which it may give, and javadoc writes
 the pages of all public items. Then JUnit runs the tests, mvn builds the package by its pom.xml, and the README's first
 part is followed. A JDK of version 17 or later is needed, and JUnit 4 with hamcrest where Debian's package junit4 puts
 them; without mvn and its plugins, or without stunnel, what needs these is skipped by name.
@@ -15,7 +15,6 @@ import textwrap
 from pathlib import Path
 from typing import Any, Optional
 
-from checking.suites import add
 from checking.tally import Tally
 from common.program import TOP, tested_program
 from serving.server import Server
@@ -41,7 +40,6 @@ PLUGINS = ("resources", "compiler", "surefire", "jar")
 STUNNEL = "stunnel"
 JOBS = int(os.environ.get("RB_BROKER_JOBS", 2_000))  # of a day
 LONGEST = 5_000  # seconds after which a command is ended
-LETTERS = "to-ann, attempt 1\nto-bob, attempt 1\nto-bob, attempt 2"
 
 
 def run(*words: str, **options: Any) -> subprocess.CompletedProcess[str]:
@@ -50,11 +48,11 @@ def run(*words: str, **options: Any) -> subprocess.CompletedProcess[str]:
                           timeout=LONGEST, check=False, **options)
 
 
-def expect(tally: Tally, name: str, *words: str, says: str = "", status: int = 0, **options: Any) -> bool:
-    """Counts a command, which must end with this status and print what this pattern fits. Returns whether it did."""
+def expect(tally: Tally, name: str, *words: str, says: str = "", **options: Any) -> bool:
+    """Counts a command, which must end with status 0 and print what this pattern fits. Returns whether it did."""
     ran = run(*words, **options)
     said = ran.stdout.strip()
-    is_right = ran.returncode == status and re.fullmatch(says, said, re.DOTALL) is not None
+    is_right = ran.returncode == 0 and re.fullmatch(says, said, re.DOTALL) is not None
     tally.count(name, None if is_right else f"status {ran.returncode}: {said}")
     return is_right
 
@@ -78,7 +76,7 @@ def build(room: str, tally: Tally) -> Optional[str]:
     pages = ("javadoc", "-quiet", "-Xdoclint:all", "-Werror", "-d", f"{room}/pages", *sources("src"))
     expect(tally, "javadoc", *pages)
     seen = [room]  # where there are no classes
-    for name, folder, jars in (("package", "src", ()), ("example", "examples", ()), ("tests", "tests", JARS)):
+    for name, folder, jars in (("package", "src", ()), ("tests", "tests", JARS)):
         seen += jars
         words = (*strict, "-d", f"{room}/{folder}", "-cp", os.pathsep.join(seen), *sources(folder))
         if not expect(tally, f"javac of the {name}", *words):
@@ -97,17 +95,17 @@ def run_tests(kind: str, path: str, tally: Tally) -> None:
     told = {"program": tested_program(), "jobs": JOBS, "verify": f"{TOP}/tools/verify", "stunnel": stunnel,
             "page": f"{TOP}/docs/OPERATING.md"}
     settings = [f"-Drbbroker.{name}={it}" for name, it in told.items()]
-    ran = run("java", "-ea", "-cp", path, *settings, *(f"rbbroker.client.{it}" for it in ["Suite", *names]))
-    add(tally, f"the tests of {kind}", ran.stdout)
-
-
-def run_example(path: str, tally: Tally) -> None:
-    """Runs the README's example beside a server, and without one."""
-    with Server(["--sessions", 2]) as server:
-        words = ("java", "-cp", path, "Letters", str(server.port))
-        expect(tally, "the example", *words, says=LETTERS)
-    refusal = rf"letters: no server at 127\.0\.0\.1:{server.port}: [^\n]*"
-    expect(tally, "the example without a server", *words, says=refusal, status=1)
+    quiet = f"-Djava.util.logging.config.file={os.devnull}"  # of jobs that may be given again, which tests bring about
+    ran = run("java", "-ea", quiet, "-cp", path, *settings, "org.junit.runner.JUnitCore",
+              *(f"rbbroker.client.{it}" for it in names))
+    found = re.search(r"(?m)^(?:OK \((\d+) tests?\)|Tests run: (\d+),  Failures: (\d+))$", ran.stdout)
+    if not found:
+        tally.count(f"the tests of {kind}", f"status {ran.returncode}: {ran.stdout.strip()}")
+        return
+    count, failed = int(found[1] or found[2]), int(found[3] or 0)
+    if failed:
+        print(ran.stdout.strip())
+    tally.add(max(0, count - failed), failed)
 
 
 def follow_page(room: str, tally: Tally) -> None:
@@ -156,5 +154,4 @@ def check(tally: Tally) -> None:
         if "unit" in kinds:
             run_maven(room, tally)
         if "served" in kinds:
-            run_example(path, tally)
             follow_page(room, tally)
