@@ -72,7 +72,7 @@ final class Session {
     /** A session that is to be opened. */
     Session(Options options) {
         this.options = options;
-        connection = options.tls() == null ? new Connection(options) : new TlsConnection(options);
+        connection = new Connection(options);
         longest = options.longestSession();
     }
 
@@ -196,13 +196,10 @@ final class Session {
     private void awaitService(BooleanSupplier isWanted) throws IOException, InterruptedException {
         long sent = System.nanoTime();
         long deadline = sent + options.patience();
-        connection.begin();
-        while (!connection.awaitConnected(LOOK_AFTER)) {
-            goOn(deadline, isWanted, "it does not accept the connection");
-        }
-        connection.send(Request.GREETING.line() + "\n", deadline);
-        while (!connection.awaitInput(LOOK_AFTER)) {
-            goOn(deadline, isWanted, "all its workers are busy (waited " + secondsSince(sent) + ")");
+        connection.begin(Request.GREETING.line() + "\n");
+        while (!connection.awaitLine(LOOK_AFTER)) {
+            goOn(deadline, isWanted, connection.isConnected()
+                ? "all its workers are busy (waited " + secondsSince(sent) + ")" : "it does not accept the connection");
         }
         Request.GREETING.receive(connection);
         long waited = System.nanoTime() - sent;

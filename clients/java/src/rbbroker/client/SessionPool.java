@@ -29,8 +29,8 @@ final class SessionPool {
     private static final System.Logger LOG = System.getLogger("rbbroker.client");
     /** How long a session that is to end may be kept by jobs before that is worth a line in the log. */
     private static final long KEPT_LONG = TimeUnit.MINUTES.toNanos(1);
-    /** Milliseconds after which a thread looks again, as a session may take jobs again, or a server serve another. */
-    private static final long LOOK_AGAIN = 500;
+    /** After this a thread looks again, as a session may take jobs again, or a server serve another. */
+    private static final long LOOK_AGAIN = TimeUnit.MILLISECONDS.toNanos(500);
 
     private final Options options;
     private final Runs runs;
@@ -167,15 +167,7 @@ final class SessionPool {
 
     /** Waits for a change, but not for long. An interrupt is put off. */
     private void awaitChange() {
-        boolean wasInterrupted = Thread.interrupted();
-        try {
-            wait(LOOK_AGAIN);
-        } catch (InterruptedException interrupt) {
-            wasInterrupted = true;
-        }
-        if (wasInterrupted) {
-            Thread.currentThread().interrupt();
-        }
+        Connection.awaitChange(this, LOOK_AGAIN);
     }
 
     /** Waits until nobody uses this session. Who waits for it comes before others. Gives whether it goes on. */
