@@ -86,20 +86,15 @@ public final class Job implements Delayed {
         place = new Place(contact, element, 0, hasExpired);
     }
 
-    /**
-     * What the job is about.
-     *
-     * @return 1 to 64 characters of printable ASCII, none of which is a space
-     */
+    /** {@return what the job is about, in 1 to 64 characters of printable ASCII without spaces} */
     public String payload() {
         return place.element.payload();
     }
 
     /**
-     * The number of this attempt at the server. No other element of its queue ever has the same one: a job that comes
-     * back has a new one.
+     * {@return the number of this attempt at the server, unsigned} No other element of its queue ever has the same one:
+     * a job that comes back has a new one.
      *
-     * @return an unsigned number of 64 bits, as {@link Long#toUnsignedString(long)} reads it
      * @throws IllegalStateException if the job has not been offered
      */
     public long id() {
@@ -107,20 +102,15 @@ public final class Job implements Delayed {
     }
 
     /**
-     * When the job expires, in nanoseconds of the server's clock, which counts from 0 on.
+     * {@return when the job expires, in nanoseconds of the server's clock, unsigned}
      *
-     * @return an unsigned number of 64 bits, as {@link Long#toUnsignedString(long)} reads it
      * @throws IllegalStateException if the job has not been offered
      */
     public long expiryNanos() {
         return offered().expiry();
     }
 
-    /**
-     * How often the job has been offered: once by its producer, and once for each time that it failed.
-     *
-     * @return 1 for a job that has not failed, 1,000 at most
-     */
+    /** {@return how often the job has been offered, 1 to 1,000: by its producer, and each time that it failed} */
     public int attempt() {
         return place.element.attempt();
     }

@@ -17,11 +17,7 @@ public class RefusedException extends BrokerException {
         this.reply = reply;
     }
 
-    /**
-     * The reply of the server, such as {@code ERR 6 full}.
-     *
-     * @return the reply line
-     */
+    /** {@return the reply line of the server, such as {@code ERR 6 full}} */
     public String reply() {
         return reply;
     }

@@ -15,12 +15,9 @@ import javax.net.ssl.SSLSocketFactory;
  * {@link java.util.concurrent.DelayQueue} does: an element can be taken once its delay has passed, the one that expired
  * first before the others.
  *
- * <p>Any number of threads, queues and programs may use one server at the same time. All methods are thread-safe.
- *
- * <p><b>Taking.</b> {@link #poll()}, {@link #poll(long, TimeUnit)}, {@link #take}, {@link #remove()} and
- * {@link #drainTo(Collection)} give jobs. With {@link Acknowledge#ON_TAKE} a job has then left the queue for ever, as
- * with {@code DelayQueue}. With {@link Acknowledge#BY_CALL} it is held for this program until {@link Job#done} or
- * {@link Job#fail}, and comes back if the program dies.
+ * <p>Any number of threads, queues and programs may use one server at the same time. All methods are thread-safe. What
+ * becomes of a job that is taken depends on when it is {@linkplain Acknowledge acknowledged}. A session holds 64 jobs;
+ * a call that would take another throws a {@link TooManyHeldException}.
  *
  * <p><b>Sessions.</b> The queue connects when it is first used. It keeps a session for each thread that waits, up to a
  * number that is set, and one for calls that do not wait. Each keeps one of the server's workers busy. A session that
@@ -38,8 +35,7 @@ import javax.net.ssl.SSLSocketFactory;
  * {@link IllegalStateException} once the queue is closed.
  *
  * <p><b>What can't be had.</b> The server shows no element other than the head, so there is no iteration, no array, no
- * stream and no {@code contains}. They throw {@link UnsupportedOperationException}, and so do {@code containsAll},
- * {@code retainAll}, {@code removeIf}, {@code forEach} and {@code spliterator}.
+ * stream and no {@code contains}: they, and what is made of them, throw {@link UnsupportedOperationException}.
  */
 public final class RemoteDelayQueue extends AbstractQueue<Job> implements BlockingQueue<Job>, AutoCloseable {
     private final Options options;
@@ -62,11 +58,10 @@ public final class RemoteDelayQueue extends AbstractQueue<Job> implements Blocki
     }
 
     /**
-     * Begins to describe a queue with the server at this port.
+     * {@return what makes a queue with the server at this port}
      *
      * @param port the server's port, 1 to 65,535
      * @param acknowledge when the server is told that a job is finished
-     * @return a builder
      */
     public static Builder builder(int port, Acknowledge acknowledge) {
         return new Builder(port, acknowledge);
@@ -171,11 +166,7 @@ public final class RemoteDelayQueue extends AbstractQueue<Job> implements Blocki
             return this;
         }
 
-        /**
-         * Makes the queue. It does not connect yet.
-         *
-         * @return a queue
-         */
+        /** {@return a queue, which does not connect yet} */
         public RemoteDelayQueue build() {
             return new RemoteDelayQueue(options());
         }
@@ -213,47 +204,19 @@ public final class RemoteDelayQueue extends AbstractQueue<Job> implements Blocki
         return true;
     }
 
-    /** As {@link #offer(Job)}. */
-    @Override
-    public boolean add(Job job) {
-        return offer(job);
-    }
-
     /** As {@link #offer(Job)}: it never waits for room. */
     @Override
     public void put(Job job) {
         offer(job);
     }
 
-    /**
-     * As {@link #offer(Job)}: it never waits for room, and so the timeout counts for nothing.
-     *
-     * @param job the job to offer
-     * @param timeout is ignored
-     * @param unit is ignored
-     * @return {@code true}
-     * @throws NullPointerException if the job is null
-     */
+    /** As {@link #offer(Job)}: it never waits for room, so the timeout is ignored. */
     @Override
     public boolean offer(Job job, long timeout, TimeUnit unit) {
         return offer(job);
     }
 
-    /**
-     * Offers each job of a collection, one after the other. If one can't be offered, those before it were.
-     *
-     * @throws IllegalArgumentException if the collection is this queue
-     */
-    @Override
-    public boolean addAll(Collection<? extends Job> jobs) {
-        return super.addAll(jobs);
-    }
-
-    /**
-     * Takes the job that expired first, or returns {@code null} if none has expired, though jobs may be in the queue.
-     *
-     * @throws TooManyHeldException if 64 jobs are held
-     */
+    /** Takes the job that expired first, or returns {@code null} if none has expired, though some may be there. */
     @Override
     public Job poll() {
         return calls.poll();
@@ -267,7 +230,6 @@ public final class RemoteDelayQueue extends AbstractQueue<Job> implements Blocki
      * it is returned and the thread stays interrupted.
      *
      * @throws InterruptedException if the thread is interrupted, before or while it waits
-     * @throws TooManyHeldException if 64 jobs are held
      */
     @Override
     public Job poll(long timeout, TimeUnit unit) throws InterruptedException {
@@ -275,13 +237,10 @@ public final class RemoteDelayQueue extends AbstractQueue<Job> implements Blocki
     }
 
     /**
-     * Takes the job that expired first, and waits until there is one.
-     *
-     * <p>An interrupt is noticed within {@link Builder#longestWait}, and loses no job: if one is given at that moment,
-     * it is returned and the thread stays interrupted.
+     * Takes the job that expired first, and waits until there is one. An interrupt is noticed as in
+     * {@link #poll(long, TimeUnit)}.
      *
      * @throws InterruptedException if the thread is interrupted, before or while it waits
-     * @throws TooManyHeldException if 64 jobs are held
      */
     @Override
     public Job take() throws InterruptedException {
@@ -293,32 +252,12 @@ public final class RemoteDelayQueue extends AbstractQueue<Job> implements Blocki
     }
 
     /**
-     * Takes the job that expired first.
-     *
-     * @throws java.util.NoSuchElementException if none has expired, though jobs may be in the queue
-     */
-    @Override
-    public Job remove() {
-        return super.remove();
-    }
-
-    /**
      * Shows the job that expires first or has expired first, and takes nothing out. Returns {@code null} if the queue
      * is empty. If several jobs expire at the same moment, a call that takes one may give another of them.
      */
     @Override
     public Job peek() {
         return calls.peek();
-    }
-
-    /**
-     * Shows the job that expires first or has expired first, and takes nothing out.
-     *
-     * @throws java.util.NoSuchElementException if the queue is empty
-     */
-    @Override
-    public Job element() {
-        return super.element();
     }
 
     /**
@@ -340,16 +279,10 @@ public final class RemoteDelayQueue extends AbstractQueue<Job> implements Blocki
      */
     @Override
     public boolean removeAll(Collection<?> jobs) {
-        boolean isChanged = false;
-        for (Object job : jobs) {
-            isChanged |= remove(job);
-        }
-        return isChanged;
+        return jobs.stream().map(this::remove).reduce(false, Boolean::logicalOr);
     }
 
-    /**
-     * Takes all jobs out of the queue at once, expired or not, whoever offered them. Held jobs are not in the queue.
-     */
+    /** Takes all jobs out of the queue at once, expired or not, whoever offered them. Held jobs are not in it. */
     @Override
     public void clear() {
         calls.ask(Session.Use.CHANGE, Request.CLEAR);
@@ -368,12 +301,7 @@ public final class RemoteDelayQueue extends AbstractQueue<Job> implements Blocki
         return Integer.MAX_VALUE;
     }
 
-    /**
-     * Takes all jobs that have expired, and adds them to a collection, as {@link #drainTo(Collection, int)} does.
-     *
-     * @throws IllegalArgumentException if the collection is this queue
-     * @throws TooManyHeldException if 64 jobs are held
-     */
+    /** Takes all jobs that have expired, and adds them to a collection, as {@link #drainTo(Collection, int)} does. */
     @Override
     public int drainTo(Collection<? super Job> jobs) {
         return drainTo(jobs, Integer.MAX_VALUE);
@@ -387,7 +315,6 @@ public final class RemoteDelayQueue extends AbstractQueue<Job> implements Blocki
      * come in between. Jobs that the collection refuses by an exception fail, and come back as their next attempts.
      *
      * @throws IllegalArgumentException if the collection is this queue
-     * @throws TooManyHeldException if 64 jobs are held
      */
     @Override
     public int drainTo(Collection<? super Job> jobs, int most) {
@@ -412,27 +339,6 @@ public final class RemoteDelayQueue extends AbstractQueue<Job> implements Blocki
     @Override
     public String toString() {
         return "RemoteDelayQueue[" + options.address() + "]";
-    }
-
-    /**
-     * Can't be had: another client may take the job before the answer is here.
-     *
-     * @throws UnsupportedOperationException always
-     */
-    @Override
-    public boolean contains(Object job) {
-        throw new UnsupportedOperationException(
-            "another client may take the job before the answer is here; remove(job) says whether it was there");
-    }
-
-    /**
-     * Can't be had: other clients may take the jobs before the answer is here.
-     *
-     * @throws UnsupportedOperationException always
-     */
-    @Override
-    public boolean containsAll(Collection<?> jobs) {
-        return contains(jobs);
     }
 
     /** Can't be had, and throws {@link UnsupportedOperationException}: the server shows the head alone. */

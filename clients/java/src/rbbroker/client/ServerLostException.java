@@ -37,11 +37,7 @@ public class ServerLostException extends BrokerException {
             : new ServerLostException(text + ": " + name, isInDoubt, true, cause);
     }
 
-    /**
-     * Tells whether the call may have been carried out.
-     *
-     * @return true if the server may have carried out the call, false if it surely did not
-     */
+    /** {@return whether the server may have carried out the call; if not, it surely did not} */
     public boolean isInDoubt() {
         return isInDoubt;
     }
