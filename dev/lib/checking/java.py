@@ -1,20 +1,23 @@
 """The client package for Java, clients/java.
 
-javac compiles the package and its tests with all warnings, none of which it may give, and javadoc writes
-the pages of all public items. Then JUnit runs the tests, mvn builds the package by its pom.xml, and the README's first
-part is followed. A JDK of version 17 or later is needed, and JUnit 4 with hamcrest where Debian's package junit4 puts
-them; without mvn and its plugins, or without stunnel, what needs these is skipped by name.
+javac compiles the package and its tests with all warnings, none of which it may give, and javadoc writes the pages of
+all public items. Then JUnit runs the tests, mvn builds the package by its pom.xml, and the README's first part is
+followed. The last test is the hostile day of clients/python. A JDK of version 17 or later is needed, and JUnit 4 with
+hamcrest where Debian's package junit4 puts them; without mvn and its plugins, or without stunnel, what needs these is
+skipped by name.
 """
 import os
 import re
 import shlex
 import shutil
 import subprocess
+import sys
 import tempfile
 import textwrap
 from pathlib import Path
 from typing import Any, Optional
 
+from checking.suites import tests_below, try_tests
 from checking.tally import Tally
 from common.program import TOP, tested_program
 from serving.server import Server
@@ -31,14 +34,14 @@ TESTS = {
     "queues": ("DelayQueueTest", "SharedQueueTest"),
     # what a queue at a server has beyond that
     "served": ("ServedTest", "TurnsTest", "TlsTest"),
-    # workers that are killed, clients that are silent or lie, and servers that are replaced
-    "day": ("HostileDayTest",),
 }
+DAY = CLIENT / "tests" / "day"
+PYTHON = Path(TOP, "clients", "python")
 DELIVERED = ["deliver letter-17, attempt 1", "deliver letter-17, attempt 2"]  # by the README's program
 REPOSITORY = "/usr/share/maven-repo"
 PLUGINS = ("resources", "compiler", "surefire", "jar")
 STUNNEL = "stunnel"
-JOBS = int(os.environ.get("RB_BROKER_JOBS", 2_000))  # of a day
+JOBS = "2000"  # of a day
 LONGEST = 5_000  # seconds after which a command is ended
 
 
@@ -92,8 +95,7 @@ def run_tests(kind: str, path: str, tally: Tally) -> None:
         names.append("StunnelTest")
     elif kind == "served":
         tally.skip("StunnelTest", f"there is no {STUNNEL}")
-    told = {"program": tested_program(), "jobs": JOBS, "verify": f"{TOP}/tools/verify", "stunnel": stunnel,
-            "page": f"{TOP}/docs/OPERATING.md"}
+    told = {"program": tested_program(), "stunnel": stunnel, "page": f"{TOP}/docs/OPERATING.md"}
     settings = [f"-Drbbroker.{name}={it}" for name, it in told.items()]
     quiet = f"-Djava.util.logging.config.file={os.devnull}"  # of jobs that may be given again, which tests bring about
     ran = run("java", "-ea", quiet, "-cp", path, *settings, "org.junit.runner.JUnitCore",
@@ -106,6 +108,14 @@ def run_tests(kind: str, path: str, tally: Tally) -> None:
     if failed:
         print(ran.stdout.strip())
     tally.add(max(0, count - failed), failed)
+
+
+def run_day(path: str, tally: Tally) -> None:
+    """Runs the hostile day of the Python package with clients of this one."""
+    sys.path[:0] = [f"{PYTHON}/{it}" for it in ("src", "tests/served", "tests/day")]
+    os.environ["RB_BROKER_CLASSES"] = path
+    os.environ.setdefault("RB_BROKER_JOBS", JOBS)
+    try_tests(tally, tests_below(str(DAY), str(DAY)))
 
 
 def follow_page(room: str, tally: Tally) -> None:
@@ -148,10 +158,13 @@ def check(tally: Tally) -> None:
         return
     with tempfile.TemporaryDirectory() as room:
         path = build(room, tally)
-        kinds = [it for it in TESTS if tally.wants(it)] if path else []
+        kinds = [it for it in [*TESTS, "day"] if tally.wants(it)] if path else []
         for kind in kinds:
-            run_tests(kind, path, tally)
+            if kind in TESTS:
+                run_tests(kind, path, tally)
         if "unit" in kinds:
             run_maven(room, tally)
         if "served" in kinds:
             follow_page(room, tally)
+        if "day" in kinds:
+            run_day(path, tally)

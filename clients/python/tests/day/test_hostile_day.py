@@ -23,7 +23,6 @@ from server import PATIENCE, TOP, ServedTest, start
 
 JOBS = int(os.environ.get("RB_BROKER_JOBS", 1_000))
 LONGEST = 120 + JOBS / 10  # seconds until all jobs are offered, or done
-HANDLERS = ("handle", "handle_async", "handle")
 HELD = 4  # jobs that a worker has at most
 SESSIONS = 600 + JOBS // 6  # of a server, which are more than a run uses: the rest is used up at its end
 POLICY = ("--delay", 2_000_000, "--attempts", 1_000)
@@ -59,6 +58,11 @@ class WorkerProcess:
 
 
 class HostileDayTest(ServedTest):
+    """The day. That of the Java package differs in its clients."""
+
+    handlers, held = ("handle", "handle_async", "handle"), HELD
+    verifying = []  # options of tools/verify
+
     def setUp(self):
         super().setUp()
         self.histories, self.began, self.records, self.killed = [], [], [], []
@@ -68,8 +72,8 @@ class HostileDayTest(ServedTest):
     def test_each_job_is_done_once_or_named(self):
         began = time.monotonic()
         self.begin(1_000_000)
-        nuisances = [Nuisance(self.server.port, is_silent) for is_silent in (True, True, False, False)]
-        self.workers = [self.start_worker(it) for it in HANDLERS]
+        nuisances = [Nuisance(self.port, is_silent) for is_silent in (True, True, False, False)]
+        self.workers = [self.start_worker(it) for it in self.handlers]
         self.addCleanup(lambda: [it.kill() for it in self.workers])
         self.addCleanup(self.is_over.set)
         producers = [self.start(self.produce), self.start(lambda: asyncio.run(self.produce_async()))]
@@ -87,7 +91,7 @@ class HostileDayTest(ServedTest):
         killer.join(PATIENCE)
         self.assertEqual(self.faults, [])
         self.wait_until(lambda: all(it.has_begun for it in self.workers), LONGEST)
-        self.assertEqual([it.stop() for it in self.workers], [0] * len(HANDLERS))
+        self.assertEqual([it.stop() for it in self.workers], [0] * len(self.handlers))
         sessions = 0
         for it in nuisances:
             count, wrong = it.finish()
@@ -95,6 +99,11 @@ class HostileDayTest(ServedTest):
             sessions += count
         self.end()
         self.judge(f"{sessions} sessions of clients that are silent or lie, {time.monotonic() - began:.0f} s")
+
+    @property
+    def port(self):
+        """Where the clients connect."""
+        return self.server.port
 
     def start(self, work):
         def run():
@@ -134,7 +143,7 @@ class HostileDayTest(ServedTest):
         return self.records[-1]
 
     def start_worker(self, handler):
-        return WorkerProcess(handler, self.server.port, self.record("worker"))
+        return WorkerProcess(handler, self.port, self.record("worker"))
 
     def kill_now_and_then(self):
         """Kills one worker after the other, each once it has begun."""
@@ -150,7 +159,7 @@ class HostileDayTest(ServedTest):
         return {"session": 1, "patience": LONGEST, "pauses": Pauses(0.05, 0.5), "record": self.record("producer")}
 
     def produce(self):
-        with Producer(self.server.port, **self.options()) as producer:
+        with Producer(self.port, **self.options()) as producer:
             for number in range(0, JOBS, 2):
                 try:
                     producer.offer(str(number), delay=random.choice(DELAYS))
@@ -160,7 +169,7 @@ class HostileDayTest(ServedTest):
                 time.sleep(random.uniform(0, PAUSE))
 
     async def produce_async(self):
-        async with AsyncProducer(self.server.port, **self.options()) as producer:
+        async with AsyncProducer(self.port, **self.options()) as producer:
             for number in range(1, JOBS, 2):
                 try:
                     await producer.offer(str(number), delay=random.choice(DELAYS))
@@ -172,7 +181,7 @@ class HostileDayTest(ServedTest):
     def size(self):
         """How many elements are in the queue, or None if the run is full. Takes its time, as each takes a session."""
         time.sleep(0.2)
-        with Broker(self.server.port, patience=PATIENCE) as broker:
+        with Broker(self.port, patience=PATIENCE) as broker:
             try:
                 return broker.size()
             except FullError:
@@ -183,10 +192,14 @@ class HostileDayTest(ServedTest):
         killed, or its handler hangs."""
         return all(self.size() == 0 for _ in range(15))
 
+    def told(self):
+        """What all workers were told of each attempt, and what those were that were killed."""
+        return ends_in(self.records), ends_in(self.killed)
+
     def judge(self, said):
         for number in range(len(self.histories)):
             self.verify(number)
-        history, told, told_to_killed = History(*self.histories), ends_in(self.records), ends_in(self.killed)
+        history, (told, told_to_killed) = History(*self.histories), self.told()
         attempts, given = history.attempts(), {}
         for it in map(history.elements.get, history.given):
             given.setdefault(it.payload, []).append(it.attempt)
@@ -204,7 +217,7 @@ class HostileDayTest(ServedTest):
         self.assertEqual({*range(JOBS)} - {*map(int, attempts)} - {*self.doubted}, set())
         self.assertLessEqual(len(unseen), self.lost, unseen)
         self.assertGreater(len(self.killed), 0)
-        self.assertLessEqual(len(named), HELD * len(self.killed) + self.lost, named)
+        self.assertLessEqual(len(named), self.held * len(self.killed) + self.lost, named)
         again = sum(len(it) > (2 if int(payload) % 10 == 0 else 1) for payload, it in attempts.items())
         print(f"hostile day: {JOBS} jobs, {len(self.killed)} workers killed, {len(self.histories)} servers, {said}: "
               f"{len(attempts) - len(named)} done once, {len(named)} named {sorted(named)}, of which {self.lost} were "
@@ -216,6 +229,6 @@ class HostileDayTest(ServedTest):
         path = f"{self.room}/records-{number}.jsonl"
         with open(path, "w", encoding="ascii") as file:
             file.writelines(lines_between(self.records, self.began[number], [*self.began, math.inf][number + 1]))
-        words = [sys.executable, os.path.join(TOP, "tools", "verify"), self.histories[number], path]
+        words = [sys.executable, os.path.join(TOP, "tools", "verify"), self.histories[number], path, *self.verifying]
         ran = subprocess.run(words, stdout=subprocess.PIPE, stderr=subprocess.STDOUT, encoding="utf-8", timeout=LONGEST)
         self.assertEqual((ran.returncode, ran.stdout.splitlines()[-1]), (0, "0 faults"), ran.stdout)

@@ -1,0 +1,91 @@
+"""The hostile day of the Python package with workers and a producer of the Java package, in processes of their own.
+
+All clients go through a proxy, whose record is compared with the histories. RB_BROKER_CLASSES is the path of the
+classes.
+"""
+import os
+import subprocess
+from collections import defaultdict
+
+import test_hostile_day
+from recording_proxy import RecordingProxy
+from server import PATIENCE, start
+
+TOLD = {"took": "ITEM", "done": "DONE", "failed": "AGAIN", "back": "ERR", "gone": "ERR", "doubt": "nothing"}
+SAVING = ("-Xmx64m", "-XX:TieredStopAtLevel=1", "-XX:+UseSerialGC")
+
+
+def start_java(name, *words):
+    """Starts a class of the package's tests."""
+    words = ["java", *SAVING, "-cp", os.environ["RB_BROKER_CLASSES"], f"rbbroker.client.{name}", *map(str, words)]
+    return start(words, stdin=subprocess.PIPE, encoding="ascii")
+
+
+class JavaWorker:
+    """A HostileWorker, with notes of its own."""
+
+    handler = "work"
+
+    def __init__(self, port, notes):
+        self.record = notes
+        open(notes, "ab").close()
+        self._process = start_java("HostileWorker", port, notes)
+
+    @property
+    def has_begun(self):
+        """Whether it has taken a job."""
+        return os.path.getsize(self.record) > 0
+
+    def kill(self):
+        self._process.kill()
+        self._process.communicate()
+
+    def stop(self):
+        """Ends it in good order. Gives its status."""
+        self._process.communicate(timeout=PATIENCE)
+        return self._process.returncode
+
+
+class JavaDayTest(test_hostile_day.HostileDayTest):
+    handlers, held = [JavaWorker.handler] * 3, 2
+    verifying = ["--all"]
+
+    def setUp(self):
+        super().setUp()
+        self.notes, self.proxy = [], None
+
+    @property
+    def port(self):
+        return self.proxy.port
+
+    def begin(self, calls):
+        super().begin(calls)
+        if self.proxy is None:
+            self.proxy = RecordingProxy(self.server.port, self.record("proxy"))
+            self.addCleanup(self.proxy.close)
+
+    def start_worker(self, _):
+        self.notes.append(f"{self.room}/notes-{len(self.notes)}")
+        return JavaWorker(self.port, self.notes[-1])
+
+    def produce(self):
+        with start_java("HostileProducer", self.port, test_hostile_day.JOBS) as producer:
+            for what, number in (it.split(" ") for it in producer.stdout):
+                {"offered": self.offered, "doubted": self.doubted}[what].append(int(number))
+        self.assertEqual(producer.returncode, 0)
+
+    async def produce_async(self):
+        """There is one way to offer."""
+
+    def told(self):
+        return noted_in(self.notes), noted_in(self.killed)
+
+
+def noted_in(paths):
+    """What workers noted, in the words of a record."""
+    told = defaultdict(list)
+    for path in paths:
+        with open(path, encoding="ascii") as notes:
+            for what, payload, attempt in (it.split(" ") for it in notes):
+                told[payload, int(attempt)].append(TOLD[what])
+    return told
