@@ -7,10 +7,9 @@ import java.nio.file.Files;
 import java.nio.file.Path;
 import java.security.GeneralSecurityException;
 import java.security.KeyStore;
+import java.security.cert.Certificate;
 import java.util.Base64;
-import java.util.List;
 import java.util.stream.Stream;
-import javax.net.ssl.KeyManager;
 import javax.net.ssl.KeyManagerFactory;
 import javax.net.ssl.SSLContext;
 import javax.net.ssl.TrustManagerFactory;
@@ -37,19 +36,31 @@ final class Certificates {
 
     /** A side that shows the certificate of this name, if it is not null, and trusts this authority. */
     SSLContext context(String name, String authority) throws GeneralSecurityException, IOException {
+        KeyStore own = empty();
+        if (name != null) {
+            own.setKeyEntry(name, store.getKey(name, PASSWORD), PASSWORD, store.getCertificateChain(name));
+        }
+        KeyManagerFactory keys = KeyManagerFactory.getInstance("PKIX");
+        keys.init(own, PASSWORD);
         KeyStore trusted = empty();
         trusted.setCertificateEntry(authority, store.getCertificate(authority));
         TrustManagerFactory trust = TrustManagerFactory.getInstance("PKIX");
         trust.init(trusted);
         SSLContext context = SSLContext.getInstance("TLS");
-        context.init(name == null ? null : keys(name), trust.getTrustManagers(), null);
+        context.init(keys.getKeyManagers(), trust.getTrustManagers(), null);
         return context;
+    }
+
+    /** The settings of a queue that shows the certificate of this name and trusts this authority. */
+    RemoteDelayQueue.Builder builder(int port, String name, String authority)
+            throws GeneralSecurityException, IOException {
+        return RemoteDelayQueue.builder(port, Acknowledge.BY_CALL).tls(context(name, authority).getSocketFactory());
     }
 
     /** A file with the certificate of this name and those of its authorities, and with its key if that is wanted. */
     Path pem(String name, boolean hasKey) throws Exception {
         StringBuilder text = new StringBuilder();
-        for (java.security.cert.Certificate it : store.getCertificateChain(name)) {
+        for (Certificate it : store.getCertificateChain(name)) {
             text.append(block("CERTIFICATE", it.getEncoded()));
         }
         if (hasKey) {
@@ -63,14 +74,6 @@ final class Certificates {
         return "-----BEGIN " + what + "-----\n" + text + "\n-----END " + what + "-----\n";
     }
 
-    private KeyManager[] keys(String name) throws GeneralSecurityException, IOException {
-        KeyStore own = empty();
-        own.setKeyEntry(name, store.getKey(name, PASSWORD), PASSWORD, store.getCertificateChain(name));
-        KeyManagerFactory keys = KeyManagerFactory.getInstance("PKIX");
-        keys.init(own, PASSWORD);
-        return keys.getKeyManagers();
-    }
-
     private static KeyStore empty() throws GeneralSecurityException, IOException {
         KeyStore empty = KeyStore.getInstance("PKCS12");
         empty.load(null, null);
@@ -79,9 +82,9 @@ final class Certificates {
 
     private void make(String name, String... options) throws Exception {
         String keytool = Path.of(System.getProperty("java.home"), "bin", "keytool").toString();
-        List<String> words = List.of(keytool, "-genkeypair", "-alias", name, "-dname", "CN=" + name, "-keyalg", "EC",
-            "-keystore", path().toString(), "-storetype", "PKCS12", "-storepass", "changeit");
-        Server.said(Stream.concat(words.stream(), Stream.of(options)));
+        Stream<String> words = Stream.of(keytool, "-genkeypair", "-alias", name, "-dname", "CN=" + name, "-keyalg",
+            "EC", "-keystore", path().toString(), "-storetype", "PKCS12", "-storepass", "changeit");
+        Server.said(Stream.concat(words, Stream.of(options)));
     }
 
     private Path path() {

@@ -4,11 +4,6 @@ import static java.util.concurrent.TimeUnit.DAYS;
 import static java.util.concurrent.TimeUnit.MILLISECONDS;
 import static java.util.concurrent.TimeUnit.NANOSECONDS;
 import static java.util.concurrent.TimeUnit.SECONDS;
-import static org.junit.Assert.assertEquals;
-import static org.junit.Assert.assertFalse;
-import static org.junit.Assert.assertNotEquals;
-import static org.junit.Assert.assertThrows;
-import static org.junit.Assert.assertTrue;
 
 import java.time.Duration;
 import java.util.List;
@@ -20,7 +15,7 @@ import org.junit.Test;
 import rbbroker.client.Request.Element;
 
 /** Jobs by themselves, and as a server's queue places them. */
-public class JobTest {
+public class JobTest extends QueueTest {
     private static Job shown(long id, long expiry, int attempt, ServerClock clock) {
         return new Job(new Element(id, expiry, attempt, "a"), new Contact(clock, Map.of()), false);
     }

@@ -3,9 +3,6 @@ package rbbroker.client;
 import static java.util.concurrent.TimeUnit.HOURS;
 import static java.util.concurrent.TimeUnit.MILLISECONDS;
 import static java.util.concurrent.TimeUnit.MINUTES;
-import static org.junit.Assert.assertEquals;
-import static org.junit.Assert.assertFalse;
-import static org.junit.Assert.assertTrue;
 
 import java.util.List;
 import java.util.Map;
@@ -22,7 +19,7 @@ public class LostRunTest extends QueueTest {
     private volatile long lasted;
 
     /** A server that accepts a job as element 5, counts once, and is lost. */
-    private void playFirst(ScriptedServer.Talk talk) throws Exception {
+    private void playFirst(FakeServer.Talk talk) throws Exception {
         long begun = System.nanoTime();
         talk.greet().accept(5, AHEAD).hear("SIZE");
         lasted = System.nanoTime() - begun;
@@ -33,12 +30,12 @@ public class LostRunTest extends QueueTest {
      * Whether the job is removed at a second server, whose clock is behind the first one's, and which gives this id to
      * what is offered to learn of that.
      */
-    private boolean removed(long id, LongSupplier behind, ScriptedServer.Script rest) throws Exception {
-        ScriptedServer.Script second = talk -> {
+    private boolean removed(long id, LongSupplier behind, FakeServer.Script rest) throws Exception {
+        FakeServer.Script second = talk -> {
             talk.greet().accept(id, AHEAD - behind.getAsLong()).hear("REMOVE " + id).say("REMOVED yes");
             rest.play(talk);
         };
-        try (ScriptedServer server = new ScriptedServer(this::playFirst, second)) {
+        try (FakeServer server = new FakeServer(this::playFirst, second)) {
             boolean isRemoved;
             try (RemoteDelayQueue queue = RemoteDelayQueue.builder(server.port(), Acknowledge.BY_CALL).build()) {
                 Job job = in(600_000, "a");
@@ -55,12 +52,12 @@ public class LostRunTest extends QueueTest {
     }
 
     private boolean isAsked(long id, LongSupplier behind) throws Exception {
-        ScriptedServer.Script asked = talk -> talk.hear("REMOVE 5").say("REMOVED yes").hearFarewell();
+        FakeServer.Script asked = talk -> talk.hear("REMOVE 5").say("REMOVED yes").hearFarewell();
         return removed(id, behind, asked);
     }
 
     private boolean isNotAsked(long id, LongSupplier behind) throws Exception {
-        return !removed(id, behind, ScriptedServer.Talk::hearFarewell);
+        return !removed(id, behind, FakeServer.Talk::hearFarewell);
     }
 
     @Test

@@ -2,29 +2,29 @@ package rbbroker.client;
 
 import static java.util.concurrent.TimeUnit.MILLISECONDS;
 import static java.util.concurrent.TimeUnit.MINUTES;
+import static java.util.concurrent.TimeUnit.SECONDS;
 
 import java.nio.file.Path;
 import java.util.ArrayDeque;
+import java.util.ArrayList;
 import java.util.Deque;
+import java.util.List;
 import java.util.concurrent.Callable;
 import java.util.concurrent.FutureTask;
 import org.junit.After;
+import org.junit.Assert;
 import org.junit.Rule;
 import org.junit.rules.TemporaryFolder;
 import org.junit.rules.Timeout;
 
 /** What tests share: a limit of their time, a folder, what is closed at their end, threads and jobs. */
-public abstract class QueueTest {
+public abstract class QueueTest extends Assert {
     @Rule
-    public final Timeout timeout = new Timeout(longestMinutes(), MINUTES);
+    public final Timeout timeout = new Timeout(3, MINUTES);
     @Rule
     public final TemporaryFolder folder = new TemporaryFolder();
 
     private final Deque<AutoCloseable> open = new ArrayDeque<>();
-
-    int longestMinutes() {
-        return 3;
-    }
 
     /** Closes what was opened, the last first. */
     @After
@@ -65,5 +65,14 @@ public abstract class QueueTest {
 
     static <T> Work<T> start(Callable<T> work) {
         return new Work<>(work);
+    }
+
+    /** What all of this gives, each within so many seconds. */
+    static <T> List<T> allOf(List<Work<T>> all, int seconds) throws Exception {
+        List<T> results = new ArrayList<>();
+        for (Work<T> it : all) {
+            results.add(it.get(seconds, SECONDS));
+        }
+        return results;
     }
 }

@@ -1,12 +1,6 @@
 package rbbroker.client;
 
 import static java.util.concurrent.TimeUnit.SECONDS;
-import static org.junit.Assert.assertEquals;
-import static org.junit.Assert.assertFalse;
-import static org.junit.Assert.assertNull;
-import static org.junit.Assert.assertSame;
-import static org.junit.Assert.assertThrows;
-import static org.junit.Assert.assertTrue;
 
 import java.time.Duration;
 import java.util.ArrayList;
@@ -16,7 +10,7 @@ import java.util.concurrent.CyclicBarrier;
 import java.util.function.Consumer;
 import java.util.function.IntFunction;
 import org.junit.Test;
-import rbbroker.client.ScriptedServer.Script;
+import rbbroker.client.FakeServer.Script;
 
 /** Servers that are lost, full, silent or wrong, as scripts of the protocol. */
 public class ScriptedTest extends QueueTest {
@@ -44,7 +38,7 @@ public class ScriptedTest extends QueueTest {
 
     private static void playTo(IntFunction<RemoteDelayQueue.Builder> settings, Play play, Script... scripts)
             throws Exception {
-        try (ScriptedServer server = new ScriptedServer(scripts);
+        try (FakeServer server = new FakeServer(scripts);
                 RemoteDelayQueue queue = settings.apply(server.port()).build()) {
             play.with(queue);
             server.finish();
@@ -77,7 +71,7 @@ public class ScriptedTest extends QueueTest {
 
     @Test
     public void nobodyListens() throws Exception {
-        ScriptedServer gone = new ScriptedServer();
+        FakeServer gone = new FakeServer();
         gone.close();
         try (RemoteDelayQueue queue = impatient(gone.port()).build()) {
             lost(false, () -> queue.offer(due("a")));
@@ -136,7 +130,7 @@ public class ScriptedTest extends QueueTest {
             assertEquals("a", queue.poll().payload());
             Thread.sleep(300); // since then the session is to end with the job that it holds
             assertNull(queue.poll());
-        }, talk -> talk.greet().hear("POLL").say("ITEM 4 0 1 a").hear("POLL").say("NONE"));
+        }, talk -> talk.give().hear("POLL").say("NONE"));
     }
 
     @Test
@@ -314,7 +308,7 @@ public class ScriptedTest extends QueueTest {
     @Test
     public void anAcknowledgementThatIsLostLosesNoJob() throws Exception {
         playTo(ScriptedTest::onTake, queue -> assertEquals("a", queue.poll().payload()),
-            talk -> talk.greet().hear("POLL").say("ITEM 4 0 1 a").hear("DONE 4"));
+            talk -> talk.give().hear("DONE 4"));
     }
 
     @Test
@@ -323,23 +317,23 @@ public class ScriptedTest extends QueueTest {
             Job job = queue.poll();
             lost(true, job::done);
             lost(false, job::done);
-        }, talk -> talk.greet().hear("POLL").say("ITEM 4 0 1 a").hear("DONE 4"));
+        }, talk -> talk.give().hear("DONE 4"));
         play(queue -> {
             Job job = queue.poll();
             Thread.sleep(200);
             lost(false, job::fail);
-        }, talk -> talk.greet().hear("POLL").say("ITEM 4 0 1 a"));
+        }, FakeServer.Talk::give);
     }
 
     @Test
     public void anAnswerThatServersDoNotGive() throws Exception {
         for (String reply : List.of("DONE 5", "DONE", "DEAD 4", "NONE")) {
             play(queue -> assertThrows(UnknownReplyException.class, queue.poll()::done),
-                talk -> talk.greet().hear("POLL").say("ITEM 4 0 1 a").hear("DONE 4").say(reply).hearNothing());
+                talk -> talk.give().hear("DONE 4").say(reply).hearNothing());
         }
         for (String reply : List.of("DEAD 5", "AGAIN 5", "AGAIN 18446744073709551616 5", "DONE 4")) {
             play(queue -> assertThrows(UnknownReplyException.class, queue.poll()::fail),
-                talk -> talk.greet().hear("POLL").say("ITEM 4 0 1 a").hear("FAIL 4").say(reply).hearNothing());
+                talk -> talk.give().hear("FAIL 4").say(reply).hearNothing());
         }
     }
 
@@ -364,8 +358,7 @@ public class ScriptedTest extends QueueTest {
             assertThrows(NoMemoryException.class, job::fail);
             assertTrue(job.fail());
             assertThrows(NotHeldException.class, job::fail);
-        }, talk -> talk.greet().hear("POLL").say("ITEM 4 0 1 a").hear("FAIL 4").say("ERR 7 memory").hear("FAIL 4")
-            .say("AGAIN 5 9"));
+        }, talk -> talk.give().hear("FAIL 4").say("ERR 7 memory").hear("FAIL 4").say("AGAIN 5 9"));
     }
 
     @Test
@@ -374,6 +367,6 @@ public class ScriptedTest extends QueueTest {
             Job job = queue.poll();
             assertThrows(FullException.class, job::fail);
             assertThrows(NotHeldException.class, job::done);
-        }, talk -> talk.greet().hear("POLL").say("ITEM 4 0 1 a").hear("FAIL 4").say("ERR 6 full").hearFarewell());
+        }, talk -> talk.give().hear("FAIL 4").say("ERR 6 full").hearFarewell());
     }
 }

@@ -4,18 +4,13 @@ import static java.nio.charset.StandardCharsets.US_ASCII;
 import static java.util.concurrent.TimeUnit.MILLISECONDS;
 import static java.util.concurrent.TimeUnit.NANOSECONDS;
 import static java.util.concurrent.TimeUnit.SECONDS;
-import static org.junit.Assert.assertEquals;
-import static org.junit.Assert.assertFalse;
-import static org.junit.Assert.assertNull;
-import static org.junit.Assert.assertSame;
-import static org.junit.Assert.assertThrows;
-import static org.junit.Assert.assertTrue;
 
 import java.io.BufferedReader;
 import java.io.InputStreamReader;
 import java.net.Socket;
 import java.time.Duration;
 import java.util.ArrayList;
+import java.util.Collections;
 import java.util.List;
 import java.util.stream.IntStream;
 import java.util.stream.Stream;
@@ -30,18 +25,20 @@ public class ServedTest extends QueueTest {
     private Server server;
     private boolean isToEnd;
 
-    /** Starts a server that ends in good order when the queues are closed, since they have used all of its sessions. */
-    private void serve(int workers, int sessions, Object... more) throws Exception {
+    /** Starts a server that ends in good order when its queues, of which this gives one, have used all its sessions. */
+    private RemoteDelayQueue serve(int workers, int sessions, Object... more) throws Exception {
         Object[] options = {"--workers", workers, "--sessions", sessions, "--history", path("history")};
         server = opened(Server.start(Stream.of(options, POLICY, more).flatMap(Stream::of).toArray()));
         isToEnd = true;
         opened(() -> assertEnded(0));
+        return byCall();
     }
 
-    /** Starts a server that ends in good order when the queues are closed and the rest of its sessions is used up. */
-    private void serveMore(int workers, int sessions, Object... more) throws Exception {
+    /** The same with a server whose queues leave some sessions, which are used up when they are closed. */
+    private RemoteDelayQueue serveMore(int workers, int sessions, Object... more) throws Exception {
         serve(workers, sessions, more);
         opened(() -> server.useUp());
+        return byCall();
     }
 
     /** Starts another server at the port of the one that has ended. */
@@ -99,8 +96,7 @@ public class ServedTest extends QueueTest {
 
     @Test
     public void aJobThatFailsComesBackUntilItsLastAttempt() throws Exception {
-        serve(2, 1);
-        RemoteDelayQueue queue = byCall();
+        RemoteDelayQueue queue = serve(2, 1);
         queue.offer(due("letter"));
         for (int attempt = 1; attempt <= 3; attempt++) {
             Job job = queue.take();
@@ -113,8 +109,7 @@ public class ServedTest extends QueueTest {
 
     @Test
     public void aJobIsAnsweredOnceByWhoeverHasIt() throws Exception {
-        serveMore(2, 2);
-        RemoteDelayQueue queue = byCall();
+        RemoteDelayQueue queue = serveMore(2, 2);
         Job offered = due("a");
         assertThrows(NotHeldException.class, offered::done);
         queue.offer(offered);
@@ -162,8 +157,7 @@ public class ServedTest extends QueueTest {
 
     @Test
     public void aJobThatWasTakenCanBeOfferedAgain() throws Exception {
-        serve(2, 1);
-        RemoteDelayQueue queue = byCall();
+        RemoteDelayQueue queue = serve(2, 1);
         queue.offer(due("a"));
         Job job = queue.take();
         long id = job.id();
@@ -214,8 +208,7 @@ public class ServedTest extends QueueTest {
 
     @Test
     public void momentsOf64Bits() throws Exception {
-        serve(2, 2);
-        RemoteDelayQueue queue = byCall();
+        RemoteDelayQueue queue = serve(2, 2);
         try (Socket socket = server.connect()) {
             BufferedReader lines = new BufferedReader(new InputStreamReader(socket.getInputStream(), US_ASCII));
             String offers = "OFFERAT 18446744073709551615 b\nOFFERAT 9223372036854775808 a\n";
@@ -239,8 +232,7 @@ public class ServedTest extends QueueTest {
 
     @Test
     public void theDelayOfAnothersJobIsThatOfTheServersClock() throws Exception {
-        serve(2, 2);
-        RemoteDelayQueue queue = byCall();
+        RemoteDelayQueue queue = serve(2, 2);
         Thread.sleep(500);
         Job offered = in(10_000, "a");
         byCall().offer(offered);
@@ -292,9 +284,7 @@ public class ServedTest extends QueueTest {
         List<Work<String>> taken = startTaking(queue, 8);
         assertNull(start(() -> queue.poll(300, MILLISECONDS)).get(30, SECONDS));
         offer(queue, 8);
-        for (Work<String> it : taken) {
-            assertEquals("a", it.get(30, SECONDS));
-        }
+        assertEquals(Collections.nCopies(8, "a"), allOf(taken, 30));
     }
 
     @Test
@@ -313,8 +303,7 @@ public class ServedTest extends QueueTest {
 
     @Test
     public void aThreadThatHoldsJobsNeedsOneWorkerOfTheServer() throws Exception {
-        serve(1, 1);
-        RemoteDelayQueue queue = byCall();
+        RemoteDelayQueue queue = serve(1, 1);
         offer(queue, 3);
         List<Job> jobs = List.of(queue.take(), queue.take(), queue.poll());
         assertEquals(0, queue.size());
@@ -323,14 +312,11 @@ public class ServedTest extends QueueTest {
 
     @Test
     public void aServerWithFewerWorkersThanThreads() throws Exception {
-        serveMore(1, 20);
-        RemoteDelayQueue queue = byCall();
+        RemoteDelayQueue queue = serveMore(1, 20);
         List<Work<String>> taken = startTaking(queue, 3);
         Thread.sleep(500);
         queue.addAll(List.of(due("a"), due("b"), due("c")));
-        for (Work<String> it : taken) {
-            assertTrue(List.of("a", "b", "c").contains(it.get(15, SECONDS)));
-        }
+        assertEquals(List.of("a", "b", "c"), allOf(taken, 15).stream().sorted().toList());
     }
 
     @Test
@@ -349,8 +335,7 @@ public class ServedTest extends QueueTest {
 
     @Test
     public void aQueueThatIsClosedWhileAThreadWaits() throws Exception {
-        serveMore(2, 2);
-        RemoteDelayQueue queue = byCall();
+        RemoteDelayQueue queue = serveMore(2, 2);
         Work<Throwable> wait = start(() -> assertThrows(Throwable.class, queue::take));
         Thread.sleep(300);
         queue.close();
@@ -423,8 +408,7 @@ public class ServedTest extends QueueTest {
 
     @Test
     public void aServerThatIsKilled() throws Exception {
-        serve(2, 2);
-        RemoteDelayQueue queue = byCall();
+        RemoteDelayQueue queue = serve(2, 2);
         offer(queue, 2);
         Job job = queue.take();
         server.kill();
@@ -439,8 +423,7 @@ public class ServedTest extends QueueTest {
 
     @Test
     public void aThreadThatWaitsWhileItsServerIsKilled() throws Exception {
-        serve(2, 2);
-        RemoteDelayQueue queue = byCall();
+        RemoteDelayQueue queue = serve(2, 2);
         Work<String> taken = start(() -> queue.take().payload());
         Thread.sleep(300);
         server.kill();
@@ -453,8 +436,7 @@ public class ServedTest extends QueueTest {
 
     @Test
     public void aJobOfALostRunIsNotTakenForAnothersJob() throws Exception {
-        serve(2, 50);
-        RemoteDelayQueue queue = byCall();
+        RemoteDelayQueue queue = serve(2, 50);
         RemoteDelayQueue stranger = byCall();
         Job job = in(600_000, "mine");
         queue.offer(job);

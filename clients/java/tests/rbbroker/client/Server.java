@@ -36,7 +36,7 @@ final class Server implements AutoCloseable {
     /** Starts a server with these options. */
     static Server start(Object... options) throws IOException {
         for (int tries = 0; tries < 20; tries++) {
-            Server server = startAt(ThreadLocalRandom.current().nextInt(23_000, 24_000), options);
+            Server server = startAt(ThreadLocalRandom.current().nextInt(22_500, 23_000), options);
             if (server != null) {
                 return server;
             }
@@ -100,12 +100,6 @@ final class Server implements AutoCloseable {
     /** Checks that a history is legal and its retries are right, by the program's own replay. Gives the audit line. */
     static String replay(Path history, Object... policy) throws Exception {
         return said(Stream.concat(Stream.of(PROGRAM, "replay", history, "--chains"), Stream.of(policy)));
-    }
-
-    /** What tools/verify says at last of a history and the record of all its clients. */
-    static String verify(Path history, Path record) throws Exception {
-        String said = said(Stream.of(System.getProperty("rbbroker.verify"), history, record, "--all"));
-        return said.substring(said.lastIndexOf('\n') + 1);
     }
 
     /** What a command says that succeeds. */

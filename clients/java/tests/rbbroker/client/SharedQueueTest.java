@@ -2,49 +2,32 @@ package rbbroker.client;
 
 import static java.util.concurrent.TimeUnit.MILLISECONDS;
 import static java.util.concurrent.TimeUnit.SECONDS;
-import static org.junit.Assert.assertEquals;
-import static org.junit.Assert.assertFalse;
-import static org.junit.Assert.assertNull;
-import static org.junit.Assert.assertThrows;
-import static org.junit.Assert.assertTrue;
 
 import java.util.ArrayList;
 import java.util.List;
 import java.util.Queue;
 import java.util.concurrent.Callable;
 import java.util.concurrent.ConcurrentLinkedQueue;
-import java.util.concurrent.ExecutorService;
-import java.util.concurrent.Executors;
-import java.util.concurrent.Future;
 import java.util.concurrent.ThreadLocalRandom;
 import java.util.stream.Stream;
-import org.junit.After;
 import org.junit.Test;
 
 /** Queues that several threads use: waits, interrupts, and that each element is given once. */
 public class SharedQueueTest extends EveryQueueTest {
     private static final String END = "end";
 
-    private final ExecutorService threads = Executors.newCachedThreadPool();
-
-    @After
-    public final void endThreads() throws InterruptedException {
-        threads.shutdownNow();
-        assertTrue(threads.awaitTermination(30, SECONDS));
-    }
-
-    private <T> Future<T> startAndWait(Callable<T> work) throws InterruptedException {
-        Future<T> future = threads.submit(work);
+    private static <T> Work<T> startAndWait(Callable<T> task) throws InterruptedException {
+        Work<T> work = start(task);
         Thread.sleep(300);
-        assertFalse(future.isDone());
-        return future;
+        assertFalse(work.isDone());
+        return work;
     }
 
     // Waits.
 
     @Test
     public void takeWaitsForAnElementThatIsOffered() throws Exception {
-        Future<String> taken = startAndWait(this::take);
+        Work<String> taken = startAndWait(this::take);
         queue.add(due("a"));
         assertEquals("a", taken.get(30, SECONDS));
     }
@@ -52,14 +35,14 @@ public class SharedQueueTest extends EveryQueueTest {
     @Test
     public void takeWaitsForAnElementThatExpires() throws Exception {
         queue.add(in(1_000, "a"));
-        Future<String> taken = startAndWait(this::take);
+        Work<String> taken = startAndWait(this::take);
         assertEquals("a", taken.get(30, SECONDS));
     }
 
     @Test
     public void takeIsWokenByAnElementThatExpiresEarlier() throws Exception {
         queue.add(in(FAR, "late"));
-        Future<String> taken = startAndWait(this::take);
+        Work<String> taken = startAndWait(this::take);
         queue.add(in(50, "early"));
         assertEquals("early", taken.get(30, SECONDS));
         assertEquals(1, queue.size());
@@ -68,7 +51,7 @@ public class SharedQueueTest extends EveryQueueTest {
     @Test
     public void aTimedPollWaitsForAnElementThatIsOffered() throws Exception {
         for (long timeout : List.of(60L, Long.MAX_VALUE)) {
-            Future<String> polled = startAndWait(() -> payload(queue.poll(timeout, SECONDS)));
+            Work<String> polled = startAndWait(() -> payload(queue.poll(timeout, SECONDS)));
             queue.add(due("a"));
             assertEquals("a", polled.get(30, SECONDS));
         }
@@ -76,34 +59,26 @@ public class SharedQueueTest extends EveryQueueTest {
 
     @Test
     public void eachWaitingThreadGetsAnElement() throws Exception {
-        List<Future<String>> taken = startTaking();
+        List<Work<String>> taken = startTaking();
         Thread.sleep(100);
         numbers(6).forEach(it -> queue.add(in(50, it)));
-        assertEquals(numbers(6), allOf(taken).stream().sorted().toList());
+        assertEquals(numbers(6), allOf(taken, 60).stream().sorted().toList());
     }
 
     @Test
     public void noOfferWaitsForThreadsThatWait() throws Exception {
-        List<Future<String>> taken = startTaking();
+        List<Work<String>> taken = startTaking();
         Thread.sleep(300);
-        assertTrue(taken.stream().noneMatch(Future::isDone));
+        assertTrue(taken.stream().noneMatch(Work::isDone));
         long begun = System.nanoTime();
         numbers(6).forEach(it -> queue.add(in(4_000, it)));
         assertTrue(System.nanoTime() - begun < SECONDS.toNanos(3));
-        allOf(taken);
+        allOf(taken, 60);
     }
 
     /** Has six threads take an element each. */
-    private List<Future<String>> startTaking() {
-        return Stream.generate(() -> threads.submit(this::take)).limit(6).toList();
-    }
-
-    private static <T> List<T> allOf(List<Future<T>> work) throws Exception {
-        List<T> results = new ArrayList<>();
-        for (Future<T> it : work) {
-            results.add(it.get(60, SECONDS));
-        }
-        return results;
+    private List<Work<String>> startTaking() {
+        return Stream.generate(() -> start(this::take)).limit(6).toList();
     }
 
     // Interrupts.
@@ -176,9 +151,7 @@ public class SharedQueueTest extends EveryQueueTest {
             Thread.sleep(1);
         }
         takers.forEach(it -> queue.add(in(200, END)));
-        for (Work<Void> it : takers) {
-            it.get(30, SECONDS);
-        }
+        allOf(takers, 30);
         assertEquals(numbers(count), got.stream().sorted().toList());
         assertTrue(queue.isEmpty());
     }
@@ -209,19 +182,22 @@ public class SharedQueueTest extends EveryQueueTest {
     @Test
     public void eachElementIsGivenToOneThread() throws Exception {
         Queue<Job> got = new ConcurrentLinkedQueue<>();
-        List<Future<Void>> consuming = new ArrayList<>();
-        List<Future<Void>> producing = new ArrayList<>();
+        List<Work<Void>> consuming = new ArrayList<>();
+        List<Work<Void>> producing = new ArrayList<>();
         for (int it = 0; it < 4; it++) {
             int kind = it;
-            consuming.add(threads.submit(() -> consume(kind, got)));
+            consuming.add(start(() -> consume(kind, got)));
         }
         for (int it = 0; it < 3; it++) {
             List<String> payloads = numbers(1_500).subList(500 * it, 500 * it + 500);
-            producing.add(threads.submit(() -> payloads.forEach(payload -> queue.add(in(random(20), payload))), null));
+            producing.add(start(() -> {
+                payloads.forEach(payload -> queue.add(in(random(20), payload)));
+                return null;
+            }));
         }
-        allOf(producing);
+        allOf(producing, 60);
         consuming.forEach(it -> queue.add(in(300, END)));
-        allOf(consuming);
+        allOf(consuming, 60);
         assertEquals(numbers(1_500), got.stream().map(Job::payload).sorted().toList());
         assertTrue(got.stream().allMatch(it -> it.attempt() == 1));
         assertTrue(queue.isEmpty());

@@ -1,19 +1,13 @@
 package rbbroker.client;
 
-import static org.junit.Assert.assertEquals;
-import static org.junit.Assert.assertThrows;
-import static org.junit.Assert.assertTrue;
-
 import java.io.IOException;
 import java.lang.ProcessBuilder.Redirect;
-import java.net.Socket;
 import java.nio.file.Files;
 import java.nio.file.Path;
 import java.util.Map;
 import java.util.concurrent.ThreadLocalRandom;
 import java.util.stream.Collectors;
 import java.util.stream.Stream;
-import javax.net.ssl.SSLContext;
 import org.junit.Test;
 
 /**
@@ -24,7 +18,7 @@ public class StunnelTest extends QueueTest {
     @Test
     public void aClientThatStunnelKnowsAndOthers() throws Exception {
         Certificates certificates = new Certificates(path(""));
-        int port = ThreadLocalRandom.current().nextInt(22_000, 23_000);
+        int port = ThreadLocalRandom.current().nextInt(22_000, 22_500);
         Server server = opened(Server.start("--sessions", 50));
         Path settings = Files.writeString(path("stunnel.conf"), "foreground = yes\npid =\n" + settingsOfThePage(Map.of(
             "accept = 7012", "accept = 127.0.0.1:" + port, "127.0.0.1:7011", "127.0.0.1:" + server.port(),
@@ -32,20 +26,15 @@ public class StunnelTest extends QueueTest {
             "/etc/stunnel/clients.pem", certificates.pem("client", false).toString())));
         Process stunnel = Server.run(Redirect.DISCARD, Stream.of(System.getProperty("rbbroker.stunnel"), settings));
         opened(() -> stunnel.destroyForcibly().waitFor());
-        RemoteDelayQueue queue = queue(port, certificates.context("client", "authority"));
-        RemoteDelayQueue stranger = queue(port, certificates.context("stranger", "authority"));
-        RemoteDelayQueue astray = queue(port, certificates.context("client", "stranger"));
-        awaitDoor(port);
-        queue.offer(due("a"));
+        RemoteDelayQueue queue = opened(certificates.builder(port, "client", "authority").build());
+        RemoteDelayQueue stranger = opened(certificates.builder(port, "stranger", "authority").build());
+        RemoteDelayQueue astray = opened(certificates.builder(port, "client", "stranger").build());
+        queue.offer(due("a")); // once stunnel listens
         Job job = queue.take();
         assertEquals("a", job.payload());
         job.done();
         assertThrows(TlsException.class, stranger::size);
         assertThrows(TlsException.class, astray::size);
-    }
-
-    private RemoteDelayQueue queue(int port, SSLContext side) {
-        return opened(RemoteDelayQueue.builder(port, Acknowledge.BY_CALL).tls(side.getSocketFactory()).build());
     }
 
     /** What the page shows, with these words in the place of its own. */
@@ -58,17 +47,5 @@ public class StunnelTest extends QueueTest {
             settings = settings.replace(it.getKey(), it.getValue());
         }
         return settings;
-    }
-
-    /** Waits until stunnel listens. */
-    private static void awaitDoor(int port) throws Exception {
-        for (int tries = 0; tries < 200; tries++) {
-            try {
-                new Socket("127.0.0.1", port).close();
-                return;
-            } catch (IOException notYet) {
-                Thread.sleep(50);
-            }
-        }
     }
 }

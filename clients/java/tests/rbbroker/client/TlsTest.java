@@ -1,16 +1,9 @@
 package rbbroker.client;
 
 import static java.util.concurrent.TimeUnit.SECONDS;
-import static org.junit.Assert.assertEquals;
-import static org.junit.Assert.assertFalse;
-import static org.junit.Assert.assertNull;
-import static org.junit.Assert.assertSame;
-import static org.junit.Assert.assertThrows;
-import static org.junit.Assert.assertTrue;
 
 import java.time.Duration;
 import java.util.List;
-import javax.net.ssl.SSLSocketFactory;
 import org.junit.BeforeClass;
 import org.junit.ClassRule;
 import org.junit.Test;
@@ -20,6 +13,8 @@ import org.junit.rules.TemporaryFolder;
 public class TlsTest extends QueueTest {
     @ClassRule
     public static final TemporaryFolder FOLDER = new TemporaryFolder();
+
+    private static final Duration PATIENCE = Duration.ofMinutes(1);
 
     private static Certificates certificates;
 
@@ -33,23 +28,15 @@ public class TlsTest extends QueueTest {
     }
 
     /** A proxy that shows this certificate and wants one of the authority's, in front of a server at this port. */
-    private TlsProxy proxy(String name, int port) throws Exception {
-        return opened(new TlsProxy(certificates.context(name, "authority"), port));
-    }
-
-    /** A queue that looks for this host, shows this certificate and trusts this authority. */
-    private RemoteDelayQueue queue(String host, int port, String name, String authority, int patience)
-            throws Exception {
-        SSLSocketFactory factory = certificates.context(name, authority).getSocketFactory();
-        return opened(RemoteDelayQueue.builder(port, Acknowledge.BY_CALL).host(host).tls(factory)
-            .patience(Duration.ofSeconds(patience)).build());
+    private FakeServer proxy(String name, int port) throws Exception {
+        return opened(FakeServer.before(port, certificates.context(name, "authority")));
     }
 
     private RemoteDelayQueue queue(int port, String name, String authority) throws Exception {
-        return queue("127.0.0.1", port, name, authority, 60);
+        return opened(certificates.builder(port, name, authority).patience(PATIENCE).build());
     }
 
-    private RemoteDelayQueue queue(TlsProxy proxy) throws Exception {
+    private RemoteDelayQueue queue(FakeServer proxy) throws Exception {
         return queue(proxy.port(), "client", "authority");
     }
 
@@ -60,7 +47,7 @@ public class TlsTest extends QueueTest {
         assertFalse(fault.isInDoubt());
         assertTrue(fault.getMessage(), fault.getMessage().matches("no server at [^ ]*: .*" + says + ".*"));
         assertThrows(TlsException.class, queue::take);
-        assertTrue(System.nanoTime() - begun < SECONDS.toNanos(40)); // less than its patience
+        assertTrue(System.nanoTime() - begun < PATIENCE.toNanos() * 2 / 3);
     }
 
     @Test
@@ -109,7 +96,8 @@ public class TlsTest extends QueueTest {
         int port = proxy("server", 1).port();
         assertRefused("unable to find valid certification path", queue(port, "client", "stranger"));
         assertRefused("validity check failed", queue(proxy("expired", 1)));
-        assertRefused("No (name matching|subject alternative).*", queue("localhost", port, "client", "authority", 60));
+        RemoteDelayQueue astray = opened(certificates.builder(port, "client", "authority").host("localhost").build());
+        assertRefused("No (name matching|subject alternative).*", astray);
     }
 
     @Test
@@ -121,15 +109,16 @@ public class TlsTest extends QueueTest {
 
     @Test
     public void aServerWithoutTls() throws Exception {
-        ScriptedServer.Script plain = talk -> talk.sayBytes("ERR 8 line\nERR 8 line\n").hearAll();
-        assertRefused("", queue(opened(new ScriptedServer(plain, plain)).port(), "client", "authority"));
+        FakeServer.Script plain = talk -> talk.sayBytes("ERR 8 line\nERR 8 line\n").hearAll();
+        assertRefused("", queue(opened(new FakeServer(plain, plain)).port(), "client", "authority"));
     }
 
     @Test
     public void nobodyListens() throws Exception {
-        TlsProxy proxy = proxy("server", 1);
+        FakeServer proxy = proxy("server", 1);
         proxy.close();
-        RemoteDelayQueue queue = queue("127.0.0.1", proxy.port(), "client", "authority", 1);
+        RemoteDelayQueue queue = opened(certificates.builder(proxy.port(), "client", "authority")
+            .patience(Duration.ofSeconds(1)).build());
         ServerLostException fault = assertThrows(ServerLostException.class, queue::size);
         assertSame(ServerLostException.class, fault.getClass());
         assertTrue(fault.getMessage(), fault.getMessage().contains("no server at 127.0.0.1:" + proxy.port()));

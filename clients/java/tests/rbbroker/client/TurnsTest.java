@@ -1,8 +1,6 @@
 package rbbroker.client;
 
 import static java.util.concurrent.TimeUnit.SECONDS;
-import static org.junit.Assert.assertEquals;
-import static org.junit.Assert.assertTrue;
 
 import java.time.Duration;
 import java.util.concurrent.CountDownLatch;
@@ -61,7 +59,7 @@ public class TurnsTest extends QueueTest {
     @Test
     public void aSessionEndsThoughItHoldsOneJobAfterTheOther() throws Exception {
         serve(4);
-        RecordingProxy proxy = opened(new RecordingProxy(server.port()));
+        FakeServer proxy = opened(FakeServer.before(server.port()));
         RemoteDelayQueue queue = queue(proxy.port(), 1, Duration.ofMillis(300));
         for (int it = 0; it < 100; it++) {
             queue.offer(due("a"));
@@ -107,7 +105,7 @@ public class TurnsTest extends QueueTest {
     @Test
     public void onlyTheFirstSessionIsShortWhereNobodyWaits() throws Exception {
         serve(2);
-        RecordingProxy proxy = opened(new RecordingProxy(server.port()));
+        FakeServer proxy = opened(FakeServer.before(server.port()));
         RemoteDelayQueue queue = queue(proxy.port(), 1, LONG);
         startWorking(queue, 5, new CountDownLatch(0));
         Thread.sleep(9_000);

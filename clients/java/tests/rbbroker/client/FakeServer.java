@@ -3,44 +3,72 @@ package rbbroker.client;
 import java.io.BufferedReader;
 import java.io.IOException;
 import java.io.InputStreamReader;
+import java.net.InetAddress;
 import java.net.ServerSocket;
 import java.net.Socket;
 import java.nio.charset.StandardCharsets;
 import java.util.List;
 import java.util.concurrent.CopyOnWriteArrayList;
+import java.util.concurrent.ThreadLocalRandom;
 import java.util.concurrent.TimeUnit;
+import java.util.stream.Stream;
 import javax.net.ServerSocketFactory;
+import javax.net.ssl.SSLContext;
+import javax.net.ssl.SSLSocket;
 
 /** A server that plays a script for each connection, in the order in which they come, and hangs up at its end. */
-final class ScriptedServer implements AutoCloseable {
+final class FakeServer implements AutoCloseable {
     /** What the server does in one session. */
     interface Script {
         void play(Talk talk) throws Exception;
     }
 
-    private final ServerSocket door = Proxy.openDoor(ServerSocketFactory.getDefault());
+    private final ServerSocket door;
     private final List<Socket> sockets = new CopyOnWriteArrayList<>();
+    private final List<QueueTest.Work<Void>> plays = new CopyOnWriteArrayList<>();
     private final QueueTest.Work<Void> playing;
 
-    ScriptedServer(Script... scripts) throws IOException {
+    FakeServer(Script... scripts) throws IOException {
+        this(ServerSocketFactory.getDefault(), List.of(scripts));
+    }
+
+    private FakeServer(ServerSocketFactory factory, Iterable<Script> scripts) throws IOException {
+        door = openDoor(factory);
         playing = QueueTest.start(() -> {
             for (Script script : scripts) {
-                try (Socket socket = door.accept()) {
-                    sockets.add(socket);
-                    script.play(new Talk(socket));
-                }
+                Socket socket = door.accept();
+                sockets.add(socket);
+                plays.add(QueueTest.start(() -> play(script, socket)));
             }
             return null;
         });
+    }
+
+    /** A server that passes on what its clients and the server at another port say, and knows the clients by TLS. */
+    static FakeServer before(int port, SSLContext side) throws IOException {
+        return new FakeServer(side.getServerSocketFactory(), passing(port));
+    }
+
+    /** A server that passes on what its clients and the server at another port say. */
+    static FakeServer before(int port) throws IOException {
+        return new FakeServer(ServerSocketFactory.getDefault(), passing(port));
     }
 
     int port() {
         return door.getLocalPort();
     }
 
+    /** How many sessions began. */
+    int sessions() {
+        return sockets.size();
+    }
+
     /** Waits until all scripts were played to their ends, and throws what went wrong in them. */
     void finish() throws Exception {
         playing.get(Server.PATIENCE, TimeUnit.SECONDS);
+        for (QueueTest.Work<Void> it : plays) {
+            it.get(Server.PATIENCE, TimeUnit.SECONDS);
+        }
     }
 
     @Override
@@ -51,6 +79,36 @@ final class ScriptedServer implements AutoCloseable {
         }
     }
 
+    /** Listens at a port that nobody else uses. */
+    private static ServerSocket openDoor(ServerSocketFactory factory) throws IOException {
+        for (int tries = 0; ; tries++) {
+            try {
+                int port = ThreadLocalRandom.current().nextInt(22_000, 22_500);
+                return factory.createServerSocket(port, 200, InetAddress.getLoopbackAddress());
+            } catch (IOException inUse) {
+                if (tries == 20) {
+                    throw inUse;
+                }
+            }
+        }
+    }
+
+    private static Iterable<Script> passing(int port) {
+        return () -> Stream.<Script>generate(() -> talk -> talk.passTo(port)).iterator();
+    }
+
+    private static Void play(Script script, Socket socket) throws Exception {
+        try (socket) {
+            socket.setTcpNoDelay(true);
+            if (socket instanceof SSLSocket tls) {
+                tls.setNeedClientAuth(true);
+                tls.startHandshake();
+            }
+            script.play(new Talk(socket));
+        }
+        return null;
+    }
+
     /** One session, from the server's side. */
     static final class Talk {
         private final Socket socket;
@@ -58,13 +116,32 @@ final class ScriptedServer implements AutoCloseable {
 
         private Talk(Socket socket) throws IOException {
             this.socket = socket;
-            socket.setTcpNoDelay(true);
             lines = new BufferedReader(new InputStreamReader(socket.getInputStream(), StandardCharsets.US_ASCII));
+        }
+
+        /** Passes on what the client and the server at another port say, until one of them ends. */
+        void passTo(int port) throws IOException {
+            try (Socket server = new Socket(InetAddress.getLoopbackAddress(), port)) {
+                if (server.getLocalPort() != port) { // else nobody listens, and it found itself
+                    server.setTcpNoDelay(true);
+                    QueueTest.start(() -> {
+                        try (socket; server) { // it ends with what the client asks
+                            return socket.getInputStream().transferTo(server.getOutputStream());
+                        }
+                    });
+                    server.getInputStream().transferTo(socket.getOutputStream());
+                }
+            }
         }
 
         /** Answers the request by which a client learns that it is served. */
         Talk greet() throws IOException {
             return hear("AT 0").say("ERR 1 syntax");
+        }
+
+        /** Gives the element 4 to the first request, a poll. */
+        Talk give() throws IOException {
+            return greet().hear("POLL").say("ITEM 4 0 1 a");
         }
 
         /** Expects a line that begins so. */
