@@ -1,7 +1,9 @@
 """A server that plays a script, for what the real one does rarely or at no stated moment."""
 import contextlib
 import logging
+import os
 import socket
+import tempfile
 import threading
 import unittest
 
@@ -126,6 +128,16 @@ class ScriptedTest(unittest.TestCase):
         for it in threads:
             it.join(PATIENCE)
             self.assertFalse(it.is_alive())
+
+
+class FileTest(ScriptedTest):
+    """A test with a file of its own, at `path`."""
+
+    def setUp(self):
+        room = tempfile.TemporaryDirectory()
+        self.addCleanup(room.cleanup)
+        self.path = os.path.join(room.name, "file.jsonl")
+        super().setUp()
 
 
 def free_port():

@@ -2,10 +2,8 @@
 import asyncio
 import functools
 import json
-import os
-import tempfile
 
-from scripted import GOODBYE, GREETING, HANGS_UP, PATIENCE, ScriptedTest, free_port
+from scripted import GOODBYE, GREETING, HANGS_UP, PATIENCE, FileTest, free_port
 from test_command import run
 from test_worker import POLL, WorkerCase
 from rb_broker_client import AsyncProducer, AsyncWorker, DeadLetters, Job, Producer, Report
@@ -13,13 +11,7 @@ from rb_broker_client import AsyncProducer, AsyncWorker, DeadLetters, Job, Produ
 BAD = (POLL, "ITEM 2 1000 3 b"), ("FAIL 2", "DEAD 2")
 
 
-class FileCase(ScriptedTest):
-    def setUp(self):
-        room = tempfile.TemporaryDirectory()
-        self.addCleanup(room.cleanup)
-        self.path = os.path.join(room.name, "dead.jsonl")
-        super().setUp()
-
+class FileCase(FileTest):
     def keep(self, *payloads):
         letters = DeadLetters(self.path)
         for id, payload in enumerate(payloads):

@@ -2,25 +2,17 @@
 import functools
 import io
 import json
-import os
-import tempfile
 import time
 
 from from_threads import for_both_kinds
-from scripted import GOODBYE, GREETING, HANGS_UP, NOTHING, PATIENCE, SAYS_NOTHING, ScriptedTest
+from scripted import GOODBYE, GREETING, HANGS_UP, NOTHING, PATIENCE, SAYS_NOTHING, FileTest
 from rb_broker_client import Broker, Offered, Pauses, Producer, Report, Request, UnknownReplyError, Worker
 
 OFFER = "OFFER 5 a"
 
 
-class RecordCase(ScriptedTest):
+class RecordCase(FileTest):
     """Tests whose records go to a file."""
-
-    def setUp(self):
-        room = tempfile.TemporaryDirectory()
-        self.addCleanup(room.cleanup)
-        self.path = os.path.join(room.name, "record")
-        super().setUp()
 
     def lines(self):
         """The lines of the record, which have the keys that they must have."""
