@@ -6,6 +6,7 @@ import ctypes
 import os
 import shutil
 import signal
+import sys
 import tempfile
 import time
 from types import FrameType
@@ -75,14 +76,15 @@ def leaving_nothing() -> Iterator[str]:
         yield room
 
 
-def status_of(command: Callable[[str], int]) -> int:
-    """Runs a command with a folder for temporary files, of which it leaves nothing. Returns its exit status, or that of
-    a signal that broke it off."""
+def status_of(name: str, command: Callable[[str], int]) -> int:
+    """Runs the command of this name with a folder for temporary files, of which it leaves nothing. Returns its exit
+    status, or that of a signal that broke it off."""
     try:
         with leaving_nothing() as room:
             return command(room)
-    except Interrupted as interrupted:
-        return interrupted.status
+    except KeyboardInterrupt as interrupted:  # a test may have handlers of its own
+        print(f"{name}: it was broken off", file=sys.stderr)
+        return interrupted.status if isinstance(interrupted, Interrupted) else 128 + signal.SIGINT
 
 
 def descendants(others: Collection[int] = ()) -> Set[int]:
