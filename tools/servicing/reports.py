@@ -20,7 +20,12 @@ MOST_SECONDS, TIMED_OUT = 300.0, 124  # and the status of `timeout` behind them
 NICENESS = 15  # the server and its clients come first
 
 HTML = "text/html; charset=utf-8"
-MAKING = "the report on this run, or another one, is being made; this page asks again every two seconds"
+# It names an icon, or a browser would ask for one.
+MAKING = """<!DOCTYPE html>
+<html lang="en"><head><meta charset="utf-8"><meta name="viewport" content="width=device-width, initial-scale=1">
+<meta name="color-scheme" content="light dark"><link rel="icon" href="data:,"><title>run {0}: report</title></head>
+<body><p>The report on run {0} is being made. This page asks again every two seconds.</p></body></html>
+"""
 
 
 class Reports:
@@ -44,7 +49,7 @@ class Reports:
         if answer is None:
             if self._process is None:
                 self._begin(run, settings)
-            return Answer.line(HTTPStatus.ACCEPTED, MAKING, ("Refresh", "2"))
+            return Answer(HTTPStatus.ACCEPTED, HTML, MAKING.format(run.number).encode(), (("Refresh", "2"),))
         if answer.status is HTTPStatus.OK:
             self._kept[run.id] = answer
         return answer
