@@ -168,6 +168,8 @@ class Current:
                 now = time.monotonic()
                 self._see(self.looks.see)
                 self.is_crowded |= self.looks.count > self._settings.workers
+                if self.is_crowded:
+                    self.looks.own.drop()  # a client needs the worker, and its calls tell when the run ended
                 if not self.looks.ports:
                     self.looks.own.last_call()
                 seconds = time.monotonic() - self._end_began  # by now: a look may take long on a busy machine
