@@ -26,9 +26,13 @@ class Gateway(Process):
         super().__init__([*map(str, words)], folder / f"gateway-{self.port}.log", environment)
         self.start()
 
+    @property
+    def listens(self) -> bool:
+        return self.is_alive and "listening " in self.said
+
     def wait(self) -> Gateway:
         """Waits until it listens."""
-        wait_until(lambda: "listening " in self.said or not self.is_alive, f"no gateway listens at {self.port}")
+        wait_until(lambda: self.listens or not self.is_alive, f"no gateway listens at {self.port}")
         if not self.is_alive:
             raise AssertionError(self.said)
         return self

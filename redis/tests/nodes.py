@@ -10,8 +10,9 @@ import signal
 import socket
 import subprocess
 import time
+from collections import deque
 from pathlib import Path
-from typing import Any, Callable, Dict, Optional, Sequence
+from typing import Any, Callable, Deque, Dict, Optional, Sequence
 
 import redis
 
@@ -19,6 +20,7 @@ from serving import HOST
 
 PORTS = range(*map(int, os.environ.get("RB_BROKER_PORTS", "26000-27000").split("-")))
 """Of this process alone. A node of a Cluster also has the port that is 10,000 above its own."""
+_given: Deque[int] = deque(maxlen=10)  # the ports that were given last
 PATIENCE = 180  # seconds that anything may take, on a busy machine
 
 ALWAYS = ("--appendonly", "yes", "--appendfsync", "always")
@@ -31,9 +33,10 @@ class NotReady(Exception):
 
 
 def free_port() -> int:
-    """A port at which nobody listens, nor at the one that belongs to it in a Cluster."""
+    """A port at which nobody listens, nor at the one that belongs to it in a Cluster, and nobody is just to begin."""
     while True:
-        port = random.choice(PORTS)
+        port = random.choice([it for it in PORTS if it not in _given])
+        _given.append(port)
         with contextlib.suppress(OSError), socket.socket() as one, socket.socket() as other:
             one.bind((HOST, port))
             other.bind((HOST, port + 10_000))
@@ -178,11 +181,8 @@ class Sentinels(Nodes):
 
     def __init__(self, folder: Path, watched: Replicas, name: str = "main") -> None:
         self.name, self.watched, self.nodes = name, watched, []
-        ports = set()
-        while len(ports) < 3:  # nobody listens at them yet, so the same one may be found again
-            ports.add(free_port())
-        self.ports = list(ports)
-        self.url = f"redis+sentinel://{','.join(f'{HOST}:{it}' for it in ports)}/{name}"
+        self.ports = [free_port() for _ in range(3)]
+        self.url = f"redis+sentinel://{','.join(f'{HOST}:{it}' for it in self.ports)}/{name}"
         for port in self.ports:
             place = folder / f"sentinel-{port}"
             place.mkdir(parents=True)

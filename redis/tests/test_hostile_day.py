@@ -93,11 +93,9 @@ class Day(RoomTest):
                 killed.kill()
                 killed.start()
         self.took = time.monotonic() - began
-        self.start_what_has_ended()
         for pause in self.pauses:
             pause.join()
-        for it in self.gateways:
-            it.wait()
+        wait_until(self.all_listen, "the gateways do not listen")
         wait_until(self.is_empty, "the jobs are not done in time", PATIENCE)
 
     def let_lease_pass(self, gateway: Gateway) -> None:
@@ -112,6 +110,11 @@ class Day(RoomTest):
         for it in self.gateways:
             if not it.is_alive:
                 it.start()
+
+    def all_listen(self) -> bool:
+        """Whether all gateways do. One may have begun when the Redis was killed."""
+        self.start_what_has_ended()
+        return all(it.listens for it in self.gateways)
 
     def kill_worker(self) -> None:
         """Kills a worker that has had work, and starts another of its kind."""
