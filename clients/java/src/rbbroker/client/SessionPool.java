@@ -159,22 +159,17 @@ final class SessionPool {
                 TimeUnit.NANOSECONDS.timedWait(this, left);
             } else {
                 calling++;
-                awaitChange();
+                Connection.awaitChange(this, LOOK_AGAIN);
                 calling--;
             }
         }
-    }
-
-    /** Waits for a change, but not for long. An interrupt is put off. */
-    private void awaitChange() {
-        Connection.awaitChange(this, LOOK_AGAIN);
     }
 
     /** Waits until nobody uses this session. Who waits for it comes before others. Gives whether it goes on. */
     private boolean await(Session session) {
         session.answering++;
         while (session.use != null && !session.isClosed) {
-            awaitChange();
+            Connection.awaitChange(this, LOOK_AGAIN);
         }
         session.answering--;
         forgetLost(it -> it == session);
