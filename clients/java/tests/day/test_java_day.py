@@ -41,7 +41,7 @@ class JavaWorker:
         self._process.communicate()
 
     def stop(self):
-        """Ends it in good order. Gives its status."""
+        """Ends it in good order. Returns its status."""
         self._process.communicate(timeout=PATIENCE)
         return self._process.returncode
 

@@ -92,12 +92,12 @@ final class Calls {
         return isKnown;
     }
 
-    /** Takes a job that has expired, or gives null if there is none. */
+    /** Takes a job that has expired, or returns null if there is none. */
     Job poll() {
         return unlessClosed(make(Use.TAKE, session -> taken(session, session.ask(Request.POLL))));
     }
 
-    /** Takes a job, and waits for one up to {@code timeout}. Gives null if none expired by then. */
+    /** Takes a job, and waits for one up to {@code timeout}. Returns null if none expired by then. */
     Job poll(long timeout) throws InterruptedException {
         long deadline = System.nanoTime() + Math.max(0, timeout);
         Tries tries = new Tries(Use.WAIT, options.patience());
@@ -120,7 +120,7 @@ final class Calls {
         }
     }
 
-    /** Takes up to {@code most} jobs that have expired, and adds them to a collection. Gives how many. */
+    /** Takes up to {@code most} jobs that have expired, and adds them to a collection. Returns how many. */
     int drainTo(Collection<? super Job> jobs, int most) {
         int count = 0;
         while (count < most) {
@@ -270,7 +270,7 @@ final class Calls {
         return false;
     }
 
-    /** Answers a job on the session that holds it. Gives whether it comes back. */
+    /** Answers a job on the session that holds it. Returns whether it comes back. */
     private boolean answer(Session session, long id, boolean isDone) {
         pool.lend(session, id);
         try {

@@ -73,7 +73,7 @@ final class Connection implements Closeable {
         }
     }
 
-    /** Waits until a line is here, or none comes any more. Gives whether that is so. */
+    /** Waits until a line is here, or none comes any more. Returns false if neither is so in time. */
     synchronized boolean awaitLine(long nanos) {
         long until = System.nanoTime() + nanos;
         for (long left = nanos; lines.isEmpty() && fault == null && left > 0; left = until - System.nanoTime()) {

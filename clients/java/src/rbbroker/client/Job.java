@@ -45,7 +45,7 @@ public final class Job implements Delayed {
         }
     }
 
-    /** What answers a job that was taken: that it is done, or failed. Gives whether it comes back. */
+    /** What answers a job that was taken: that it is done, or failed. Returns whether it comes back. */
     interface Holding {
         boolean answer(boolean isDone);
     }
@@ -217,7 +217,7 @@ public final class Job implements Delayed {
         return this;
     }
 
-    /** Takes it out of the queue of these calls. Gives whether it was there. */
+    /** Takes it out of the queue of these calls. Returns whether it was there. */
     boolean remove(Calls calls) {
         Place here = place;
         return here.hasContact() && calls.remove(here.element.id(), here.contact);

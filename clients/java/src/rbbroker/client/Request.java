@@ -29,9 +29,9 @@ record Request<T>(String line, long longestWait, Pattern form, Reader<T> reader)
 
     /** Of no effect and no call: the {@code AT} that a server refuses. Its reply tells that the session is served. */
     static final Request<Long> GREETING = of("AT 0", form("ERR 1 syntax|NOW #"), it -> number(it, 1));
-    /** Takes a job that has expired, or gives null. */
+    /** Takes a job that has expired, or returns null. */
     static final Request<Element> POLL = of("POLL", form("ITEM @|NONE"), Request::element);
-    /** Shows the head, or gives null. */
+    /** Shows the head, or returns null. */
     static final Request<Element> PEEK = of("PEEK", form("HEAD @|NONE"), Request::element);
     /** Takes all elements out of the queue. */
     static final Request<Void> CLEAR = of("CLEAR", form("CLEARED"), it -> null);
@@ -81,18 +81,18 @@ record Request<T>(String line, long longestWait, Pattern form, Reader<T> reader)
         });
     }
 
-    /** Finishes the job that is held under this id. Gives null, as it does not come back. */
+    /** Finishes the job that is held under this id. Returns null, as it does not come back. */
     static Request<Placed> done(long id) {
         return of("DONE " + Long.toUnsignedString(id), DONE, it -> gone(it, 1, id));
     }
 
-    /** Fails the job that is held under this id. Gives null if it does not come back. */
+    /** Fails the job that is held under this id. Returns null if it does not come back. */
     static Request<Placed> fail(long id) {
         return of("FAIL " + Long.toUnsignedString(id), FAILED,
             it -> it.group(1) == null ? gone(it, 3, id) : placed(it));
     }
 
-    /** Takes the element of this id out of the queue. Gives whether it was there. */
+    /** Takes the element of this id out of the queue. Returns whether it was there. */
     static Request<Boolean> remove(long id) {
         return of("REMOVE " + Long.toUnsignedString(id), REMOVED, it -> it.group(1).equals("yes"));
     }

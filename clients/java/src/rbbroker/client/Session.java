@@ -171,7 +171,7 @@ final class Session {
         return isClosed;
     }
 
-    /** It lasts no longer than a turn, since others may wait for a worker of the server. Gives whether that is less. */
+    /** It lasts a turn at most, since others may wait for a worker of the server. Returns whether that is less. */
     boolean makeWay() {
         boolean isLess = longest > LONGEST_TURN;
         longest = Math.min(longest, LONGEST_TURN);

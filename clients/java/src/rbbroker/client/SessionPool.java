@@ -66,7 +66,7 @@ final class SessionPool {
         }
     }
 
-    /** Lends a session for a use, or gives null if none can be had for so long. An interrupt ends a call that waits. */
+    /** Lends a session, or returns null if none can be had in this time. An interrupt ends a call that waits. */
     Session lend(Use use, long nanos) throws InterruptedException {
         long deadline = System.nanoTime() + nanos;
         while (true) {
@@ -141,7 +141,7 @@ final class SessionPool {
         }
     }
 
-    /** Lends a session that is served or to be opened, or gives null if there is none until then. */
+    /** Lends a session that is served or to be opened, or returns null if there is none until then. */
     private synchronized Session find(Use use, long deadline) throws InterruptedException {
         while (true) {
             if (isClosed) {
@@ -165,7 +165,7 @@ final class SessionPool {
         }
     }
 
-    /** Waits until nobody uses this session. Who waits for it comes before others. Gives whether it goes on. */
+    /** Waits until nobody uses this session. Who waits for it comes before others. Returns whether it goes on. */
     private boolean await(Session session) {
         session.answering++;
         while (session.use != null && !session.isClosed) {
@@ -235,7 +235,7 @@ final class SessionPool {
         return sessions.stream().anyMatch(Session::isServed);
     }
 
-    /** Opens a session. Gives whether it is served: if not, others are, or the queue was closed meanwhile. */
+    /** Opens a session. Returns whether it is served: if not, others are, or the queue was closed meanwhile. */
     private boolean open(Session session) throws InterruptedException {
         long begun = System.nanoTime();
         try {
@@ -258,7 +258,7 @@ final class SessionPool {
         return !isClosed && (!hasServed() || System.nanoTime() - begun < options.longestWait());
     }
 
-    /** The server serves no further session. Gives whether there are others, which have to do for a while. */
+    /** The server serves no further session. Returns whether there are others, which have to do for a while. */
     private synchronized boolean makesDo() {
         if (isClosed || !hasServed()) {
             return isClosed;

@@ -70,12 +70,12 @@ public abstract class EveryQueueTest extends QueueTest {
         }
     }
 
-    /** Takes an element. Gives its payload. */
+    /** Takes an element. Returns its payload. */
     final String take() throws InterruptedException {
         return payload(queue.take());
     }
 
-    /** Takes this many elements. Gives their payloads, in the order in which they came. */
+    /** Takes this many elements. Returns their payloads, in the order in which they came. */
     final List<String> takeAll(int count) throws InterruptedException {
         List<String> payloads = new ArrayList<>();
         while (payloads.size() < count) {

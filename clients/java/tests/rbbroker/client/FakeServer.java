@@ -139,7 +139,7 @@ final class FakeServer implements AutoCloseable {
             return hear("AT 0").say("ERR 1 syntax");
         }
 
-        /** Gives the element 4 to the first request, a poll. */
+        /** Answers the first request, a poll, with the element 4. */
         Talk give() throws IOException {
             return greet().hear("POLL").say("ITEM 4 0 1 a");
         }
@@ -204,7 +204,7 @@ final class FakeServer implements AutoCloseable {
             socket.setSoLinger(true, 0);
         }
 
-        /** Expects a line that begins so. Gives the rest. */
+        /** Expects a line that begins so. Returns the rest. */
         private String heard(String begin) throws IOException {
             String line = lines.readLine();
             if (line == null || !line.startsWith(begin)) {

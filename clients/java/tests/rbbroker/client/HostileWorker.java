@@ -62,7 +62,7 @@ public final class HostileWorker {
         }
     }
 
-    /** Does a job or fails it. Gives what became of that. */
+    /** Does a job or fails it. Returns what became of that. */
     private static String answer(Job job) {
         try {
             if (isToFail(job.payload(), job.attempt())) {

@@ -67,7 +67,7 @@ public abstract class QueueTest extends Assert {
         return new Work<>(work);
     }
 
-    /** What all of this gives, each within so many seconds. */
+    /** The results of all of this, each of which comes within these seconds. */
     static <T> List<T> allOf(List<Work<T>> all, int seconds) throws Exception {
         List<T> results = new ArrayList<>();
         for (Work<T> it : all) {

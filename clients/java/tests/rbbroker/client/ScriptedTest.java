@@ -51,7 +51,7 @@ public class ScriptedTest extends QueueTest {
         return fault;
     }
 
-    /** Has a thread take a job in vain. Gives what it throws. */
+    /** Has a thread take a job in vain. Returns what it throws. */
     private static Work<Throwable> startInVain(RemoteDelayQueue queue) {
         return start(() -> assertThrows(Throwable.class, queue::take));
     }

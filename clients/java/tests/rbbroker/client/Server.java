@@ -44,7 +44,7 @@ final class Server implements AutoCloseable {
         throw new IOException("no server could be started");
     }
 
-    /** Starts a server with these options at this port, or gives null if it does not start. */
+    /** Starts a server with these options at this port, or returns null if it does not start. */
     static Server startAt(int port, Object... options) throws IOException {
         Server server = new Server(port, options);
         if (("listening 127.0.0.1:" + port).equals(server.output.readLine())) {
@@ -80,7 +80,7 @@ final class Server implements AutoCloseable {
         throw new IOException("the server listens on and on");
     }
 
-    /** Waits until it ends with status 0. Gives the two lines that it writes then: its counts and its audit. */
+    /** Waits until it ends with status 0. Returns the two lines that it writes then: its counts and its audit. */
     List<String> end() throws Exception {
         assertTrue("the server goes on", process.waitFor(PATIENCE, TimeUnit.SECONDS));
         assertEquals(0, process.exitValue());
@@ -97,7 +97,7 @@ final class Server implements AutoCloseable {
         kill();
     }
 
-    /** Checks that a history is legal and its retries are right, by the program's own replay. Gives the audit line. */
+    /** Checks that a history is legal and its retries right, by the program's own replay. Returns the audit line. */
     static String replay(Path history, Object... policy) throws Exception {
         return said(Stream.concat(Stream.of(PROGRAM, "replay", history, "--chains"), Stream.of(policy)));
     }

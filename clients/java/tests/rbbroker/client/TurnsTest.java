@@ -22,7 +22,7 @@ public class TurnsTest extends QueueTest {
             .longestSession(longestSession).patience(Duration.ofMinutes(2)).build());
     }
 
-    /** Has a thread do jobs until the queue is closed, each in so many milliseconds. */
+    /** Has a thread do jobs until the queue is closed, which take this many milliseconds each. */
     private static void startWorking(RemoteDelayQueue queue, int millis, CountDownLatch done) {
         start(() -> {
             while (true) {
