@@ -16,6 +16,8 @@ import org.junit.Test;
 public class SharedQueueTest extends EveryQueueTest {
     private static final String END = "end";
 
+    private final Queue<Job> got = new ConcurrentLinkedQueue<>();
+
     private static <T> Work<T> startAndWait(Callable<T> task) throws InterruptedException {
         Work<T> work = start(task);
         Thread.sleep(300);
@@ -141,53 +143,23 @@ public class SharedQueueTest extends EveryQueueTest {
 
     @Test
     public void noElementIsLostByInterrupts() throws Exception {
-        int count = 400;
-        Queue<String> got = new ConcurrentLinkedQueue<>();
-        List<Work<Void>> takers = Stream.of(true, false, true, false)
-            .map(isTimed -> start(() -> takeInSpiteOfInterrupts(got, isTimed))).toList();
-        for (String it : numbers(count)) {
+        Callable<Job> polls = () -> queue.poll(5, MILLISECONDS);
+        List<Work<Void>> takers = startTaking(List.of(polls, queue::take, polls, queue::take));
+        for (String it : numbers(400)) {
             queue.add(in(random(30), it));
             takers.get(random(takers.size())).thread.interrupt();
             Thread.sleep(1);
         }
-        takers.forEach(it -> queue.add(in(200, END)));
-        allOf(takers, 30);
-        assertEquals(numbers(count), got.stream().sorted().toList());
-        assertTrue(queue.isEmpty());
-    }
-
-    private static int random(int bound) {
-        return ThreadLocalRandom.current().nextInt(bound);
-    }
-
-    private Void takeInSpiteOfInterrupts(Queue<String> got, boolean isTimed) {
-        while (true) {
-            try {
-                Job job = isTimed ? queue.poll(5, MILLISECONDS) : queue.take();
-                String payload = payload(job);
-                if (END.equals(payload)) {
-                    return null;
-                }
-                if (payload != null) {
-                    got.add(payload + (job.attempt() == 1 ? "" : " again"));
-                }
-            } catch (InterruptedException interrupt) {
-                continue;
-            }
-        }
+        assertGivenOnce(400, takers);
     }
 
     // Many threads.
 
     @Test
     public void eachElementIsGivenToOneThread() throws Exception {
-        Queue<Job> got = new ConcurrentLinkedQueue<>();
-        List<Work<Void>> consuming = new ArrayList<>();
+        List<Work<Void>> takers = startTaking(
+            List.of(queue::take, this::drainOne, queue::poll, () -> queue.poll(7, MILLISECONDS)));
         List<Work<Void>> producing = new ArrayList<>();
-        for (int it = 0; it < 4; it++) {
-            int kind = it;
-            consuming.add(start(() -> consume(kind, got)));
-        }
         for (int it = 0; it < 3; it++) {
             List<String> payloads = numbers(1_500).subList(500 * it, 500 * it + 500);
             producing.add(start(() -> {
@@ -196,33 +168,50 @@ public class SharedQueueTest extends EveryQueueTest {
             }));
         }
         allOf(producing, 60);
-        consuming.forEach(it -> queue.add(in(300, END)));
-        allOf(consuming, 60);
-        assertEquals(numbers(1_500), got.stream().map(Job::payload).sorted().toList());
-        assertTrue(got.stream().allMatch(it -> it.attempt() == 1));
-        assertTrue(queue.isEmpty());
+        assertGivenOnce(1_500, takers);
     }
 
-    /** Takes elements in one of four ways, until one is an end. Leaves the ends of others alone. */
-    private Void consume(int kind, Queue<Job> got) throws InterruptedException {
+    private static int random(int bound) {
+        return ThreadLocalRandom.current().nextInt(bound);
+    }
+
+    private Job drainOne() {
+        List<Job> jobs = new ArrayList<>();
+        queue.drainTo(jobs, 1);
+        return jobs.isEmpty() ? null : jobs.get(0);
+    }
+
+    /** Has threads take elements, each in one of these ways. */
+    private List<Work<Void>> startTaking(List<Callable<Job>> ways) {
+        return ways.stream().map(way -> start(() -> takeUntilEnd(way))).toList();
+    }
+
+    /** Takes elements until one is an end, in spite of interrupts. Leaves the ends of others alone. */
+    private Void takeUntilEnd(Callable<Job> way) throws Exception {
         while (true) {
-            List<Job> jobs = new ArrayList<>();
-            switch (kind) {
-                case 0 -> jobs.add(queue.take());
-                case 1 -> queue.drainTo(jobs, 1);
-                case 2 -> jobs.add(queue.poll());
-                default -> jobs.add(queue.poll(7, MILLISECONDS));
-            }
-            Job job = jobs.isEmpty() ? null : jobs.get(0);
-            String payload = payload(job);
-            if (END.equals(payload)) {
-                return null;
-            }
-            if (payload == null) {
-                Thread.sleep(1);
-            } else {
-                got.add(job);
+            try {
+                Job job = way.call();
+                String payload = payload(job);
+                if (END.equals(payload)) {
+                    return null;
+                }
+                if (payload == null) {
+                    Thread.sleep(1);
+                } else {
+                    got.add(job);
+                }
+            } catch (InterruptedException interrupt) {
+                continue;
             }
         }
+    }
+
+    /** Ends the threads. Expects that together they were given each of this many elements once, and no other. */
+    private void assertGivenOnce(int count, List<Work<Void>> takers) throws Exception {
+        takers.forEach(it -> queue.add(in(300, END)));
+        allOf(takers, 60);
+        assertEquals(numbers(count), got.stream().map(Job::payload).sorted().toList());
+        assertTrue(got.stream().allMatch(it -> it.attempt() == 1));
+        assertTrue(queue.isEmpty());
     }
 }
