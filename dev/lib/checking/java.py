@@ -158,7 +158,9 @@ def check(tally: Tally) -> None:
         return
     with tempfile.TemporaryDirectory() as room:
         path = build(room, tally)
-        kinds = [it for it in [*TESTS, "day"] if tally.wants(it)] if path else []
+        kinds = [it for it in [*TESTS, "day"] if tally.wants(it)]
+        if path is None:
+            return
         for kind in kinds:
             if kind in TESTS:
                 run_tests(kind, path, tally)
