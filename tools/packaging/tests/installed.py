@@ -11,7 +11,7 @@ from checking.docs import links
 from checking.tally import Tally
 from common.program import TOP
 from packaging.tests.running import PATIENCE, Told, expect, is_there, run
-from packaging.tests.service import Serving
+from packaging.tests.service import serving, talk
 from packaging.tree import COMMANDS, DOCUMENTS, PAGES, PYTHON
 
 OF_A_CHECKOUT = {"package", "conform"}
@@ -77,26 +77,24 @@ def check_changelog(tally: Tally, root: str, folder: str) -> None:
 
 def try_load(tally: Tally, root: str, folder: str) -> None:
     """rb_broker_load puts load on a server, and rb_broker_report sums up its history."""
-    with Serving(root, folder, "--calls", "10000") as service:
+    with serving(root, folder, "--calls", "10000") as service:
         words = ["--port", str(service.port), "--clients", "4", "--rate", "100", "--seconds", "1"]
         told = run(f"{root}/usr/bin/rb_broker_load", *words)
         shown = run(f"{root}/usr/bin/rb_broker_service", "--status", "--json", "--folder", folder)
-        stopped = service.stop()
     expect(tally, "rb_broker_load", told.status == 0 and "\nerrors 0\n" in told.said, told)
     is_right = shown.status == 0 and json.loads(shown.said)["phase"] == "serving"
     expect(tally, "rb_broker_service --status", is_right, shown)
-    calls = re.findall(r" event=saved run=1 calls=(\d+) ", stopped.errors)
+    calls = service.wait("saved")["calls"]
     told = run(f"{root}/usr/bin/rb_broker_report", f"{folder}/run-1.txt")
-    is_right = told.status == 0 and calls != [] and f" {calls[0]} events, " in told.said
-    expect(tally, "rb_broker_report", is_right, (stopped, told))
+    expect(tally, "rb_broker_report", told.status == 0 and f" {calls} events, " in told.said, calls, told)
 
 
 def try_examples(tally: Tally, root: str, folder: str) -> None:
     """The worker in Perl finds its server."""
     if not is_there("perl", tally, "the worker in Perl"):
         return
-    with Serving(root, folder) as service:
-        replies = service.talk("OFFER 0 one", "QUIT")
+    with serving(root, folder) as service:
+        replies = talk(service.port, "OFFER 0 one", "QUIT")
         words = ["perl", f"{root}/{DOCUMENTS}/examples/worker.pl", str(service.port), "true"]
         worker = subprocess.Popen(words, stdout=subprocess.PIPE, encoding="utf-8")
         assert worker.stdout
@@ -109,6 +107,6 @@ def try_examples(tally: Tally, root: str, folder: str) -> None:
 def try_default_retries(tally: Tally, root: str, folder: str) -> None:
     """With the installed options no job is dead of a handler that raises for 20 seconds."""
     jobs = 200
-    with Serving(root, folder) as service:
+    with serving(root, folder) as service:
         told = python(root, "-c", RAISES, str(service.port), "20", str(jobs))
     expect(tally, "a handler that raises for 20 s", told == Told(0, f"{jobs} {jobs} 0 0\n", ""), told)

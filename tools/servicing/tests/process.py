@@ -29,13 +29,16 @@ class Service:
     """A service in a folder, until its end."""
 
     def __init__(
-        self, folder: str, *options: object, port: int | None = None, before: Sequence[str] = (), program: str = ""
+        self, folder: str, *options: object, port: int | None = None, before: Sequence[str] = (), program: str = "",
+        command: Sequence[str] = ()
     ) -> None:
+        """Starts the checkout's with the program that is tested, or that of a command."""
         self.folder, self.port = folder, port or free_port()
         python = SYSTEMS_PYTHON if before else sys.executable  # which another user may not run
-        words = [*before, python, "-B", f"{TOP}/tools/service", "--port", str(self.port), "--folder", folder,
-                 "--program", program or tested_program(), *map(str, options)]
-        self.process = subprocess.Popen(words, stderr=subprocess.PIPE, encoding="utf-8")
+        words = command or [*before, python, "-B", f"{TOP}/tools/service", "--program", program or tested_program()]
+        self.process = subprocess.Popen(
+            [*words, "--port", str(self.port), "--folder", folder, *map(str, options)], stderr=subprocess.PIPE,
+            encoding="utf-8")
         atexit.register(self.kill_all)
         self.lines: list[str] = []
         self._came, self._has_ended = threading.Condition(), False
