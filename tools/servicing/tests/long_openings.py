@@ -2,8 +2,8 @@
 `dev/check service --long` alone runs it."""
 import signal
 
+from histories.grammar import MOST_OPENING_ELEMENTS
 from serving.session import Session
-from servicing.opening import MOST_OPENING_ELEMENTS
 from servicing.tests.process import Event, Service, ServiceTest
 
 FAR, FURTHER = 10**15, 2 * 10**15  # moments

@@ -12,6 +12,7 @@ from servicing.looking import Looks
 from servicing.tests.support import record
 from servicing.tests.test_deciding import QUIET
 from servicing.visits import Visits
+from serving.server import free_port
 from serving.session import Session
 from serving.testing import ServingTest
 
@@ -107,6 +108,15 @@ class CrowdTest(ServingTest):
             self.assertLess(waits[2], 2, busy)
             self.enterContext(Session(server.port)).ask("SIZE")
         crowd.stop()
+
+    def test_they_have_the_workers_of_a_server_that_is_to_come(self) -> None:
+        """As long as no client comes within milliseconds. They wait for it where nobody listens."""
+        port = free_port()
+        self.addCleanup(Crowd(port, 8).stop)
+        time.sleep(0.2)
+        self.serve("--workers", 4, "--sessions", 1000, port=port)
+        time.sleep(0.05)
+        self.assertGreaterEqual(self.waits(port), TAKEN_FOR_A_WAIT)
 
     def test_they_leave_in_good_order_and_make_no_call(self) -> None:
         server = self.serve("--workers", 2, "--sessions", 300)
