@@ -2,26 +2,20 @@
 from __future__ import annotations
 
 from array import array
-from bisect import bisect_left, bisect_right
+from bisect import bisect_left
+from heapq import merge
 from typing import NamedTuple
 
-PARTS, SAMPLE = 8, 1000
+PART = 100_000  # numbers that are sorted at a time
 
 Point = tuple[int, float]
 
 
 def in_rising_order(values: array[int]) -> array[int]:
-    """A column with the same numbers in rising order. They are parted by the numbers of a sample, and sorted by parts:
-    to sort them all at once takes five times the memory of the column."""
-    sample = sorted(values[::1 + len(values) // SAMPLE])
-    limits = sample[::1 + len(sample) // PARTS][1:]
-    parts = [array(values.typecode) for _ in range(len(limits) + 1)]
-    for value in values:
-        parts[bisect_right(limits, value)].append(value)
-    ordered = array(values.typecode)
-    for part in parts:
-        ordered.extend(sorted(part))
-    return ordered
+    """A column with the same numbers in rising order. They are sorted by parts, which are merged: to sort them all at
+    once takes five times the memory of the column."""
+    parts = [array(values.typecode, sorted(values[at:at + PART])) for at in range(0, len(values), PART)]
+    return array(values.typecode, merge(*parts))
 
 
 class Buckets(NamedTuple):

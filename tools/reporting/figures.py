@@ -2,7 +2,7 @@
 from __future__ import annotations
 
 from array import array
-from typing import Callable, NamedTuple
+from typing import Callable, NamedTuple, Sequence
 
 from histories.history import History
 from reporting.calls import Calls, Seats, calls_of, seats_of
@@ -27,7 +27,7 @@ class Figures(NamedTuple):
     jobs: Jobs
     retries: Retries
     seats: Seats
-    findings: list[Finding]
+    findings: Sequence[Finding] = ()
 
     @property
     def offered(self) -> int:
@@ -51,5 +51,5 @@ def figures_of(
     look()
     seats, calls = seats_of(history), calls_of(history)
     look()
-    findings = list(findings_of(history, calls, depth, jobs, policy, retries))
-    return Figures(name, history, policy, dates, calls, depth, lateness, jobs, retries, seats, findings)
+    figures = Figures(name, history, policy, dates, calls, depth, lateness, jobs, retries, seats)
+    return figures._replace(findings=[*findings_of(figures)])

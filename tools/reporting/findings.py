@@ -7,15 +7,17 @@ from __future__ import annotations
 
 from array import array
 from heapq import nsmallest
-from typing import Iterator, NamedTuple, Sequence
+from typing import TYPE_CHECKING, Iterator, NamedTuple, Sequence
 
 from histories.history import NONE, History
 from reporting.calls import Calls
 from reporting.chains import broken_chains
-from reporting.depth import Depth
 from reporting.jobs import Jobs, given_events, lives
 from reporting.retries import AT_ONCE, Policy, Retries
 from reporting.units import counted, percent, span
+
+if TYPE_CHECKING:
+    from reporting.figures import Figures
 
 BURST_GIFTS, BURST_SPAN = 3, 1_000_000  # a job given this often within this many nanoseconds
 IDLE_POLLS, IDLE_SHARE = 100, 0.9  # this many polls, of which this share found nothing
@@ -33,17 +35,16 @@ class Finding(NamedTuple):
     origins: Sequence[int] = ()
 
 
-def findings_of(
-    history: History, calls: dict[str, Calls], depth: Depth, jobs: Jobs, policy: Policy, retries: Retries
-) -> Iterator[Finding]:
+def findings_of(figures: Figures) -> Iterator[Finding]:
     """All that looks wrong."""
+    history, depth = figures.history, figures.depth
     for fault, roots in broken_chains(history).items():
         yield Finding(f"{_were(len(roots), 'job')} {fault}: {NOT_WRITTEN}, or its opening is not",
                       _named(history, roots))
-    yield from _bursts(history, jobs)
-    yield from _returns(history, policy, retries)
+    yield from _bursts(history, figures.jobs)
+    yield from _returns(history, figures.policy, figures.retries)
     yield from _left(history)
-    yield from _calls(calls["clear"], calls["poll"])
+    yield from _calls(figures.calls["clear"], figures.calls["poll"])
     at_end, (deepest, _) = depth.standing[-1], depth.deepest
     if at_end >= max(DEEP_END, DEEP_SHARE * deepest):
         yield Finding(f"the queue was about as deep at the end ({at_end:,}) as ever ({deepest:,}): more came than left")
