@@ -125,6 +125,12 @@ def filled(kind: str, points: Sequence[Point], x: Scale, y: Scale) -> str:
     return f'<path class="area {kind}" d="{path}L{x.stop} {y.start}H{x.at(points[0][0])}Z"/>{line_path(kind, path)}'
 
 
+def marks(paths: Iterable[str]) -> str:
+    """Paths whose places are shares."""
+    return (f'<svg class="marks" viewBox="0 0 {SHARES} {HEIGHT}" preserveAspectRatio="none" width="100%"'
+            f' height="{HEIGHT}">{"".join(paths)}</svg>')
+
+
 class Reading(NamedTuple):
     """What a drawing shows from one place on, in shares, until the next one."""
 
@@ -146,7 +152,5 @@ class Plot(NamedTuple):
 
     @property
     def drawing(self) -> str:
-        marks = (f'<svg class="marks" viewBox="0 0 {SHARES} {HEIGHT}" preserveAspectRatio="none" width="100%"'
-                 f' height="{HEIGHT}">{"".join(self.marks)}</svg>')
         return (f'<div class="drawing" id="plot-{self.name}"><svg height="{HEIGHT}" role="img"'
-                f' aria-label="{escape(self.title)}">{"".join(self.parts)}{marks}</svg></div>')
+                f' aria-label="{escape(self.title)}">{"".join(self.parts)}{marks(self.marks)}</svg></div>')

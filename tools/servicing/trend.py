@@ -98,9 +98,8 @@ def drawn(plot: Plot, values: dict[str, Values], until: float) -> dict[str, Any]
     ticks, y = _upright(plot, high)
     paths = [svg.line_path(kind, "".join(_stretches(zip(times, values[name]), x, y))) for kind, name, _ in plot.lines]
     readings = [(x.at(at), _reading(plot, values, place, at)) for place, at in enumerate(times)]
-    marks = (f'<svg class="marks" viewBox="0 0 {SHARES} {svg.HEIGHT}" preserveAspectRatio="none" width="100%"'
-             f' height="{svg.HEIGHT}">{"".join(paths)}</svg>')
-    return {"drawing": svg.y_axis(ticks, plot.unit) + marks + svg.x_axis([*_times(x)], "UTC"), "readings": readings}
+    drawing = svg.y_axis(ticks, plot.unit) + svg.marks(paths) + svg.x_axis([*_times(x)], "UTC")
+    return {"drawing": drawing, "readings": readings}
 
 
 def _upright(plot: Plot, high: float) -> tuple[list[Tick], Scale]:
