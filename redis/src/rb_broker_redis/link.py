@@ -47,6 +47,8 @@ class Link(asyncio.Protocol):
 
     async def ask(self, *words: "bytes | str | int") -> Answer:
         """Makes one command. Raises its `ErrorAnswer`, or a `ConnectionError` if there is no answer in time."""
+        if self.is_closed:  # what uvloop says of it is no `OSError`
+            raise ConnectionError("the connection is closed")
         answered: asyncio.Future[Answer] = asyncio.get_running_loop().create_future()
         self.send(command(*words), lambda answer: None if answered.done() else answered.set_result(answer))
         answer = await answer_of(answered)
