@@ -10,6 +10,7 @@ from dataclasses import dataclass, field, fields
 from decimal import Decimal
 from typing import Any, Callable, NoReturn
 
+from common.program import program_named
 from common.words import number, parser_of
 from reporting.units import SECOND
 from servicing.address import Address, address_of
@@ -75,7 +76,7 @@ class Settings:
 
     port: int = _option("the port on 127.0.0.1", number(int, 1, 65_535), 7011, "P")
     folder: str = _option("where the runs are kept (~/.local/state/rb_broker/PORT)", str, None, "DIR")
-    program: str = _option("the program that serves (that of ./broker)", str, None, "PATH")
+    program: str = _option("the program that serves (that of ./broker)", program_named, None, "PATH")
     begin_with: str | None = _option(
         "begins an empty folder with what this history left", str, None, "HISTORY", flag="--from", dest="begin_with")
     workers: int = _option("clients served at once, 1 to 16", number(int, 1, 16), 16, "N")

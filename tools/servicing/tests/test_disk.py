@@ -81,6 +81,11 @@ class FolderTest(ServiceTest):
     def test_a_server_that_can_not_start_at_first(self) -> None:
         self.refused(f"no server at port {self.port}: its process has ended", program="/bin/false")
 
+    def test_a_program_that_is_named_from_here(self) -> None:
+        """The keeper, which starts it, is in another folder."""
+        with self.serving(program=os.path.relpath(tested_program())):
+            self.assertEqual(self.ask("PEEK"), ["NONE"])
+
     def test_a_server_that_can_not_start_later_is_tried_again(self) -> None:
         program = self.path("program")
         shutil.copy(tested_program(), program)
