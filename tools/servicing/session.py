@@ -143,5 +143,4 @@ def _head(line: str, moment: int) -> Head | None:
     words = line.split(" ")
     if words[0] != "HEAD" or words[4] == PROBE:
         return None
-    expiry = int(words[2])
-    return Head(int(words[1]), expiry, int(words[3]), words[4], (moment - expiry) / 1e9)
+    return Head(int(words[1]), int(words[3]), words[4], (moment - int(words[2])) / 1e9)

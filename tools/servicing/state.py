@@ -97,7 +97,6 @@ class Head:
     """The element that expires first."""
 
     id: int
-    expiry: int  # a moment
     attempt: int  # which comes next, from 1
     payload: str
     late: float  # seconds since its expiry, below 0 before it

@@ -70,7 +70,7 @@ def state(**changes: Any) -> State:
     """A service that serves six clients, with a run behind it that was lost."""
     usual = State(
         at=AT, settings=SETTINGS, began=AT - 90_100, phase=Phase.SERVING, since=AT - 3999, why=None, waits_for=(),
-        run=PRESENT, queue=Queue(AT - 1, 1204, Head(17, 10**15, 2, "letter-17", 3.25)),
+        run=PRESENT, queue=Queue(AT - 1, 1204, Head(17, 2, "letter-17", 3.25)),
         clients=Clients(CLIENTS, 8, 10.0),
         calls=Supply(400_000, False, 1_000_000, 12.5), sessions=Supply(57, True, 10_000, 0.5),
         traffic=Traffic(600_000, 590_000, 16_345, 12, 6.25, 6.0, 1.125), runs=(ENDED, LOST, HELD), lost_runs=1)
@@ -89,7 +89,7 @@ def troubled_state(**changes: Any) -> State:
     return state(
         phase=Phase.ENDING, why=Reason.CALLS, since=AT - 42, clients=Clients(CLIENTS[:2] + clients, 16, 10.0),
         waits_for=tuple(f"a-program-of-a-long-name {4_000_000 + it} at port {42_000 + it}" for it in range(3)),
-        queue=Queue(AT - 30, 987_654, Head(2**40 - 1, 10**15, 1000, LONG, 86_400.5)),
+        queue=Queue(AT - 30, 987_654, Head(2**40 - 1, 1000, LONG, 86_400.5)),
         calls=Supply(999_990, False, 1_000_000, 300.0),
         alerts=(Alert("many-elements", "The queue has 987,654 elements; a run can begin with 1,000,000.", AT - 3600),
                 Alert("lost-run", "Run 10 was lost after 23 min: its opening had 900 elements.", AT - 7600), FULL_DISK),

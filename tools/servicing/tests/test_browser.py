@@ -154,7 +154,7 @@ class ShownTest(ServedTest):
     def test_texts_stay_text(self) -> None:
         it = state(
             clients=Clients((Client(1, HOSTILE, 2, Doing.ACTIVE, 0, 0, 0),), 4, 10.0), waits_for=(HOSTILE,),
-            queue=Queue(AT, 1, Head(1, 1, 1, HOSTILE, 0.0)), alerts=(Alert(HOSTILE, HOSTILE, AT),),
+            queue=Queue(AT, 1, Head(1, 1, HOSTILE, 0.0)), alerts=(Alert(HOSTILE, HOSTILE, AT),),
             runs=(ended(held_by=(HOSTILE,)),))
         self.show(it)
         seen, told = self.browser.value(SEEN), shown(it, True)

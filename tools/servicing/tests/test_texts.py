@@ -91,7 +91,7 @@ class TextsTest(unittest.TestCase):
         for late, says in (
             (-65.0, "expires 65.0 s after"), (0.0, "expires 0 ns after"), (0.0025, "expired 2.50 ms before"),
         ):
-            it = state(queue=Queue(AT, 1, Head(17, 5_000, 2, "letter-17", late)))
+            it = state(queue=Queue(AT, 1, Head(17, 2, "letter-17", late)))
             self.assertIn(f": id 17, attempt 2, payload letter-17. It {says} that.", shown(it, True)["head"])
         empty = shown(state(queue=Queue(AT, 0, None)), True)
         self.assertEqual(empty["head"], "The queue was empty at 2026-11-26 08:00:00.")
@@ -120,7 +120,7 @@ class TrendTest(unittest.TestCase):
         return trend.values(states[-1].runs)
 
     def moments(self, count: int, step: float) -> list[State]:
-        return [state(at=AT + it * step, queue=Queue(AT + it * step, 1204, Head(1, 1, 1, "a", 3.25)),
+        return [state(at=AT + it * step, queue=Queue(AT + it * step, 1204, Head(1, 1, "a", 3.25)),
                       traffic=Traffic(100 * it, 50 * it, 0, 0)) for it in range(count)]
 
     def test_a_server_that_is_asked_more_rarely_than_states_are_put(self) -> None:
@@ -142,7 +142,7 @@ class TrendTest(unittest.TestCase):
     def test_values_that_are_not_known_or_none(self) -> None:
         for it, wanted in (
             (first_state(), {"elements": [None], "late": [None]}),
-            (state(queue=Queue(AT, 5, Head(1, 1, 1, "a", -60.0))), {"elements": [5], "late": [0]}),
+            (state(queue=Queue(AT, 5, Head(1, 1, "a", -60.0))), {"elements": [5], "late": [0]}),
         ):
             nothing = {"offers": [None], "gifts": [None], "failures": [None]}
             self.assertEqual(self.values(it), {"at": [AT], **nothing, **wanted})
@@ -159,7 +159,7 @@ class TrendTest(unittest.TestCase):
 
 def moment(place: int) -> State:
     """Ten seconds after the one before: ten elements more, 50 offers, 40 gifts, and a second later."""
-    queue = Queue(AT + 10 * place, 100 + 10 * place, Head(1, 1, 1, "a", float(place)))
+    queue = Queue(AT + 10 * place, 100 + 10 * place, Head(1, 1, "a", float(place)))
     assert ENDED.end
     run = dataclasses.replace(ENDED, began=reading(date=AT - 100), end=dataclasses.replace(
         ENDED.end, date=AT + 15, failed=230))
