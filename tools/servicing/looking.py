@@ -6,7 +6,7 @@ from collections import deque
 from typing import Collection
 
 from servicing.session import OwnSession, Told
-from servicing.sockets import Connection, Sockets, look_at
+from servicing.sockets import Connection, look_at
 from servicing.state import Client, Clients, Doing, Queue, Run, Supply
 
 ASK = 5.0  # seconds from one question to the server to the next
@@ -108,20 +108,20 @@ class Looks:
         if self.waiting:
             self.own.leave()  # a client needs the worker
 
-    def see(self, sockets: Sockets | None = None) -> None:
+    def see(self, found: list[Connection] | None = None) -> None:
         """Takes what the system tells of the connections. Raises an `Unwatchable`."""
-        sockets, own = sockets or look_at(self._port), self.own.own_port
-        served = {it.key for it in sockets.connections if it.is_served}
+        found, own = look_at(self._port) if found is None else found, self.own.own_port
+        served = {it.key for it in found if it.is_served}
         self._used_sessions += len(served - self._seen)
         self._seen = served
-        self.connections = [it for it in sockets.connections if it.port != own]
+        self.connections = [it for it in found if it.port != own]
         self._time_sessions({it.key for it in self.connections if it.is_served})
         clients = [client_of(it, it.key in self._unread) for it in self.connections if not has_given_up(it)]
-        self._unread = {it.key for it in sockets.connections if it.send_queue}
+        self._unread = {it.key for it in found if it.send_queue}
         clients.sort(key=lambda it: (ORDER.index(it.doing), -(it.seconds or 0)))
         self.clients = Clients(tuple(clients), self._workers, SILENT_FROM)
         self._sessions.add(time.monotonic(), self._used_sessions)
-        if self._workers <= sum(it.is_served for it in sockets.connections):
+        if self._workers <= sum(it.is_served for it in found):
             self._free_since = None
         elif self._free_since is None:
             self._free_since = time.monotonic()

@@ -49,15 +49,6 @@ class Connection:
     program: Program | None  # the client, as far as this user may see it
 
 
-@dataclass(frozen=True)
-class Sockets:
-    """What is at the port at one moment."""
-
-    is_listening: bool
-    server: Program | None  # as far as this user may see it
-    connections: list[Connection]
-
-
 def own_connection(port: int, patience: float) -> socket.socket:
     """A connection that no look lists, made within so many seconds. Raises an `OSError`."""
     made = socket.socket()
@@ -72,8 +63,8 @@ def own_connection(port: int, patience: float) -> socket.socket:
     return made
 
 
-def look_at(port: int) -> Sockets:
-    """Lists the connections of a port of 127.0.0.1."""
+def look_at(port: int) -> list[Connection]:
+    """Lists the connections of a port of 127.0.0.1. Raises an `Unwatchable`."""
     here = f"{HOST}:{port}"
     which = f"( src {here} and not dst {OWN} ) or ( dst {here} and not src {OWN} )"
     words = ["ss", "-Htinoepa", "exclude", "time-wait", f"( {which} )"]
@@ -87,13 +78,12 @@ def look_at(port: int) -> Sockets:
     if run.returncode:
         said = run.stderr.strip().splitlines() or [f"status {run.returncode}"]
         raise Unwatchable(f"the command ss failed: {said[0]}")
-    return sockets_in(run.stdout, port)
+    return connections_in(run.stdout, port)
 
 
-def sockets_in(text: str, port: int) -> Sockets:
+def connections_in(text: str, port: int) -> list[Connection]:
     """Reads what `ss` printed. A line that begins with a space belongs to the one before."""
     here = f"{HOST}:{port}"
-    is_listening, server = False, None
     ends: list[str] = []
     clients: dict[str, Program | None] = {}
     for line in re.sub(r"\n[ \t]+", " ", text).splitlines():
@@ -101,13 +91,11 @@ def sockets_in(text: str, port: int) -> Sockets:
         if len(words) < 5:
             continue
         state, local, peer = words[0], words[3], words[4]
-        if state == "LISTEN" and local == here:
-            is_listening, server = True, _program(line)
-        elif state in (OPEN, HUNG_UP) and local == here:
+        if state in (OPEN, HUNG_UP) and local == here:
             ends.append(line)
         elif peer == here:
             clients[local] = _program(line)
-    return Sockets(is_listening, server, [_connection(it, clients) for it in ends])
+    return [_connection(it, clients) for it in ends]
 
 
 def _program(line: str) -> Program | None:

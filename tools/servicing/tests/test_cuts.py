@@ -21,7 +21,7 @@ OPTIONS = ("--workers", 2, "--sessions", 400, "--turns", 50, "--delay", 0)
 
 
 def served(server: Server) -> list[int]:
-    return [it.port for it in look_at(server.port).connections if it.is_served]
+    return [it.port for it in look_at(server.port) if it.is_served]
 
 
 class CutsTest(ServingTest):
@@ -107,7 +107,7 @@ class CutsTest(ServingTest):
             began = time.monotonic()
             self.client(server.port)
             self.assertLess(time.monotonic() - began, 1, number)
-        self.assertEqual(len(look_at(server.port).connections), 251)
+        self.assertEqual(len(look_at(server.port)), 251)
 
     @unittest.skipIf(os.geteuid() or not shutil.which("setpriv"), "it takes root and setpriv to be another user")
     def test_a_user_who_may_not_cut_is_told_so(self) -> None:

@@ -18,7 +18,7 @@ from reporting import tests as browsing
 from reporting.tests.browser import Browser
 from servicing.looking import Looks, client_of
 from servicing.saying import notify
-from servicing.sockets import Connection, Sockets
+from servicing.sockets import Connection
 from servicing.state import Doing
 from servicing.tests.process import Service, ServiceTest
 from servicing.tests.support import record
@@ -43,7 +43,7 @@ class DoingTest(unittest.TestCase):
                        for port, has_hung_up, is_served, sent in (
                            (1, True, False, 1), (2, True, False, 9), (3, False, False, 0), (4, True, True, 1))]
         looks = Looks(1, record(), 4, 20)
-        looks.see(Sockets(True, None, connections))
+        looks.see(connections)
         assert looks.clients is not None
         told = {it.port: it.doing for it in looks.clients.all}
         self.assertEqual(told, {2: Doing.WAITING, 3: Doing.WAITING, 4: Doing.HUNG_UP})
@@ -53,11 +53,11 @@ class DoingTest(unittest.TestCase):
         looks = Looks(1, record(), 1, 20)
         looks.own._since = time.monotonic() - 10
         client = Connection(5, "5", False, True, 0, 0, 0, 0, False, None)
-        looks.see(Sockets(True, None, [client]))
-        looks.see(Sockets(True, None, []))
+        looks.see([client])
+        looks.see([])
         self.assertLess(looks.unanswered, 3)
         with mock.patch("time.monotonic", return_value=time.monotonic() + 5):
-            looks.see(Sockets(True, None, []))
+            looks.see([])
             self.assertGreater(looks.unanswered, 4)
             looks.count_unseen(0, 0)
             self.assertGreater(looks.unanswered, 4)

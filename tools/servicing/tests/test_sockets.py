@@ -4,7 +4,7 @@ import tempfile
 import unittest
 from unittest import mock
 
-from servicing.sockets import Program, Unwatchable, look_at, sockets_in
+from servicing.sockets import Program, Unwatchable, connections_in, look_at
 
 # A listener with two connections that no worker has accepted yet, a client that does not read and one in a TAKE. Each
 # has its second line behind it, as without --oneline. The last is of another machine's port of the same number.
@@ -28,9 +28,7 @@ ESTAB  0      0       10.0.0.2:44070 10.0.0.7:7011 users:(("other",pid=7,fd=5)) 
 
 class SocketsTest(unittest.TestCase):
     def test_what_is_listed(self) -> None:
-        sockets = sockets_in(LISTED, 7011)
-        self.assertEqual((sockets.is_listening, sockets.server), (True, Program("rb_broker", 30170)))
-        waiting, unread, gone = sockets.connections
+        waiting, unread, gone = connections_in(LISTED, 7011)
         self.assertEqual((waiting.port, waiting.is_served, waiting.receive_queue), (44070, False, 5))
         self.assertIsNone(waiting.program)
         self.assertEqual((waiting.heard, waiting.told, waiting.has_hung_up), (1208, 1244, False))
@@ -39,18 +37,17 @@ class SocketsTest(unittest.TestCase):
         self.assertEqual((gone.port, gone.has_hung_up, gone.is_served, gone.heard), (44056, True, True, 0))
 
     def test_another_port(self) -> None:
-        sockets = sockets_in(LISTED, 7012)
-        self.assertEqual((sockets.is_listening, sockets.server, sockets.connections), (False, None, []))
+        self.assertEqual(connections_in(LISTED, 7012), [])
 
     def test_a_kernel_that_tells_nothing_about_connections(self) -> None:
         text = "ESTAB 0 7 127.0.0.1:7011 127.0.0.1:44070 ino:5 sk:1\n"
-        connection, = sockets_in(text, 7011).connections
+        connection, = connections_in(text, 7011)
         self.assertEqual((connection.heard, connection.told, connection.owes_reply), (None, None, False))
         self.assertEqual((connection.send_queue, connection.is_served), (7, True))
 
     def test_lines_that_are_none(self) -> None:
-        self.assertEqual(sockets_in("", 7011).connections, [])
-        self.assertEqual(sockets_in("nonsense\n\n a b\n", 7011).connections, [])
+        self.assertEqual(connections_in("", 7011), [])
+        self.assertEqual(connections_in("nonsense\n\n a b\n", 7011), [])
 
     def said_with(self, script: str) -> str:
         """What is said where the command ss is this script, or missing if that is empty."""

@@ -39,7 +39,7 @@ class VisitsTest(ServingTest):
             visits = self.visits(server.port)
             time.sleep(1)
             self.assertTrue(ROOM // 4 <= visits.count <= ROOM // 2 + 4, visits.count)
-            self.assertEqual([it.port for it in look_at(server.port).connections], [busy.own_port])
+            self.assertEqual([it.port for it in look_at(server.port)], [busy.own_port])
             began = time.monotonic()
             with Session(server.port) as client:
                 self.assertLess(time.monotonic() - began, 1)

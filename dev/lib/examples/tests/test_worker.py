@@ -94,7 +94,7 @@ class WorkerTest(ServingTest):
         command = 'echo begun; until [ -e "$0" ]; do sleep 0.1; done'  # until the session is cut
         worker = Worker(server.port, "sh", "-c", command, self.path("cut"))
         self.assertEqual(worker.line(), "begun")
-        cut = cut_sessions(server.process.pid, [it.port for it in look_at(server.port).connections])
+        cut = cut_sessions(server.process.pid, [it.port for it in look_at(server.port)])
         Path(self.path("cut")).touch()
         self.assertEqual(worker.lines(3), ["job, attempt 1: unheard", "begun", "job, attempt 2: done"])
         self.assertEqual(worker.stop(), ended(0, done=1, unheard=1))
