@@ -20,7 +20,7 @@ public final class HostileWorker {
 
     private HostileWorker(int port, String log) throws IOException {
         queue = RemoteDelayQueue.builder(port, Acknowledge.BY_CALL).waiters(THREADS)
-            .longestWait(Duration.ofMillis(100)).longestSession(Duration.ofSeconds(2)).patience(Duration.ofMinutes(2))
+            .longestWait(Duration.ofMillis(100)).longestSession(Duration.ofSeconds(2)).patience(Duration.ofMinutes(10))
             .build();
         this.log = new FileOutputStream(log, true);
     }
