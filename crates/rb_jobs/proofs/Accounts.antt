@@ -33,7 +33,7 @@ use Rattle.rb_protocol.specs.declared.line_reply.LineReply.TheVariants as lines
 use Rattle.rb_protocol.specs.declared.request.Request.{Request}
 use Rattle.rb_protocol.specs.declared.request.Request.TheVariants as requests
 use Rattle.rb_session.specs.Events.{AreOfClosing, AreOfLine, AreOfLines, BeginsOne, TellsOf, TellsOfNone}
-use Rattle.rb_session.specs.JobEnds.{handed_by, handed_out, lost_in, spent_of}
+use Rattle.rb_session.specs.JobEnds.{handed_by, lost_in, spent_of}
 use Rattle.rb_session.specs.RunEvents.{MadeByRun}
 use Rattle.rb_session.specs.Served.{Served}
 use Rattle.rb_session.specs.Session.{Turn}
@@ -233,42 +233,56 @@ module _ (amount : ℕ → ℕ) where
       }
   line_told reading replies (made ∷ other ∷ mades) failed is = absurd is
 
-  -- so do lines
-  lines_told : (turns : List Turn) (mades : List Made) (failed : List Element) → AreOfLines turns mades failed
-      → (offers_in mades ≡ sum_by amount (begun_in turns) + origins_sum amount failed)
-      × (gifts_in mades ≡ origins_sum amount (handed_out turns)) × (sum_by amount (begun_in turns) ≤ named_in mades)
-  lines_told [] mades failed (none, nobody) =
-      (omega (arith, ap offers_in none, ap (origins_sum amount) nobody), ap gifts_in none, omega arith)
-  lines_told (turn ∷ turns) mades failed (here, more, is, first, others, all, one, rest) =
-      let told = line_told turn.reading turn.replies here first one in
-      let behind = lines_told turns more others rest in (
-        omega (
-          arith,
-          ap offers_in is,
-          sum_by-append offers_of here more,
-          told.offers_are,
-          behind.0,
-          sum_by-append amount (begun_by turn.replies) (begun_in turns),
-          ap (origins_sum amount) all,
-          origins_append first others,
-        ),
-        omega (
+  -- Lines, one after the other: what was held before them, was handed out or begun was offered again, is done or dead, or
+  -- is held behind them; and they begin no more than they offer.
+  record Tells (before : List Element) (turns : List Turn) (mades : List Made) (done dead after : List Element) : Type 0 where
+    even : origins_sum amount before + gifts_in mades + sum_by amount (begun_in turns)
+        ≡ offers_in mades + origins_sum amount done + origins_sum amount dead + origins_sum amount after
+    few : sum_by amount (begun_in turns) ≤ named_in mades
+
+  lines_told : (policy : Policy) (before : List Element) (turns : List Turn) (mades : List Made)
+      (done dead after : List Element) → AreOfLines policy before turns mades done dead after
+      → Tells before turns mades done dead after
+  lines_told policy before [] mades done dead after (none, no_done, no_dead, same) = record {
+    even = omega (
+      arith,
+      ap gifts_in none,
+      ap offers_in none,
+      ap (origins_sum amount) no_done,
+      ap (origins_sum amount) no_dead,
+      ap (origins_sum amount) same,
+    );
+    few = omega arith;
+  }
+  lines_told policy before (turn ∷ turns) mades done dead after
+      (here, more, is, ended, others, all_done, died, rest, all_dead, failed, between, one, are) =
+      let told = line_told turn.reading turn.replies here failed one.events in
+      let behind = lines_told policy between turns more others rest after are in record {
+        even = omega (
           arith,
           ap gifts_in is,
+          ap offers_in is,
           sum_by-append gifts_of here more,
+          sum_by-append offers_of here more,
+          ap (origins_sum amount) all_done,
+          ap (origins_sum amount) all_dead,
+          origins_append ended others,
+          origins_append died rest,
+          sum_by-append amount (begun_by turn.replies) (begun_in turns),
+          told.offers_are,
           told.gifts_are,
-          behind.1,
-          origins_append (handed_by turn.replies) (handed_out turns),
-        ),
-        omega (
+          one.parted (λ (e : Element). amount e.origin),
+          behind.even,
+        );
+        few = omega (
           arith,
           ap named_in is,
           sum_by-append named_of here more,
           told.begun_few,
-          behind.2,
+          behind.few,
           sum_by-append amount (begun_by turn.replies) (begun_in turns),
-        ),
-      )
+        );
+      }
 
   -- each job that was held at the end had had its last attempt, was offered again, or is lost
   module _ (policy : Policy) where
@@ -338,19 +352,17 @@ module _ (amount : ℕ → ℕ) where
       → Balance (gifts_in (run.by_lines ++ run.by_closing)) (offers_in (run.by_lines ++ run.by_closing))
       (named_in (run.by_lines ++ run.by_closing)) (jobs_of amount run)
   run_told {policy = policy} run =
-      let by_lines = lines_told run.lines run.by_lines run.of_lines.failed run.of_lines.events in
+      let by_lines = lines_told policy [] run.lines run.by_lines run.done run.dead run.held run.of_lines in
       let by_closing = closing_told policy run.held run.by_closing run.lost run.of_closing in record {
         even = omega (
           arith,
-          by_lines.0,
-          by_lines.1,
+          by_lines.even,
           by_closing.0,
           by_closing.1,
-          run.of_lines.parted (λ (e : Element). amount e.origin),
           sum_by-append offers_of run.by_lines run.by_closing,
           sum_by-append gifts_of run.by_lines run.by_closing,
         );
-        few = omega (arith, by_lines.2, sum_by-append named_of run.by_lines run.by_closing);
+        few = omega (arith, by_lines.few, sum_by-append named_of run.by_lines run.by_closing);
       }
 
   -- elements that stand count as their ids do

@@ -60,8 +60,8 @@ abbrev pub jobs_of : (ℕ → ℕ) → {policy : Policy} {Over : Type 0} {served
     → MadeByRun policy Over served Grows → JobSums
 jobs_of amount {policy = policy} run = record {
   begun = sum_by amount (begun_in run.lines);
-  done = origins_sum amount run.of_lines.done;
-  dead = origins_sum amount run.of_lines.dead + origins_sum amount (spent_of policy run.held);
+  done = origins_sum amount run.done;
+  dead = origins_sum amount run.dead + origins_sum amount (spent_of policy run.held);
   lost = origins_sum amount run.lost;
 }
 

@@ -13,16 +13,16 @@ use rb_serving::Door;
 use rb_timer::Timer;
 use std::io::Write;
 
-/// A legal history keeps jobs if it begins with jobs of one element each, and if each seat holds no more than its
-/// events allow. Then each offer begins a job or is the next attempt that the policy gives it. At each moment
-/// no job is in two places: never both in the queue and with a seat, nor with two seats. What is left is a
-/// beginning of jobs again, so the laws hold of the run that continues.
+/// A legal history keeps jobs if it begins with jobs of one element each, and if each seat offers only first
+/// attempts, and next attempts of what it was given. Then each offer begins a job or is the next attempt that the
+/// policy gives it. At each moment no job is in two places: never both in the queue and with a seat, nor with
+/// two seats. What is left is a beginning of jobs again, so the laws hold of the run that continues.
 pub fn jobs_are_kept()
     ensures { JobsAreKept }
 {}
 
-/// At a desk of any kind a session holds no more than its events allow: after the lines that it serves, after
-/// the jobs that it holds at the end, and after a whole session. That it drops no job uncounted is what
+/// At a desk of any kind a session holds no more than its events allow: after the lines that it serves, once the
+/// jobs that it then holds have failed, and after a whole session. That it drops no job uncounted is what
 /// `events_of_run` of `rb_session` says.
 pub fn hands_of_session<D: Desk, W: Write>()
     ensures lines { HandlesLines D.Desk }
@@ -45,9 +45,9 @@ pub fn server_keeps_jobs<T: Timer, D: Door, C: Clock>()
         (terms_of D.Door D.Reader.Read D.Writer.Write D.Gate.Gate door (rules_of C.Clock clock policy delivery)) T }
 {}
 
-/// Jobs in are jobs out. The jobs of a script's opening and those that its replies accept are done, dead, lost at
-/// the session's end, removed, cleared, or left in the queue, each as often as it came in: once, if the opening has
-/// one element of each job.
+/// Jobs in are jobs out. The jobs of a script's opening and those that its replies accept, sent or not, are done,
+/// dead, lost at the session's end, removed, cleared, or left in the queue, each as often as it came in: once, if the
+/// opening has one element of each job.
 pub fn script_accounts<W: Write>()
     ensures { ScriptAccounts W.contents }
 {}
@@ -61,7 +61,7 @@ pub fn server_accounts<T: Timer, D: Door, C: Clock>()
 
 /// Of a history that keeps jobs `chains` answers `Ok`, or that memory is short. An empty opening begins with
 /// jobs of one element each. So does the opening that `opening_in` of `rb_runs` makes of a history that keeps jobs, and
-/// its jobs are those that were left. So the laws of jobs hold over a series of runs as over one.
+/// its jobs are those that were left. So the laws of jobs hold of each run of a series.
 pub fn jobs_go_on()
     ensures accepted { JobsAreAccepted }
     ensures empty { NoneAreJobs }

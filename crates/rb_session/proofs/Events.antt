@@ -1,7 +1,6 @@
 -- What a line, and a job that is held at the end, add to the events of a desk and take from the jobs that are held.
 use Rattle.std.proofs.Common.{◌≡◌, ℕ, zero, suc, ◌+◌, List, [], ◌∷◌, ◌++◌, length, map, Option, Some, None, Result, Ok, Err, inl, inr}
 use Rattle.std.proofs.Common.{refl, sym, ap, subst, ◌∙◌, append-nil, append_assoc, arith, remove}
-use Rattle.std.proofs.lemmas.List.{map-append}
 use Rattle.std.proofs.lemmas.List.Sums.{sum_by-append, sum_by-cons}
 use Rattle.std.proofs.lemmas.Option.{same_Some}
 use Rattle.std.specs.Prelude.{sum_by, slice_get, unwrap_or}
@@ -32,10 +31,10 @@ use Rattle.rb_protocol.specs.declared.line_fault.LineFault.{LineFault}
 use Rattle.rb_protocol.specs.declared.line_reply.LineReply.{LineReply}
 use Rattle.rb_protocol.specs.declared.line_reply.LineReply.TheVariants as lines
 use Rattle.rb_session.specs.Closing.{Closes, lost_by}
-use Rattle.rb_session.specs.JobEnds.{AreSpent, done_by, dead_by, done_in, dead_in, handed_by, handed_out}
+use Rattle.rb_session.specs.JobEnds.{AreSpent, AreUnspent, done_by, dead_by, handed_by}
 use Rattle.rb_session.specs.Session.{Turn, Serves}
 use Rattle.rb_session.specs.Turn.{Point, fault_line, fetched_by, lines_for, moment_line, refusal_word}
-use Rattle.rb_session.specs.Events.{BeginsOne, IsNextOf, TellsOf, TellsOfNone, AreOfLine, AreOfLines, AreOfClosing, IsOfLines}
+use Rattle.rb_session.specs.Events.{BeginsOne, IsNextOf, TellsOf, TellsOfNone, AreOfLine, AreOfLines, AreOfClosing}
 use Rattle.rb_session.proofs.Ways.{Calls, Retries, Retried, Way, WaysAlong, IsIdle, EndsJob, did_nothing, did_end, did_call, did_retry, did_set, ways_of}
 
 -- an element that is taken out
@@ -114,11 +113,6 @@ moment_none : (result : Option ℕ) (moment : ℕ) → TellsOfNone (moment_line 
 moment_none None moment = tt
 moment_none (Some set) moment = tt
 
-spent_append : (policy : Policy) (one two : List Element) → AreSpent policy one → AreSpent policy two
-    → AreSpent policy (one ++ two)
-spent_append policy [] two first second = second
-spent_append policy (element ∷ one) two (spent, first) second = (spent, spent_append policy one two first second)
-
 -- what the policy offers again is of the same job, one attempt later
 pub is_next : (policy : Policy) (element again : Element) (now : ℕ) (draft : Draft)
     → IsNextAttempt policy element now draft → IsDrafted draft again → IsNextOf element again
@@ -141,6 +135,7 @@ module _ {S : Type 0} (rules : DeskRules S) (mine : S → List Made)
     grows : mine new.desk ≡ mine old.desk ++ here
     failed : List Element
     of_line : AreOfLine reading replies here failed
+    unspent : AreUnspent rules.policy failed
     done : List Element
     done_ids : ids_of done ≡ done_by replies
     dead : List Element
@@ -156,6 +151,7 @@ module _ {S : Type 0} (rules : DeskRules S) (mine : S → List Made)
     here = [];
     grows = same ∙ sym (append-nil (mine old.desk));
     failed = [];
+    unspent = tt;
     of_line = (refl, line, is, none);
     done = [];
     done_ids = sym (ap done_by is ∙ silent.none_done);
@@ -178,6 +174,7 @@ module _ {S : Type 0} (rules : DeskRules S) (mine : S → List Made)
     here = [];
     grows = ap mine same ∙ sym (append-nil (mine old.desk));
     failed = [];
+    unspent = tt;
     of_line = (refl, lines.Done id, is, none);
     done = element ∷ [];
     done_ids = ap (λ (i : ℕ). i ∷ []) (sym ends) ∙ sym (ap done_by is);
@@ -196,6 +193,7 @@ module _ {S : Type 0} (rules : DeskRules S) (mine : S → List Made)
     here = [];
     grows = ap mine same ∙ sym (append-nil (mine old.desk));
     failed = [];
+    unspent = tt;
     of_line = (refl, lines.Dead id, is, none);
     done = [];
     done_ids = sym (ap done_by is);
@@ -226,6 +224,7 @@ module _ {S : Type 0} (rules : DeskRules S) (mine : S → List Made)
         here = record { event = made.event; reply = Some reply } ∷ [];
         grows = made.grows;
         failed = [];
+        unspent = tt;
         of_line = record {
           request = call.request;
           read = call.read;
@@ -267,6 +266,7 @@ module _ {S : Type 0} (rules : DeskRules S) (mine : S → List Made)
         here = record { event = made.event; reply = Some (Offered again) } ∷ [];
         grows = made.grows;
         failed = retry.element ∷ [];
+        unspent = (retry.retry.0, tt);
         of_line = record {
           request = requests.Fail retry.id;
           read = retry.read;
@@ -317,55 +317,51 @@ module _ {S : Type 0} (rules : DeskRules S) (mine : S → List Made)
       (subst (TellsOfNone (moment_line set.result)) (sym set.read) (moment_none set.result set.moment))
       (stays old.desk new.desk set.moment set.result set.sets) set.held
 
-  ids_append : (one two : List Element) → ids_of (one ++ two) ≡ ids_of one ++ ids_of two
-  ids_append one two = map-append (λ (element : Element). element.id) one two
-
   -- what lines do, one after the other
   pub ways_make : (old new : Point S) (turns : List Turn) → WaysAlong rules old turns new
-      → (made : List Made) × (mine new.desk ≡ mine old.desk ++ made) × IsOfLines rules.policy old.held turns made new.held
+      → (made : List Made) × (mine new.desk ≡ mine old.desk ++ made)
+      × (done : List Element) × (dead : List Element) × AreOfLines rules.policy old.held turns made done dead new.held
   ways_make old new [] same = (
     [],
     ap (λ (p : Point S). mine p.desk) same ∙ sym (append-nil (mine old.desk)),
-    record {
-      failed = [];
-      events = (refl, refl);
-      done = [];
-      done_ids = refl;
-      dead = [];
-      dead_ids = refl;
-      spent = tt;
-      parted = λ amount. omega (arith, ap (λ (p : Point S). sum_by amount p.held) same);
-    },
+    [],
+    [],
+    (refl, refl, refl, ap (λ (p : Point S). p.held) same),
   )
   ways_make old new (turn ∷ turns) (between, way, rest) =
       let first = does turn.reading turn.replies old between way in
-      let (more, grows, others) = ways_make between new turns rest in (
+      let (more, grows, done, dead, others) = ways_make between new turns rest in (
         first.here ++ more,
         grows ∙ ap (λ (m : List Made). m ++ more) first.grows ∙ append_assoc (mine old.desk) first.here more,
-        record {
-          failed = first.failed ++ others.failed;
-          events = (first.here, more, refl, first.failed, others.failed, refl, first.of_line, others.events);
-          done = first.done ++ others.done;
-          done_ids = ids_append first.done others.done ∙ ap (λ (ids : List ℕ). ids ++ ids_of others.done) first.done_ids
-              ∙ ap (λ (ids : List ℕ). done_by turn.replies ++ ids) others.done_ids;
-          dead = first.dead ++ others.dead;
-          dead_ids = ids_append first.dead others.dead ∙ ap (λ (ids : List ℕ). ids ++ ids_of others.dead) first.dead_ids
-              ∙ ap (λ (ids : List ℕ). dead_by turn.replies ++ ids) others.dead_ids;
-          spent = spent_append rules.policy first.dead others.dead first.spent others.spent;
-          parted = λ amount. omega (
-            arith,
-            first.parted amount,
-            others.parted amount,
-            sum_by-append amount (handed_by turn.replies) (handed_out turns),
-            sum_by-append amount first.done others.done,
-            sum_by-append amount first.dead others.dead,
-            sum_by-append amount first.failed others.failed,
-          );
-        },
+        first.done ++ done,
+        first.dead ++ dead,
+        (
+          first.here,
+          more,
+          refl,
+          first.done,
+          done,
+          refl,
+          first.dead,
+          dead,
+          refl,
+          first.failed,
+          between.held,
+          record {
+            events = first.of_line;
+            done_ids = first.done_ids;
+            dead_ids = first.dead_ids;
+            spent = first.spent;
+            unspent = first.unspent;
+            parted = first.parted;
+          },
+          others,
+        ),
       )
 
   pub makes_by_lines : (from to : Point S) (turns : List Turn) → Serves rules from turns to
-      → (made : List Made) × (mine to.desk ≡ mine from.desk ++ made) × IsOfLines rules.policy from.held turns made to.held
+      → (made : List Made) × (mine to.desk ≡ mine from.desk ++ made)
+      × (done : List Element) × (dead : List Element) × AreOfLines rules.policy from.held turns made done dead to.held
   makes_by_lines from to turns serves = ways_make from to turns (ways_of rules from to turns serves)
 
   -- each job that is held at the end was offered again, had had its last attempt, or is lost

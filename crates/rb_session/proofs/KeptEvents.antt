@@ -85,9 +85,9 @@ latest_moment policy from to (turn ∷ turns) (between, is_line, goes_on, is_tur
 
 pub records_by_lines : RecordsByLines kept_rules
 records_by_lines policy from to turns serves =
-    let made = makes_by_lines (kept_rules policy) whole_mine makes_whole refuses_whole stays_whole from to turns
-    serves in
-    (made.0, made.1, made.2, latest_moment policy from to turns serves)
+    let (made, grows, done, dead, are) =
+    makes_by_lines (kept_rules policy) whole_mine makes_whole refuses_whole stays_whole from to turns serves in
+    (made, grows, done, dead, are, latest_moment policy from to turns serves)
 
 -- no failure sets the clock
 same_moment : (policy : Policy) (element : Element) (now : ℕ) (old new : KeptState)

@@ -201,7 +201,7 @@ module _ {S : Type 0} (rules : DeskRules S) where
         → (made : MadeByRun rules.policy Over served (λ made. mine to ≡ mine from ++ made))
         × (made.lines ≡ run.path.lines)
     made_by_ends Over from to served run =
-        let (by_lines, grows, of_lines) =
+        let (by_lines, grows, done, dead, of_lines) =
         ways_make rules mine makes refuses stays (point from []) run.last run.path.lines run.path.ways in
         let (by_closing, grows_more, lost, many, of_closing) =
         makes_by_closing rules mine makes refuses stays run.last.desk to run.last.held run.lost run.closes in (
@@ -214,6 +214,8 @@ module _ {S : Type 0} (rules : DeskRules S) where
             by_lines = by_lines;
             held = run.last.held;
             handed = ways_hold rules (point from []) run.last run.path.lines run.path.ways;
+            done = done;
+            dead = dead;
             of_lines = of_lines;
             by_closing = by_closing;
             lost = lost;
@@ -369,6 +371,8 @@ grows_so implies run = (
     by_lines = run.by_lines;
     held = run.held;
     handed = run.handed;
+    done = run.done;
+    dead = run.dead;
     of_lines = run.of_lines;
     by_closing = run.by_closing;
     lost = run.lost;

@@ -19,7 +19,7 @@ use Rattle.rb_protocol.specs.declared.line_fault.LineFault.{LineFault}
 use Rattle.rb_protocol.specs.declared.line_reply.LineReply.{LineReply}
 use Rattle.rb_protocol.specs.declared.line_reply.LineReply.TheVariants as lines
 use Rattle.rb_session.specs.Held.{AreHeldOnce}
-use Rattle.rb_session.specs.JobEnds.{AreSpent, done_in, dead_in, handed_out}
+use Rattle.rb_session.specs.JobEnds.{AreSpent, AreUnspent, done_by, dead_by, handed_by}
 use Rattle.rb_session.specs.Turn.{Point, IsFirstDraft, lines_for}
 use Rattle.rb_session.specs.Session.{Turn, Serves}
 use Rattle.rb_session.specs.Closing.{Closes}
@@ -88,28 +88,28 @@ AreOfLine reading replies [] failed =
 AreOfLine reading replies (made ∷ []) failed = IsOfLine reading replies made failed
 AreOfLine reading replies _ failed = ⊥
 
--- what these lines made, one after the other, and which elements failed
-abbrev pub AreOfLines : List Turn → List Made → List Element → Type 0
-AreOfLines [] made failed = (made ≡ []) × (failed ≡ [])
-AreOfLines (turn ∷ turns) made failed =
-    (here : List Made) × (more : List Made) × (made ≡ here ++ more)
-    × (first : List Element) × (others : List Element) × (failed ≡ first ++ others)
-    × AreOfLine turn.reading turn.replies here first × AreOfLines turns more others
-
--- What some lines did, from the jobs that were held before them to those that are held behind them. Each made one event,
--- of which its replies tell, or none. Each job that was held or was handed out is held behind them, or one line says that
--- it is done, is dead after its last attempt, or failed and was offered again: however much each element counts.
-pub record IsOfLines (policy : Policy) (before : List Element) (turns : List Turn) (made : List Made) (after : List Element)
-    : Type 0 where
-  pub failed : List Element
-  pub events : AreOfLines turns made failed
-  pub done : List Element
-  pub done_ids : ids_of done ≡ done_in turns
-  pub dead : List Element
-  pub dead_ids : ids_of dead ≡ dead_in turns
+-- What a line did, from the jobs that were held before it to those that are held behind it: the event that it made, or
+-- none; and each job that was held or was handed out is held on, or the line says that it is done, is dead after its
+-- last attempt, or failed and was offered again. That is so however much each element counts.
+pub record IsOfTurn (policy : Policy) (before : List Element) (turn : Turn) (made : List Made)
+    (done dead failed after : List Element) : Type 0 where
+  pub events : AreOfLine turn.reading turn.replies made failed
+  pub done_ids : ids_of done ≡ done_by turn.replies
+  pub dead_ids : ids_of dead ≡ dead_by turn.replies
   pub spent : AreSpent policy dead
-  pub parted : (amount : Element → ℕ) → sum_by amount before + sum_by amount (handed_out turns)
+  pub unspent : AreUnspent policy failed
+  pub parted : (amount : Element → ℕ) → sum_by amount before + sum_by amount (handed_by turn.replies)
       ≡ sum_by amount done + sum_by amount dead + sum_by amount failed + sum_by amount after
+
+-- what these lines made, one after the other, and which elements they say are done and dead
+abbrev pub AreOfLines : Policy → List Element → List Turn → List Made → List Element → List Element → List Element → Type 0
+AreOfLines policy before [] made done dead after = (made ≡ []) × (done ≡ []) × (dead ≡ []) × (after ≡ before)
+AreOfLines policy before (turn ∷ turns) made done dead after =
+    (here : List Made) × (more : List Made) × (made ≡ here ++ more)
+    × (ended : List Element) × (others : List Element) × (done ≡ ended ++ others)
+    × (died : List Element) × (rest : List Element) × (dead ≡ died ++ rest)
+    × (failed : List Element) × (between : List Element) × IsOfTurn policy before turn here ended died failed between
+    × AreOfLines policy between turns more others rest after
 
 -- What these held jobs made as a session ended, in their order, and which were lost: each had had its last attempt, or
 -- made the offer of its next one, or was lost.
@@ -140,7 +140,7 @@ module _ {D : Type 0} (words : Desk.Ghosts D) where
       (policy : Policy) (from to : Point words.State) (turns : List Turn)
       → Serves (desk_rules words policy) from turns to
       → (made : List Made) × (words.mine to.desk ≡ words.mine from.desk ++ made)
-      × IsOfLines policy from.held turns made to.held
+      × (done : List Element) × (dead : List Element) × AreOfLines policy from.held turns made done dead to.held
 
   -- the law of jobs that are held at the end
   abbrev pub MakesByClosing : Type 0
@@ -168,7 +168,8 @@ module _ (rules : Policy → DeskRules KeptState) where
   RecordsByLines =
       (policy : Policy) (from to : Point KeptState) (turns : List Turn) → Serves (rules policy) from turns to
       → (made : List Made) × (made_in to.desk.log ≡ made_in from.desk.log ++ made)
-      × IsOfLines policy from.held turns made to.held × (to.desk.moment ≡ latest from.desk.moment turns)
+      × (done : List Element) × (dead : List Element) × AreOfLines policy from.held turns made done dead to.held
+      × (to.desk.moment ≡ latest from.desk.moment turns)
 
   -- the law of jobs that are held at the end
   abbrev pub RecordsByClosing : Type 0

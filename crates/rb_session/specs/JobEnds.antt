@@ -1,5 +1,5 @@
 -- Which jobs a session's lines were handed out and ended, as their replies tell.
-use Rattle.std.specs.Prelude.{ℕ, ◌≤◌, List, [], ◌∷◌, ◌++◌, Result, Ok, Err, filter, nat_le}
+use Rattle.std.specs.Prelude.{ℕ, ◌<◌, ◌≤◌, List, [], ◌∷◌, ◌++◌, Result, Ok, Err, filter, nat_le}
 use Rattle.rb_delayed.specs.declared.element.Element.{Element}
 use Rattle.rb_retry.specs.declared.policy.Policy.{Policy}
 use Rattle.rb_protocol.specs.declared.line_reply.LineReply.{LineReply}
@@ -21,15 +21,6 @@ dead_by [] = []
 dead_by (lines.Dead id ∷ replies) = id ∷ dead_by replies
 dead_by (_ ∷ replies) = dead_by replies
 
--- the same by lines
-abbrev pub done_in : List Turn → List ℕ
-done_in [] = []
-done_in (turn ∷ turns) = done_by turn.replies ++ done_in turns
-
-abbrev pub dead_in : List Turn → List ℕ
-dead_in [] = []
-dead_in (turn ∷ turns) = dead_by turn.replies ++ dead_in turns
-
 -- the elements that these replies hand out
 abbrev pub handed_by : List LineReply → List Element
 handed_by [] = []
@@ -45,6 +36,11 @@ handed_out (turn ∷ turns) = handed_by turn.replies ++ handed_out turns
 abbrev pub AreSpent : Policy → List Element → Type 0
 AreSpent policy [] = Unit {0}
 AreSpent policy (element ∷ elements) = (policy.attempts ≤ element.attempt) × AreSpent policy elements
+
+-- none of them has
+abbrev pub AreUnspent : Policy → List Element → Type 0
+AreUnspent policy [] = Unit {0}
+AreUnspent policy (element ∷ elements) = (element.attempt < policy.attempts) × AreUnspent policy elements
 
 -- those of these elements that have had it
 abbrev pub spent_of : Policy → List Element → List Element

@@ -15,7 +15,7 @@ use Rattle.rb_session.specs.Served.{Served}
 use Rattle.rb_session.specs.Session.{Turn, IsLine, answers_of}
 use Rattle.rb_session.specs.Ran.{Ran}
 use Rattle.rb_session.specs.JobEnds.{handed_out, lost_in}
-use Rattle.rb_session.specs.Events.{IsOfLines, AreOfClosing, made_in, latest}
+use Rattle.rb_session.specs.Events.{AreOfLines, AreOfClosing, made_in, latest}
 use Rattle.rb_session.specs.declared.delivery.Delivery.{Delivery}
 use Rattle.rb_session.specs.declared.ended.Ended.{Ended}
 use Rattle.rb_session.specs.declared.session_fault.SessionFault.{SessionFault}
@@ -44,8 +44,8 @@ SendsAll (Err (Write lost)) unsent = Unit {0}
 SendsAll ended unsent = unsent ≡ []
 
 -- Some lines were served, which stand first in what came, a QUIT and a truncated line among them. Their replies are
--- what was sent and, after a failing write, what was not. The lines made events and ended jobs, as `IsOfLines` says of
--- them; then each job that was still held had had its last attempt, was offered again, or was lost. By all these events it
+-- what was sent and, after a failing write, what was not. The lines made events and ended jobs, one after the
+-- other; then each job that was still held had had its last attempt, was offered again, or was lost. By all these events it
 -- grew.
 pub record MadeByRun (policy : Policy) (Over : Type 0) (served : Served) (Grows : List Made → Type 0) : Type 0 where
   pub lines : List Turn
@@ -56,7 +56,9 @@ pub record MadeByRun (policy : Policy) (Over : Type 0) (served : Served) (Grows 
   pub by_lines : List Made
   pub held : List Element
   pub handed : AreSomeOf held (handed_out lines)
-  pub of_lines : IsOfLines policy [] lines by_lines held
+  pub done : List Element
+  pub dead : List Element
+  pub of_lines : AreOfLines policy [] lines by_lines done dead held
   pub by_closing : List Made
   pub lost : List Element
   pub of_closing : AreOfClosing policy held by_closing lost

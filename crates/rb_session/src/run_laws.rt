@@ -7,7 +7,7 @@ use std::io::Write;
 
 /// What a whole run of a session makes at a desk of any kind, however it ends and whichever way its
 /// replies go: the events of the lines that were served, which come first in the bytes that came,
-/// and then those of the jobs that were still held. It ends each job that it was given once.
+/// and then those of the jobs that were still held. It accounts for each job that it was given.
 pub fn events_of_run<D: Desk, W: Write>()
     ensures { MakesByRun D.Desk W.contents }
 {}
