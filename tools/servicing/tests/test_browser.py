@@ -174,8 +174,8 @@ class ShownTest(ServedTest):
         self.show(state(runs=(dataclasses.replace(ENDED, history=path),)))
         self.browser.value("document.querySelector('#runs a').click()")
         self.shows("document.title", "run-11.txt.gz: report")
-        self.assertEqual(self.browser.value("document.querySelectorAll('.plot').length === 3"), True)
         self.shows("document.readyState", "complete")  # or the next test would take its end for that of its own page
+        self.assertEqual(self.browser.value("document.querySelectorAll('.plot').length === 3"), True)
 
 
 class PlotsTest(ServedTest):
