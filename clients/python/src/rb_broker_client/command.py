@@ -150,14 +150,12 @@ def _ask(asked: Asked) -> Iterator[str]:
     """Shows the line of the reply to each of these requests."""
     with _broker(asked) as broker:
         for request in asked.requests(asked):
-            said: list[bytes] = []
+            def read(lines: Iterator[bytes]) -> str:
+                line = next(lines)
+                request.read(iter([line]))
+                return line.decode()
 
-            def read(next_line: Callable[[], bytes]) -> None:
-                said.append(next_line())
-                request.read(lambda: said[0])
-
-            broker.ask(Request(request.line, read))
-            yield said[0].decode()
+            yield broker.ask(Request(request.line, read))
 
 
 def _drain(asked: Asked) -> Iterator[str]:

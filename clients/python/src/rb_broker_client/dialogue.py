@@ -5,15 +5,12 @@ import math
 import time
 from collections import deque
 from collections.abc import Callable
+from operator import length_hint
 from typing import Any
 
 from .errors import BrokerError, UnknownReplyError
 from .job import LONGEST_REPLY
 from .request import Request
-
-
-class _Incomplete(Exception):
-    """Of the reply that is due more lines are to come."""
 
 
 class Dialogue:
@@ -27,7 +24,6 @@ class Dialogue:
         self._due: deque[tuple[Request[Any], int]] = deque()  # with when each was sent
         self._lines: deque[bytes] = deque()  # that came, and are not taken for a reply
         self._rest, self._came = b"", 0  # of a line of which more is to come, and when that came
-        self._begun: list[bytes] = []  # lines of the reply that is read
         self._is_unclear = False  # which line answers which request, after an unknown reply
         self.answers: deque[Any] = deque()
         """What nobody has taken yet, each refusal in its place."""
@@ -68,24 +64,15 @@ class Dialogue:
 
     def _read(self) -> None:
         while self._lines and self._due and not self._is_unclear:
-            request, sent = self._due[0]
+            (request, sent), lines = self._due[0], iter(self._lines)
             try:
-                answer = request.read(self._next_line)
-            except _Incomplete:
-                self._lines.extendleft(reversed(self._begun))
-                self._begun = []
-                return
+                answer = request.read(lines)
+            except StopIteration:
+                return  # lines of this reply are to come
             except BrokerError as instead:
                 answer = instead
                 self._is_unclear = isinstance(instead, UnknownReplyError)
             self._due.popleft()
-            self._note(sent, self._came, request.line, self._begun)
+            reply = [self._lines.popleft() for _ in range(len(self._lines) - length_hint(lines))]
+            self._note(sent, self._came, request.line, reply)
             self.answers.append(answer)
-            self._begun = []
-
-    def _next_line(self) -> bytes:
-        if not self._lines:
-            raise _Incomplete
-        line = self._lines.popleft()
-        self._begun.append(line)
-        return line

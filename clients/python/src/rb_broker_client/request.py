@@ -3,7 +3,7 @@ protocol: what is not the reply that is due raises `UnknownReplyError`."""
 from __future__ import annotations
 
 import re
-from collections.abc import Callable, Mapping
+from collections.abc import Callable, Iterator, Mapping
 from dataclasses import dataclass
 from typing import Generic, NoReturn, Optional, TypeVar
 
@@ -12,8 +12,7 @@ from .errors import REFUSALS, BrokerError, StoppedError, UnknownReplyError
 from .job import GREATEST_NUMBER, LONGEST_PAYLOAD, Again, Dead, Job, Offered, Verdict
 
 Answer = TypeVar("Answer")
-NextLine = Callable[[], bytes]
-
+Reader = Callable[[Iterator[bytes]], Answer]  # of a reply, of which it takes as many lines as there are
 _NONE = {b"NONE": None}
 _PAYLOAD = "[!-~]{1,%d}" % LONGEST_PAYLOAD
 _WAITS: Mapping[bytes, type[BrokerError]] = {**REFUSALS, b"STOPPED": StoppedError}
@@ -49,10 +48,10 @@ def _form(text: str, make: Callable[..., Answer]) -> Callable[[bytes], Answer]:
 
 
 def _reader(exact: Mapping[bytes, Answer], form: Callable[[bytes], Answer] = _unknown,
-            refusals: Mapping[bytes, type[BrokerError]] = REFUSALS) -> Callable[[NextLine], Answer]:
+            refusals: Mapping[bytes, type[BrokerError]] = REFUSALS) -> Reader[Answer]:
     # Of a reply that is one of these lines, or of this form.
-    def read(next_line: NextLine) -> Answer:
-        line = next_line()
+    def read(lines: Iterator[bytes]) -> Answer:
+        line = next(lines)
         if line in exact:
             return exact[line]
         if line in refusals:
@@ -76,7 +75,7 @@ class Request(Generic[Answer]):
     """
 
     line: bytes
-    read: Callable[[NextLine], Answer]
+    read: Reader[Answer]
 
     def __str__(self) -> str:
         return self.line.decode("utf-8", "replace")
@@ -116,7 +115,7 @@ class Request(Generic[Answer]):
     @classmethod
     def drain(cls, most: int) -> Request[list[Job]]:
         """Takes up to so many jobs that have expired, and no more than the session may hold."""
-        return Request(b"DRAIN %d" % most, lambda next_line: [_item(next_line()) for _ in range(_count(next_line))])
+        return Request(b"DRAIN %d" % most, lambda lines: [_item(next(lines)) for _ in range(_count(lines))])
 
     @classmethod
     def done(cls, id: int) -> Request[None]:

@@ -12,9 +12,9 @@ GREATEST = 18_446_744_073_709_551_615
 
 def answer(request, *lines):
     """What the request's reader makes of these reply lines. All of them have to be read."""
-    rest = iter(lines)
-    told = request.read(lambda: next(rest).encode("latin-1"))
-    if list(rest):
+    rest = (it.encode("latin-1") for it in lines)
+    told = request.read(rest)
+    if [*rest]:
         raise AssertionError("lines are left")
     return told
 
