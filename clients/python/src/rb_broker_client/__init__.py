@@ -8,7 +8,7 @@
 Delays, waits, timeouts and patience are seconds or a `timedelta`. Moments of the protocol are whole nanoseconds of the
 server's clock, under names that end in `_ns`.
 """
-from .broker import AsyncBroker, AsyncHeldJob, Broker, HeldJob
+from .clients import AsyncBroker, AsyncHeldJob, AsyncProducer, Broker, HeldJob, Producer
 from .dead_letters import DeadLetters
 from .durations import Duration, Pauses
 from .errors import (
@@ -17,7 +17,6 @@ from .errors import (
     StoppedError, SyntaxRefusedError, UnknownReplyError,
 )
 from .job import GREATEST_NUMBER, LONGEST_PAYLOAD, MOST_HELD, Again, Dead, Job, Offered, Report, Verdict
-from .producer import AsyncProducer, Producer
 from .record import RecordTarget
 from .request import Request
 from .worker import AsyncHandler, AsyncWorker, Handler, OnDead, Worker

@@ -1,13 +1,12 @@
-"""Sessions with a server: for asyncio, and blocking."""
+"""Sessions with a server, as the brokers of both kinds have them in `clients`."""
 from __future__ import annotations
 
 import socket
 import ssl
-from collections.abc import Callable, Coroutine, Iterable
-from contextlib import ExitStack
-from functools import wraps
+from collections.abc import Callable, Iterable
+from contextlib import ExitStack, suppress
 from selectors import EVENT_READ, EVENT_WRITE
-from typing import TYPE_CHECKING, Any, ClassVar, TypeVar, Union
+from typing import Any, ClassVar, Union
 
 from .dialogue import Dialogue
 from .durations import Duration, seconds
@@ -15,37 +14,23 @@ from .errors import BrokerError, DisconnectedError, NotHeldError, RefusedError, 
 from .job import Job, Verdict
 from .record import Record, RecordTarget
 from .request import Answer, Request
-from .waiting import Blocking, Kind, Looping, blocking, run
-
-if TYPE_CHECKING:
-    from typing_extensions import Concatenate
-
-    from .waiting import Words
+from .waiting import Kind, run
 
 Either = Union[Answer, RefusedError, StoppedError]  # an answer, or the exception in its place
-Method = TypeVar("Method", bound=Callable[..., object])
 
 _NOT_NOW = (BlockingIOError, ssl.SSLWantReadError, ssl.SSLWantWriteError)
 
 
-def _like(of: Callable[..., Request[Any]]) -> Callable[[Method], Method]:
-    # The name, the text and the words of the request, where the class stands for `self`.
-    return wraps(getattr(of, "__func__"), ("__name__", "__doc__"))
-
-
-def _asks(of: Callable[Words, Request[Answer]]) -> Callable[Concatenate[Any, Words], Coroutine[Any, Any, Answer]]:
-    @_like(of)
-    async def method(self: Session, /, *words: Words.args, **options: Words.kwargs) -> Answer:
-        return await self._ask(of(*words, **options))
-
-    return method
-
-
 class Session:
-    """One session with `rb_broker serve`, from the connection to its end.
+    """One session with `rb_broker serve`, from the connection to its end. One thread or task at a time may use it.
 
-    An exception in the middle of a wait, such as that of a signal handler, loses no byte that was received. The
-    coroutines are those of both kinds. Those of a blocking client never suspend.
+    There is a method for each request, which sends it, waits for the reply and gives that as a value. A refusal is
+    raised as a kind of `RefusedError`, a lost connection as an `OSError`. To send several requests in one piece use
+    `ask_all`, or `send` and then a `receive` for each.
+
+    The jobs that a session holds fail when it ends, by `quit`, by `close` or at the end of a `with`: they come back to
+    other sessions until their attempts are used up. An exception in the middle of a wait, such as that of a signal
+    handler, loses no byte that was received.
     """
 
     _kind: ClassVar[Kind]
@@ -64,7 +49,7 @@ class Session:
         self.dialogue = Dialogue(recorded.note)
         self.at_end.callback(recorded.close)
         self.at_end.callback(self.dialogue.end)
-        if self._kind is Blocking:
+        if not self._kind.is_async:
             run(self._connect())
 
     @property
@@ -106,22 +91,15 @@ class Session:
         """Sends requests in one piece, as far as the connection takes it now. The rest is sent with what follows."""
         self._unsent += self.dialogue.ask(*questions)
         self._demand()
-        try:
+        with suppress(*_NOT_NOW):
             while self._unsent:
                 del self._unsent[:self._socket.send(self._unsent)]
-        except _NOT_NOW:
-            pass
 
     def received(self) -> list[Any]:
         """The answers to what has come, each refusal in its place."""
         if not self.dialogue.answers:
             self._demand()
         return [self._take() for _ in range(len(self.dialogue.answers))]
-
-    def receive_ready(self) -> list[Any]:
-        """Waits for nothing: the answers whose replies have come, each refusal in its place."""
-        self.is_lost()
-        return self.received()
 
     async def _connect(self) -> None:
         if isinstance(self._fault, RuntimeError):
@@ -157,15 +135,16 @@ class Session:
 
     async def _ask(self, request: Request[Answer]) -> Answer:
         """Sends a request and gives its answer."""
-        self._demand_none_due()
-        await self._send(request)
-        answer: Answer = await self._receive()
+        (answer,) = await self._ask_all([request])
+        if isinstance(answer, BrokerError):
+            raise answer
         return answer
 
     async def _ask_all(self, questions: Iterable[Request[Answer]]) -> list[Either[Answer]]:
         """Sends any number of requests in one piece, and gives the answer to each. For a request that was refused, or
         whose wait was given up, the answer is that exception."""
-        self._demand_none_due()
+        if self.unanswered:
+            raise RuntimeError(f"{self.unanswered} replies have to be received first")
         await self._send(*questions)
         return [await self._receive_either() for _ in range(self.unanswered)]
 
@@ -192,10 +171,6 @@ class Session:
             raise answer
         return answer
 
-    def _demand_none_due(self) -> None:
-        if self.unanswered:
-            raise RuntimeError(f"{self.unanswered} replies have to be received first")
-
     def _demand(self) -> None:
         if self._fault is not None:
             raise self._fault
@@ -212,113 +187,23 @@ class Session:
                 self.post()
 
 
-class _Held(Job):
+class Held(Job):
+    """A job that a session holds until it is done or fails, or the session ends."""
+
+    _session: Session
+
     def __init__(self, session: Session, job: Job) -> None:
-        super().__init__(job.id, job.expires_at_ns, job.attempt, job.payload)
-        vars(self)["_session"] = session  # past the lock of a frozen class
+        vars(self).update(vars(job), _session=session)  # past the lock of a frozen class
 
-    async def _settle(self, request: Callable[[int], Request[Answer]]) -> Answer:
-        session: Session = vars(self)["_session"]
-        if session.is_lost():
+    async def _settle(self, request: Request[Answer]) -> Answer:
+        if self._session.is_lost():
             raise NotHeldError(f"job {self.payload} is no longer held: its session has ended")
-        return await session._ask(request(self.id))
+        return await self._session._ask(request)
 
-
-class AsyncHeldJob(_Held):
-    """A job that an `AsyncBroker` holds until it is done or fails, or its session ends."""
-
-    async def done(self) -> None:
+    async def _done(self) -> None:
         """The job is finished. Raises `NotHeldError` if it isn't held any more, also if its session has ended."""
-        await self._settle(Request.done)
+        await self._settle(Request.done(self.id))
 
-    async def fail(self) -> Verdict:
+    async def _fail(self) -> Verdict:
         """The job failed now. Gives `Again` or `Dead`, and raises what `done` does."""
-        return await self._settle(Request.fail)
-
-
-class HeldJob(_Held):
-    """A job that a `Broker` holds until it is done or fails, or its session ends."""
-
-    done, fail = blocking(AsyncHeldJob.done), blocking(AsyncHeldJob.fail)
-
-
-class AsyncBroker(Session):
-    """One session with `rb_broker serve`, as `Broker`, for asyncio. One task at a time may use it.
-
-        async with AsyncBroker(7011) as broker:
-            await broker.offer("letter-17")
-
-    If a task is cancelled while it waits for a reply, that is still due: `receive` waits for it again, and nothing else
-    can be asked before. So prefer `poll_for` to a `take` with a timeout around it.
-    """
-
-    _kind, _held = Looping, AsyncHeldJob
-
-    async def connect(self) -> AsyncBroker:
-        """Connects, and gives this broker."""
-        await self._connect()
-        return self
-
-    __aenter__ = connect
-
-    async def __aexit__(self, *fault: object) -> None:
-        self.close()
-
-    @_like(Request.poll)
-    async def poll(self) -> AsyncHeldJob | None:
-        job = await self._ask(Request.poll())
-        return self._held(self, job) if job else None
-
-    @_like(Request.poll_for)
-    async def poll_for(self, timeout: Duration) -> AsyncHeldJob | None:
-        job = await self._ask(Request.poll_for(timeout))
-        return self._held(self, job) if job else None
-
-    @_like(Request.take)
-    async def take(self) -> AsyncHeldJob:
-        return self._held(self, await self._ask(Request.take()))
-
-    @_like(Request.drain)
-    async def drain(self, most: int) -> list[AsyncHeldJob]:
-        return [self._held(self, it) for it in await self._ask(Request.drain(most))]
-
-    offer, offer_at, peek = _asks(Request.offer), _asks(Request.offer_at), _asks(Request.peek)
-    done, fail, remove = _asks(Request.done), _asks(Request.fail), _asks(Request.remove)
-    clear, size = _asks(Request.clear), _asks(Request.size)
-    ask, ask_all, send, receive = Session._ask, Session._ask_all, Session._send, Session._receive
-    quit, await_service = Session._quit, Session._await_service
-
-
-class Broker(Session):
-    """One session with `rb_broker serve`, from the connection to its end. One thread at a time may use it.
-
-    There is a method for each request, which sends it, waits for the reply and gives that as a value. A refusal is
-    raised as a kind of `RefusedError`, a lost connection as an `OSError`. To send several requests in one piece use
-    `ask_all`, or `send` and then a `receive` for each.
-
-    The jobs that a session holds fail when it ends, by `quit`, by `close` or at the end of a `with`: they come back to
-    other sessions until their attempts are used up.
-    """
-
-    _kind, _held = Blocking, HeldJob
-
-    def __enter__(self) -> Broker:
-        return self
-
-    def __exit__(self, *fault: object) -> None:
-        self.close()
-
-    if TYPE_CHECKING:  # of what the kinds of jobs are
-        def poll(self) -> HeldJob | None: ...
-        def poll_for(self, timeout: Duration) -> HeldJob | None: ...
-        def take(self) -> HeldJob: ...
-        def drain(self, most: int) -> list[HeldJob]: ...
-    else:
-        poll, poll_for = blocking(AsyncBroker.poll), blocking(AsyncBroker.poll_for)
-        take, drain = blocking(AsyncBroker.take), blocking(AsyncBroker.drain)
-    offer, offer_at, peek = blocking(AsyncBroker.offer), blocking(AsyncBroker.offer_at), blocking(AsyncBroker.peek)
-    done, fail, remove = blocking(AsyncBroker.done), blocking(AsyncBroker.fail), blocking(AsyncBroker.remove)
-    clear, size = blocking(AsyncBroker.clear), blocking(AsyncBroker.size)
-    ask, ask_all = blocking(Session._ask), blocking(Session._ask_all)
-    send, receive = blocking(Session._send), blocking(Session._receive)
-    quit, await_service = blocking(Session._quit), blocking(Session._await_service)
+        return await self._settle(Request.fail(self.id))

@@ -23,12 +23,11 @@ from contextlib import contextmanager
 from typing import Any, NoReturn
 
 from . import __version__
-from .broker import Broker
+from .clients import Broker, Producer
 from .dead_letters import payload_of, read_letters, take_letters
 from .durations import read_delay, seconds
 from .errors import BrokerError, InDoubtError, NotOfferedError, RefusedError
 from .job import MOST_HELD, Job
-from .producer import Producer
 from .request import Request
 from .tls import add_tls_words, context_of
 from .worker import AsyncWorker, Worker

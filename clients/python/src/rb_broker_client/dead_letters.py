@@ -8,8 +8,8 @@ from contextlib import contextmanager
 from datetime import datetime, timezone
 from typing import IO, Union
 
+from .clients import AsyncProducer, Producer
 from .job import Job
-from .producer import AsyncProducer, Producer
 
 Path = Union[str, "os.PathLike[str]"]
 _LONGEST = 4_096  # bytes of no line are more

@@ -42,11 +42,6 @@ def seconds(duration: Duration) -> float:
     return value
 
 
-def seconds_or_infinity(duration: Duration | None) -> float:
-    """A duration in seconds, where None is one without an end."""
-    return math.inf if duration is None else seconds(duration)
-
-
 def read_delay(text: str) -> Fraction:
     """The seconds of `5s`, `1.5h` or `250`. Raises `ValueError` with a sentence."""
     found = re.fullmatch(r"([0-9]+(?:\.[0-9]+)?)(|ns|us|ms|s|m|h|d)", text, re.ASCII)
@@ -61,10 +56,8 @@ def read_delay(text: str) -> Fraction:
 
 
 class Pauses:
-    """The pauses between tries that fail one after the other.
-
-    Each is twice as long as the one before, from `first` up to `longest`. From that a random part is taken off, up to a
-    half: clients that lose their server at the same moment do not all come back at the same moment.
+    """The pauses between tries that fail one after the other. Each is twice as long as the one before, from `first` up
+    to `longest`, less a random part, up to a half: clients that lose their server together do not come back together.
     """
 
     def __init__(self, first: Duration = 0.1, longest: Duration = 10.0) -> None:
@@ -85,14 +78,12 @@ class Pauses:
 
 
 class Ages:
-    """How old the sessions of a client may become: as old as `limit`, or without an end if that is None.
-
-    One that was served late is brief, so that each of several clients that wait for a server's workers has its turn.
-    The first one may be brief, since it can't know whether others wait.
-    """
+    """How old the sessions of a client may become. One that was served late is brief, so that each of several clients
+    that wait for a server's workers has its turn. The first one may be, since it can't know whether others wait."""
 
     def __init__(self, limit: Duration | None, first_is_brief: bool) -> None:
-        self._limit, self._is_next_brief = seconds_or_infinity(limit), first_is_brief
+        self._limit = math.inf if limit is None else seconds(limit)
+        self._is_next_brief = first_is_brief
 
     def next(self, waited: float) -> float:
         """The seconds of a session that is served now, after a wait of so many seconds."""

@@ -20,8 +20,8 @@ class Offered:
 
 @dataclass(frozen=True, eq=False)
 class Job:
-    """An element of the queue: one that was given, or one that `peek` shows. Its `attempt` is 1 for
-    the first attempt. Jobs of the same values are equal, whoever holds them."""
+    """An element of the queue: one that was given, or one that `peek` shows. Its `attempt` is 1 for the first attempt.
+    Jobs of the same values are equal, whoever holds them."""
 
     id: int
     expires_at_ns: int

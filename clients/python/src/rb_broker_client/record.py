@@ -36,12 +36,11 @@ class Record:
         """Adds the line of a request. It is in the file when this returns."""
         if self._target is None:
             return
-        texts = [it.decode("utf-8", "backslashreplace") for it in (request, *reply)]
-        told = {"session": self._session, "sent": sent, "received": came, "request": texts[0],
-                "reply": texts[1:]}
+        asked, *told = [it.decode("utf-8", "backslashreplace") for it in (request, *reply)]
+        line = {"session": self._session, "sent": sent, "received": came, "request": asked, "reply": told}
         try:
             with _WRITING:
-                self._write(json.dumps(told) + "\n")
+                self._write(json.dumps(line) + "\n")
         except (OSError, ValueError) as fault:  # a file that was closed is a ValueError
             log.error("the record can't be written, and ends here: %s", fault)
             self._target = None

@@ -8,9 +8,9 @@ _PIECE, _MOST_PIECES = 1_024, 4_096  # ids of one number, of each a bit, and how
 
 
 class Run:
-    """The run of a server. It logs an error when the server has lost that run, which begins again
-    then from where it had begun: its ids are given again, and its clock goes back. It also tells
-    the log when the server is away, and when it serves again, each once."""
+    """The run of a server. It logs an error when the server has lost that run, which begins again then from where it
+    had begun: its ids are given again, and its clock goes back. It also logs when the server is away, and when it
+    serves again, each once."""
 
     def __init__(self, log: logging.Logger, place: str) -> None:
         """`place` is what the log calls the server."""
@@ -59,11 +59,9 @@ class Run:
         self._greatest = max(id, self._greatest)
 
     def _lost(self, sign: str) -> None:
-        self._log.error(
-            "the server at %s has lost its run: %s, and ids up to %d were known. What stood in its "
-            "queue is gone, with what was not done of the %d jobs that this client had offered, "
-            "and ids of that run name other jobs now",
-            self.place, sign, self._greatest, self._offered)
+        self._log.error("the server at %s has lost its run: %s, and ids up to %d were known. What stood in its queue is "
+                        "gone, with what was not done of the %d jobs that this client had offered, and ids of that run "
+                        "name other jobs now", self.place, sign, self._greatest, self._offered)
         self._begin()
 
 

@@ -87,7 +87,7 @@ class ThreadTurns:
             self.wake()
 
     async def close(self) -> None:
-        """Ends the threads, each once its task has ended."""
+        """Lets nothing run any more: threads end, each once its task has ended, and tasks of a loop are cancelled."""
         for _ in range(self._threads):
             self._tasks.put(None)
 
@@ -96,23 +96,21 @@ class LoopTurns:
     """Takes turns in callbacks of an event loop, and runs each task beside them.
 
     A turn that starts tasks is followed by another as soon as each has run up to where it waits: what ends at once is
-    told in one piece, and its place is free when more is fetched.
+    told in one piece, and its place is free when more is fetched. Its methods do what those of `ThreadTurns` do.
     """
 
     is_apart = True
 
     def __init__(self, is_apart: bool) -> None:
-        self._tasks: set[Any] = set()
+        self._tasks: set[asyncio.Task[object]] = set()
         self._loop: asyncio.AbstractEventLoop | None = None  # the one in which it runs
         self._is_rung = self.has_started = False  # whether a turn is due in it, and whether this one has started tasks
         self._timer: asyncio.TimerHandle | None = None
 
     async def run(self, turn: Turn) -> None:
-        """Takes turns until all is done."""
-        self._turn = turn
-        self._over: asyncio.Future[None] = asyncio.get_running_loop().create_future()
-        self._context = contextvars.copy_context()  # of turns, also of those that the end of a task brings about
+        self._turn, self._context = turn, contextvars.copy_context()  # in which each task begins
         self._loop = asyncio.get_running_loop()
+        self._over = self._loop.create_future()
         self._take()
         await self._over
 
@@ -135,7 +133,7 @@ class LoopTurns:
     def _ring(self) -> None:
         if not self._is_rung:
             self._is_rung = True
-            asyncio.get_running_loop().call_soon(self._hear, context=self._context)
+            asyncio.get_running_loop().call_soon(self._hear)
 
     def _hear(self) -> None:
         if self._is_rung:  # and no turn was taken since
@@ -156,13 +154,11 @@ class LoopTurns:
         self._take()
 
     def wake(self) -> None:
-        """Something has happened. Other threads and signal handlers may call it."""
         if self._loop is not None:
             with suppress(RuntimeError):  # the loop is closed, and nothing runs any more
-                self._loop.call_soon_threadsafe(self._take, context=self._context)
+                self._loop.call_soon_threadsafe(self._take)
 
     def watch(self, session: Any) -> None:
-        """Takes a turn when something comes in this session too, and reads it."""
         loop = asyncio.get_running_loop()
         loop.add_reader(session.fileno(), self._feed, session)
         session.at_end.callback(loop.remove_reader, session.fileno())
@@ -172,23 +168,19 @@ class LoopTurns:
         self._take()
 
     def begin(self, task: Task) -> None:
-        """Runs a task of the worker itself."""
         self.start(task, 0)
 
     def start(self, task: Task, running: int) -> Callable[[], object]:
-        """Runs a task, beside others. Gives what cancels it."""
         self.has_started = True
-        started = asyncio.get_running_loop().create_task(task)
+        started: asyncio.Task[object] = self._context.run(lambda: asyncio.get_running_loop().create_task(task))
         self._tasks.add(started)
         return started.cancel
 
     def ended(self) -> None:
-        """A task that was started ends now."""
-        self._tasks.discard(asyncio.current_task())
+        self._tasks -= {asyncio.current_task()}
         self._ring()
 
     async def close(self) -> None:
-        """Cancels all tasks, and waits until they have ended."""
         if self._timer is not None:
             self._timer.cancel()
         for it in self._tasks:

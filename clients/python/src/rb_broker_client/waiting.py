@@ -2,7 +2,6 @@
 from __future__ import annotations
 
 import asyncio
-import functools
 import selectors
 import socket
 import threading
@@ -10,12 +9,7 @@ import time
 from collections.abc import Callable, Coroutine
 from concurrent.futures import Future
 from contextlib import suppress
-from typing import TYPE_CHECKING, Any, TypeVar, Union
-
-if TYPE_CHECKING:
-    from typing_extensions import Concatenate, ParamSpec
-
-    Words = ParamSpec("Words")
+from typing import Any, TypeVar, Union
 
 Result = TypeVar("Result")
 Task = Coroutine[Any, Any, object]
@@ -31,17 +25,6 @@ def run(coroutine: Coroutine[Any, Any, Result]) -> Result:
         result: Result = ended.value
         return result
     raise RuntimeError("a blocking client is to wait for an event loop")
-
-
-def blocking(of: Callable[Concatenate[Any, Words], Coroutine[Any, Any, Result]]
-             ) -> Callable[Concatenate[Any, Words], Result]:
-    """The method that runs this coroutine method to its end."""
-
-    @functools.wraps(of)
-    def method(self: Any, /, *words: Words.args, **options: Words.kwargs) -> Result:
-        return run(of(self, *words, **options))
-
-    return method
 
 
 def start_thread(function: Callable[[], object], name: str) -> None:
@@ -122,8 +105,7 @@ class Looping:
 
     @staticmethod
     def later(seconds: float, begin: Callable[[], Task]) -> Callable[[], object]:
-        loop = asyncio.get_running_loop()
-        return loop.call_later(seconds, lambda: asyncio.ensure_future(begin())).cancel
+        return asyncio.get_running_loop().call_later(seconds, lambda: asyncio.ensure_future(begin())).cancel
 
 
 Kind = Union[type[Blocking], type[Looping]]

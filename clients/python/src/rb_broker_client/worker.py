@@ -12,10 +12,12 @@ from collections import deque
 from collections.abc import Awaitable, Callable
 from contextlib import ExitStack
 from dataclasses import dataclass
+from functools import partial
 from typing import Any, ClassVar, Generic, Optional, TypeVar
 
-from .broker import AsyncBroker, Broker, Session
-from .durations import FOR_EVER, Ages, Duration, Pauses, seconds, seconds_or_infinity
+from .broker import Session
+from .clients import AsyncBroker, Broker
+from .durations import FOR_EVER, Ages, Duration, Pauses, seconds
 from .job import MOST_HELD, Job, Report
 from .record import RecordTarget, check_record
 from .run import Run
@@ -62,7 +64,7 @@ class BaseWorker(Generic[AnyHandler]):
                  wait: Duration = 1.0, patience: Duration = 10.0, session: Duration | None = 30.0,
                  timeout: Duration | None = None, on_dead: OnDead | None = None, tls: ssl.SSLContext | None = None,
                  pauses: Pauses | None = None, record: RecordTarget | None = None) -> None:
-        """Connects to nothing yet. Durations are seconds or a `timedelta`.
+        """Connects to nothing yet.
 
         `wait` is how long the worker waits for a job at a time, and so how long a stop takes at most while it is idle.
         It makes a call each time. While jobs run a wait is a fifth of that, since a server reads nothing behind a wait:
@@ -72,15 +74,15 @@ class BaseWorker(Generic[AnyHandler]):
 
         `on_dead` is called with each job whose failure the server answered with `DEAD`, and is the place to keep it. It
         isn't called for a job whose last attempt ended with its session, of which no reply tells. An `Exception` that
-        it raises is logged. With `tls` the connection is encrypted, and the certificates are those of this context.
-        `record` is a path or an open text file to which a line is added for each request.
+        it raises is logged. `tls` and `record` are those of a `Broker`.
         """
         if not 1 <= concurrency <= MOST_HELD:
             raise ValueError(f"from 1 to {MOST_HELD} jobs can run at the same time")
         self._handler: Callable[[Job], object] = handler
         self._on_dead, self._concurrency = on_dead, concurrency
-        self._port, self._host, self._tls, self._record = port, host, tls, check_record(record)
-        self._wait, self._patience, self._timeout = seconds(wait), seconds(patience), seconds_or_infinity(timeout)
+        self._session_at = partial(self._session_of, port, host, tls=tls, record=check_record(record))
+        self._wait, self._patience = seconds(wait), seconds(patience)
+        self._timeout = math.inf if timeout is None else seconds(timeout)
         self._ages, self._pauses = Ages(session, first_is_brief=True), pauses or Pauses()
         self._run_known = Run(log, f"{host}:{port}")
         self._turns = self._turns_of(concurrency > 1 or timeout is not None)
@@ -99,7 +101,6 @@ class BaseWorker(Generic[AnyHandler]):
         self._turns.wake()
 
     async def _work(self) -> Report:
-        """Works until `stop`, once for each worker. At the end no job is held, and the session has ended."""
         try:
             await self._turns.run(self._turn)
         finally:
@@ -109,8 +110,6 @@ class BaseWorker(Generic[AnyHandler]):
         return self.report
 
     def _turn(self) -> float | None:
-        """Does what is to be done now. Gives within how many seconds something is to be done though nothing happens, or
-        None when all is done. Handlers that took too long are not waited for."""
         self._settle()
         for work, session in [*self._visits.items()]:
             try:
@@ -138,7 +137,7 @@ class BaseWorker(Generic[AnyHandler]):
     async def _connect(self) -> None:
         patience = min(self._patience, BESIDE) if self._visits else self._patience
         try:
-            session = self._session_of(self._port, self._host, patience, tls=self._tls, record=self._record)
+            session = self._session_at(patience)
             with ExitStack() as undo:
                 undo.callback(session.close)
                 await session._connect()
@@ -269,15 +268,15 @@ class BaseWorker(Generic[AnyHandler]):
 class AsyncWorker(BaseWorker[AsyncHandler]):
     """Takes jobs and runs the handler on each, up to `concurrency` of them at the same time, as `Worker`, for asyncio.
 
-        worker = AsyncWorker(deliver, 7011, concurrency=64)
-        asyncio.get_running_loop().add_signal_handler(signal.SIGTERM, worker.stop)
-        report = await worker.run()
-
     Each job is a task of the loop, which is cancelled after `timeout`. If `run` is cancelled so are these tasks, and
     the session ends with their jobs.
     """
 
-    _session_of, _turns_of, run = AsyncBroker, LoopTurns, BaseWorker._work
+    _session_of, _turns_of = AsyncBroker, LoopTurns
+
+    async def run(self) -> Report:
+        """Works until `stop`, once for each worker. At the end no job is held, and the session has ended."""
+        return await self._work()
 
 
 class Worker(BaseWorker[Handler]):

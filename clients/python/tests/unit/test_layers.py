@@ -2,6 +2,7 @@
 import ast
 import os
 import re
+import runpy
 import unittest
 
 import rb_broker_client
@@ -59,6 +60,13 @@ class LayersTest(unittest.TestCase):
             for name in methods[0]:
                 texts = [getattr(getattr(rb_broker_client, kind), name).__doc__ for kind in (one, other)]
                 self.assertTrue(all(texts), name)
+
+
+class MadeTest(unittest.TestCase):
+    def test_the_clients_are_what_the_script_makes(self):
+        made = runpy.run_path(os.path.join(TOP, "clients", "python", "make_clients.py"))["made"]
+        with open(os.path.join(SOURCE, "clients.py"), encoding="utf-8") as file:
+            self.assertEqual(file.read(), made())
 
 
 class VersionTest(unittest.TestCase):

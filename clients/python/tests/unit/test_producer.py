@@ -7,7 +7,7 @@ import unittest.mock
 from from_threads import for_both_kinds
 from scripted import GOODBYE, GREETING, HANGS_UP, NOTHING, PATIENCE, ScriptedTest, free_port
 from rb_broker_client import (
-    FullError, InDoubtError, NotOfferedError, Offered, OutOfMemoryError, Pauses, Producer, RangeRefusedError,
+    Broker, FullError, InDoubtError, NotOfferedError, Offered, OutOfMemoryError, Pauses, Producer, RangeRefusedError,
 )
 
 OFFER = "OFFER 5 a"
@@ -166,7 +166,7 @@ class ForkTest(ProducerCase):
         child = os.fork()
         if child == 0:
             try:
-                producer._port = other.port  # each scripted server serves one session at a time
+                producer._session_at = lambda _: Broker(other.port)  # a scripted server serves one at a time
                 os._exit(offer(producer).id)
             finally:
                 os._exit(99)
