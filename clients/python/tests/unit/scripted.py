@@ -2,6 +2,7 @@
 import contextlib
 import logging
 import os
+import re
 import socket
 import tempfile
 import threading
@@ -9,27 +10,17 @@ import unittest
 
 PATIENCE = 10  # seconds after which a client that does not go on is given up
 
-NOTHING = object()  # in a request's place: the reply comes unasked
-HANGS_UP = object()  # in a reply's place: the connection is closed
-SAYS_NOTHING = object()  # in a reply's place: the client has to go on by itself
-
-GREETING = ("AT 0", "ERR 1 syntax")
-GOODBYE = ("QUIT", "BYE")
-
-
-class OnceMoreCame:
-    """A reply that is sent once the next request has come. The action is called before that."""
-
-    def __init__(self, action, reply):
-        self.action, self.reply = action, reply
+SAID = {"AT 0": "ERR 1 syntax", "QUIT": "BYE"}  # replies that go without saying; that to `DONE 7` is the same line
+SHORT = {"WAIT": "POLLFOR 1000000000", "BRIEF": "POLLFOR 200000000"}  # a worker's waits
 
 
 class ScriptedServer:
     """Serves its sessions one after the other, or `together`, at a free port, and then listens no more.
 
-    A session is a list of steps: the request line that has to come, and the reply. Bytes are sent as they are, and a
-    text as a line. A function in the reply's place is called for it. `NOTHING` in a request's place is no wait. After
-    the last step the client has to leave, and to send nothing before. `ended` is released once for each session.
+    A session is a list of steps: the request line that has to come, or an empty one where nothing is waited for; and the
+    reply, which is a text or bytes, or a function that gives it. Such a function is called with one that waits until
+    the next request has come. After the last step the client has to leave, and to send nothing before. `ended` is
+    released once for each session.
     """
 
     def __init__(self, *sessions, together=False):
@@ -75,18 +66,14 @@ class ScriptedServer:
         connection.settimeout(PATIENCE)
         with connection, connection.makefile("rb") as lines:
             for request, reply in steps:
-                line = "" if request is NOTHING else lines.readline().decode()
-                if request is not NOTHING and line != f"{request}\n":
+                line = lines.readline().decode() if request else ""
+                if request and line != f"{request}\n":
                     self.faults.append(f"{line!r} came in the place of {request!r}")
                     return
-                if isinstance(reply, OnceMoreCame):
-                    reply.action()
-                    lines.peek(1)
-                    reply = reply.reply
-                reply = reply() if callable(reply) else reply
-                if reply is HANGS_UP:
+                reply = reply(lambda: lines.peek(1)) if callable(reply) else reply
+                if reply == "hangs up":
                     return
-                if reply is not SAYS_NOTHING:
+                if reply != "nothing":
                     connection.sendall(reply if isinstance(reply, bytes) else f"{reply}\n".encode())
             rest = lines.read()
             if rest:
@@ -95,7 +82,12 @@ class ScriptedServer:
 
 class ScriptedTest(unittest.TestCase):
     """A test whose servers play scripts. At its end each script has to be played to its last step. What clients log is
-    not shown."""
+    not shown.
+
+    A session may be a text, such as `WAIT > ITEM 0 0 1 a; DONE 0; WAIT > stop: NONE; QUIT; > hangs up`. Commas separate
+    the lines of a reply. A word before a colon is a method of the test, which is called before the reply is sent, with
+    what waits until the next request has come and the words behind it.
+    """
 
     def setUp(self):
         logging.disable(logging.CRITICAL)
@@ -104,9 +96,27 @@ class ScriptedTest(unittest.TestCase):
 
     def play(self, *sessions, together=False):
         """A server that plays these sessions."""
-        server = ScriptedServer(*sessions, together=together)
+        server = ScriptedServer(*map(self.steps, sessions), together=together)
         self.addCleanup(self.assert_played, server)
         return server
+
+    def steps(self, session):
+        """The steps of a session that is a text, or a list of steps and of texts."""
+        texts = session.split("; ") if isinstance(session, str) else session
+        return [self.step(it) if isinstance(it, str) else it for it in texts if it]
+
+    def step(self, text):
+        request, reply = re.fullmatch("([^>]*?)(?: ?> (.*))?", text).groups()
+        request = SHORT.get(request, request)
+        *calls, reply = (reply or SAID.get(request, request)).split(": ")
+        reply = reply.replace(", ", "\n")
+
+        def answer(more):
+            for method, *words in map(str.split, calls):
+                getattr(self, method)(more, *words)
+            return reply
+
+        return request, answer if calls else reply
 
     def assert_played(self, server):
         server.end()

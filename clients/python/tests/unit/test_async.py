@@ -4,8 +4,8 @@ import contextvars
 import time
 import unittest.mock
 
-from scripted import GOODBYE, GREETING, HANGS_UP, NOTHING, PATIENCE, SAYS_NOTHING, ScriptedTest, free_port
-from test_worker import A_IS_DONE, GIVES_A, POLL
+from scripted import PATIENCE, ScriptedTest, free_port
+from worker_case import A, GIVES_A
 from rb_broker_client import AsyncBroker, AsyncProducer, AsyncWorker, Job, Offered, Report
 
 
@@ -21,7 +21,8 @@ class CancelTest(ScriptedTest):
                     await broker.size()
                 return await broker.receive(), await broker.size()
 
-        server = self.play([("TAKE", lambda: time.sleep(0.2) or "ITEM 0 5 1 a"), ("SIZE", "SIZE 0")])
+        self.late = lambda _: time.sleep(0.2)
+        server = self.play("TAKE > late: ITEM 0 5 1 a; SIZE > SIZE 0")
         self.assertEqual(asyncio.run(run(server.port)), (Job(0, 5, 1, "a"), 0))
 
     def test_the_next_offer_begins_another_session(self):
@@ -31,7 +32,7 @@ class CancelTest(ScriptedTest):
                     await asyncio.wait_for(producer.offer("a", delay=5e-9), 2)
                 return await producer.offer("b", delay=5e-9)
 
-        server = self.play([GREETING, ("OFFER 5 a", SAYS_NOTHING)], [GREETING, ("OFFER 5 b", "OFFERED 1 5")])
+        server = self.play("AT 0; OFFER 5 a > nothing", "AT 0; OFFER 5 b > OFFERED 1 5")
         self.assertEqual(asyncio.run(run(server.port)), Offered(1, 5))
 
     def test_a_worker_ends_its_session_and_its_jobs(self):
@@ -51,7 +52,7 @@ class CancelTest(ScriptedTest):
                 await working
             return [*ended]
 
-        server = self.play([GREETING, (POLL, "ITEM 0 0 1 a"), ("POLLFOR 200000000", SAYS_NOTHING)])
+        server = self.play(f"AT 0; {GIVES_A}; BRIEF > nothing")
         self.assertEqual(asyncio.run(run(server.port)), ["a"])
 
     def test_a_handler_that_is_cancelled_has_failed(self):
@@ -59,7 +60,7 @@ class CancelTest(ScriptedTest):
             worker.stop()
             raise asyncio.CancelledError
 
-        server = self.play([GREETING, (POLL, "ITEM 0 0 1 a"), ("FAIL 0", "AGAIN 1 5"), GOODBYE])
+        server = self.play(f"AT 0; {GIVES_A}; FAIL 0 > AGAIN 1 5; QUIT")
         worker = AsyncWorker(handle, server.port)
         self.assertEqual(asyncio.run(worker.run()), Report(again=1))
 
@@ -80,20 +81,20 @@ class TaskTest(ScriptedTest):
             word.set("of the worker")
             return await worker.run()
 
-        server = self.play([GREETING, *[GIVES_A, A_IS_DONE] * 3, GOODBYE])
+        server = self.play(f"AT 0; {A}; {A}; {A}; QUIT")
         worker = AsyncWorker(handle, server.port)
         self.assertEqual(asyncio.run(run()), Report(done=3))
         self.assertEqual((seen, len({*tasks})), (["of the worker"] * 3, 3))
-
 
     def test_what_ends_at_once_is_told_in_one_piece_and_its_place_is_free(self):
         async def handle(job):
             handled.append(job.payload)
 
         handled = []
-        steps = [GIVES_A, A_IS_DONE, ("DRAIN 2", "DRAINED 2\nITEM 1 0 1 b\nITEM 2 0 1 c"), ("DONE 1", "DONE 1"),
-                 ("DONE 2", "DONE 2"), ("DRAIN 2", lambda: worker.stop() or "DRAINED 0"), GOODBYE]
-        worker = AsyncWorker(handle, self.play([GREETING, *steps]).port, concurrency=2)
+        self.stops = lambda _: worker.stop()
+        server = self.play(f"AT 0; {A}; DRAIN 2 > DRAINED 2, ITEM 1 0 1 b, ITEM 2 0 1 c; DONE 1; DONE 2; "
+                           "DRAIN 2 > stops: DRAINED 0; QUIT")
+        worker = AsyncWorker(handle, server.port, concurrency=2)
         with unittest.mock.patch("rb_broker_client.work.AT_ONCE", PATIENCE):
             self.assertEqual(asyncio.run(worker.run()), Report(done=3))
         self.assertEqual(handled, ["a", "b", "c"])
@@ -107,8 +108,7 @@ class BusyLoopTest(ScriptedTest):
                 self.assertTrue(server.ended.acquire(timeout=PATIENCE))
                 return first, await producer.offer("a", delay=5e-9)
 
-        server = self.play([GREETING, ("OFFER 5 a", "OFFERED 0 5"), (NOTHING, HANGS_UP)],
-                           [GREETING, ("OFFER 5 a", "OFFERED 1 5")])
+        server = self.play("AT 0; OFFER 5 a > OFFERED 0 5; > hangs up", "AT 0; OFFER 5 a > OFFERED 1 5")
         self.assertEqual(asyncio.run(run()), (Offered(0, 5), Offered(1, 5)))
 
 

@@ -6,7 +6,7 @@ import unittest
 import unittest.mock
 
 from from_threads import for_both_kinds
-from scripted import HANGS_UP, PATIENCE, SAYS_NOTHING, ScriptedTest, free_port
+from scripted import PATIENCE, ScriptedTest, free_port
 from rb_broker_client import (
     Again, Broker, DisconnectedError, FullError, Job, NotHeldError, Offered, Request, StoppedError, UnknownReplyError,
 )
@@ -16,13 +16,33 @@ from rb_broker_client import (
 class BrokerTest(ScriptedTest):
     kind = Broker
 
-    def connect(self, *steps, patience=PATIENCE):
+    def setUp(self):
+        self.is_late = threading.Event()
+        super().setUp()
+
+    def connect(self, steps, patience=PATIENCE):
         broker = self.kind(self.play(steps).port, patience=patience)
         self.addCleanup(broker.close)
         return broker
 
+    def late(self, _):
+        self.is_late.wait(PATIENCE)
+
+    def receive_late(self, broker):
+        """The answer that is due, however often the broker's patience ends before it comes."""
+        self.is_late.set()
+        while True:
+            try:
+                return broker.receive()
+            except TimeoutError:
+                pass
+
+    def end(self, of_job):
+        """Calls `done` or `fail` of a job."""
+        return of_job()
+
     def test_replies_are_received_in_the_order_of_the_requests(self):
-        broker = self.connect(("OFFER 0 a", "OFFERED 0 5"), ("SIZE", "ERR 6 full"), ("TAKE", "ITEM 0 5 1 a"))
+        broker = self.connect("OFFER 0 a > OFFERED 0 5; SIZE > ERR 6 full; TAKE > ITEM 0 5 1 a")
         broker.send(Request.offer("a"), Request.size())
         broker.send(Request.take())
         self.assertEqual(broker.unanswered, 3)
@@ -32,13 +52,13 @@ class BrokerTest(ScriptedTest):
         self.assertEqual(broker.unanswered, 0)
 
     def test_a_refusal_in_the_middle_of_many(self):
-        broker = self.connect(("SIZE", "SIZE 3"), ("SIZE", "ERR 6 full"), ("TAKE", "STOPPED"), ("SIZE", "SIZE 4"))
+        broker = self.connect("SIZE > SIZE 3; SIZE > ERR 6 full; TAKE > STOPPED; SIZE > SIZE 4")
         answers = broker.ask_all([Request.size(), Request.size(), Request.take(), Request.size()])
         self.assertEqual([type(it) for it in answers], [int, FullError, StoppedError, int])
         self.assertEqual((answers[0], answers[3]), (3, 4))
 
     def test_requests_by_turns_and_at_once_are_not_mixed(self):
-        broker = self.connect(("SIZE", "SIZE 3"))
+        broker = self.connect("SIZE > SIZE 3")
         self.assertRaises(RuntimeError, broker.receive)
         broker.send(Request.size())
         self.assertRaises(RuntimeError, broker.size)
@@ -47,44 +67,38 @@ class BrokerTest(ScriptedTest):
         self.assertEqual(broker.ask_all([]), [])
 
     def test_a_reply_that_is_late_is_still_due(self):
-        is_late = threading.Event()
-        broker = self.connect(("SIZE", lambda: is_late.wait(PATIENCE) and "SIZE 3"), patience=0.05)
+        broker = self.connect("SIZE > late: SIZE 3", patience=0.05)
         self.assertRaises(TimeoutError, broker.size)
-        is_late.set()
-        self.assertEqual(receive_in_time(broker), 3)
+        self.assertEqual(self.receive_late(broker), 3)
 
     def test_a_drain_whose_lines_come_late(self):
-        is_late = threading.Event()
-        first, second = "DRAINED 2\nITEM 0 0 1 a", "ITEM 1 0 1 b\nSIZE 0"
-        steps = ("DRAIN 2", first), ("SIZE", lambda: is_late.wait(PATIENCE) and second)
-        broker = self.connect(*steps, patience=0.05)
+        steps = "DRAIN 2 > DRAINED 2, ITEM 0 0 1 a; SIZE > late: ITEM 1 0 1 b, SIZE 0"
+        broker = self.connect(steps, patience=0.05)
         broker.send(Request.drain(2), Request.size())
         self.assertRaises(TimeoutError, broker.receive)
-        is_late.set()
-        self.assertEqual(receive_in_time(broker), [Job(0, 0, 1, "a"), Job(1, 0, 1, "b")])
-        self.assertEqual(receive_in_time(broker), 0)
+        self.assertEqual(self.receive_late(broker), [Job(0, 0, 1, "a"), Job(1, 0, 1, "b")])
+        self.assertEqual(self.receive_late(broker), 0)
 
     def test_a_server_that_hangs_up_or_cuts_a_line_off(self):
-        for steps in ([("SIZE", HANGS_UP)], [("SIZE", b"SIZ"), ("QUIT", HANGS_UP)]):
-            broker = self.connect(*steps)
+        for steps in (["SIZE > hangs up"], [("SIZE", b"SIZ"), "QUIT > hangs up"]):
+            broker = self.connect(steps)
             broker.send(*[Request.size(), Request.quit()][:len(steps)])
             self.assertRaises(DisconnectedError, broker.receive)
 
     def test_after_an_unknown_reply_or_a_line_that_never_ends_the_session_is_closed(self):
         for reply in ("HELLO", "SIZE " + "1" * 1000, b"SIZE " + b"1" * 1000):
-            broker = self.connect(("SIZE", reply))
+            broker = self.connect([("SIZE", reply)])
             self.assertRaises(UnknownReplyError, broker.size)
             self.assertRaises(OSError, broker.size)
 
     def test_service_is_awaited_by_a_request_that_is_no_call(self):
-        broker = self.connect(("AT 0", "ERR 1 syntax"), ("QUIT", "BYE"))
+        broker = self.connect("AT 0; QUIT")
         broker.await_service()
         broker.quit()
 
     def test_a_job_is_told_of_by_itself(self):
-        steps = [("POLL", "ITEM 0 5 1 a"), ("DONE 0", "DONE 0"), ("TAKE", "ITEM 1 5 1 b"), ("FAIL 1", "AGAIN 3 9"),
-                 ("DRAIN 9", "DRAINED 1\nITEM 2 5 1 c"), ("DONE 2", "DONE 2"), ("POLLFOR 500000000", "NONE")]
-        broker = self.connect(*steps)
+        broker = self.connect("POLL > ITEM 0 5 1 a; DONE 0; TAKE > ITEM 1 5 1 b; FAIL 1 > AGAIN 3 9; "
+                              "DRAIN 9 > DRAINED 1, ITEM 2 5 1 c; DONE 2; POLLFOR 500000000 > NONE; PEEK > HEAD 0 150 1 a")
         job = broker.poll()
         self.assertEqual(job, Job(0, 5, 1, "a"))
         self.end(job.done)
@@ -92,23 +106,17 @@ class BrokerTest(ScriptedTest):
         (drained,) = broker.drain(9)
         self.end(drained.done)
         self.assertIsNone(broker.poll_for(0.5))
+        self.assertFalse(hasattr(broker.peek(), "done"))  # what is shown is not held
 
     def test_a_job_of_a_session_that_has_ended_is_held_no_more(self):
-        broker = self.connect(("TAKE", "ITEM 0 5 1 a"))
+        broker = self.connect("TAKE > ITEM 0 5 1 a")
         job = broker.take()
         broker.close()
         for end in (job.done, job.fail):
             self.assertRaises(NotHeldError, self.end, end)
 
-    def test_what_is_shown_is_not_held(self):
-        self.assertFalse(hasattr(self.connect(("PEEK", "HEAD 0 150 1 a")).peek(), "done"))
-
-    def end(self, of_job):
-        """Calls `done` or `fail` of a job."""
-        return of_job()
-
     def test_a_lost_connection_is_known_once_its_end_has_come(self):
-        broker = self.connect(("SIZE", "SIZE 3"), ("SIZE", SAYS_NOTHING))
+        broker = self.connect("SIZE > SIZE 3; SIZE > nothing")
         self.assertEqual(broker.size(), 3)
         self.assertFalse(broker.is_lost())
         broker.send(Request.size())
@@ -151,12 +159,3 @@ def answer_each_line(listener):
     with connection, connection.makefile("rb") as lines:
         for _ in lines:
             connection.sendall(b"OFFERED %d %d\n" % (2**64 - 1, 2**64 - 1))
-
-
-def receive_in_time(broker):
-    """The answer that is due, however often the broker's patience ends before it comes."""
-    while True:
-        try:
-            return broker.receive()
-        except TimeoutError:
-            pass

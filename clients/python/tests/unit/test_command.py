@@ -8,7 +8,7 @@ import unittest
 import unittest.mock
 
 import rb_broker_client
-from scripted import GOODBYE, GREETING, HANGS_UP, ScriptedTest, free_port
+from scripted import ScriptedTest, free_port
 from rb_broker_client.command import main
 from rb_broker_client.durations import nanoseconds, read_delay
 
@@ -43,47 +43,33 @@ def run(*words, lines=""):
 
 class CommandTest(ScriptedTest):
     def test_what_is_asked_and_told(self):
-        cases = [
-            (("offer", "5s", "a"), ("OFFER 5000000000 a", "OFFERED 17 5000000123"), "OFFERED 17 5000000123\n", False),
-            (("offer", "0", "a"), ("OFFER 0 a", "OFFERED 0 5"), "OFFERED 0 5\n", False),
-            (("size",), ("SIZE", "SIZE 3"), "SIZE 3\n", True),
-            (("peek",), ("PEEK", "HEAD 0 150 2 a"), "HEAD 0 150 2 a\n", True),
-            (("peek",), ("PEEK", "NONE"), "NONE\n", True),
-            (("clear",), ("CLEAR", "CLEARED"), "CLEARED\n", True),
-            (("remove", 17), ("REMOVE 17", "REMOVED yes"), "REMOVED yes\n", True),
-            (("remove", 17), ("REMOVE 17", "REMOVED no"), "REMOVED no\n", True),
-            (("drain",), ("DRAIN 64", "DRAINED 0"), "DRAINED 0\n", True),
-        ]
-        for words, step, told, says_goodbye in cases:
+        two = "OFFER 2000000000 a > OFFERED 0 5; OFFER 2000000000 b > OFFERED 1 6"
+        drains = "DRAIN 2 > DRAINED 1, ITEM 0 5 1 a; DONE 0; DRAIN 1 > DRAINED 1, ITEM 1 6 3 b; DONE 1"
+        for words, lines, steps, told in (
+            ("offer 5s a", "", "OFFER 5000000000 a > OFFERED 17 5000000123", "OFFERED 17 5000000123\n"),
+            ("offer 0 a", "", "OFFER 0 a > OFFERED 0 5", "OFFERED 0 5\n"),
+            ("offer 2s a b", "", two, "OFFERED 0 5\nOFFERED 1 6\n"),
+            ("offer 2s", "a\nb\n", two, "OFFERED 0 5\nOFFERED 1 6\n"),
+            ("offer 2s", "a\r\nb", two, "OFFERED 0 5\nOFFERED 1 6\n"),
+            ("size", "", "SIZE > SIZE 3; QUIT", "SIZE 3\n"),
+            ("peek", "", "PEEK > HEAD 0 150 2 a; QUIT", "HEAD 0 150 2 a\n"),
+            ("peek", "", "PEEK > NONE; QUIT", "NONE\n"),
+            ("clear", "", "CLEAR > CLEARED; QUIT", "CLEARED\n"),
+            ("remove 17", "", "REMOVE 17 > REMOVED yes; QUIT", "REMOVED yes\n"),
+            ("remove 17", "", "REMOVE 17 > REMOVED no; QUIT", "REMOVED no\n"),
+            ("remove 3 9", "", "REMOVE 3 > REMOVED yes; REMOVE 9 > REMOVED no; QUIT", "REMOVED yes\nREMOVED no\n"),
+            ("drain", "", "DRAIN 64 > DRAINED 0; QUIT", "DRAINED 0\n"),
+            ("drain 2", "", f"{drains}; QUIT", "ITEM 0 5 1 a\nITEM 1 6 3 b\nDRAINED 2\n"),
+        ):
             with self.subTest(words=words):
-                server = self.play([GREETING, step, *([GOODBYE] if says_goodbye else [])])
-                self.assertEqual(run(*words, "--port", server.port), (0, told, ""))
-
-    def test_several_payloads_and_several_lines(self):
-        steps = [("OFFER 2000000000 a", "OFFERED 0 5"), ("OFFER 2000000000 b", "OFFERED 1 6")]
-        for words, lines in ((("a", "b"), ""), ((), "a\nb\n"), ((), "a\r\nb")):
-            server = self.play([GREETING, *steps])
-            told = "OFFERED 0 5\nOFFERED 1 6\n"
-            self.assertEqual(run("offer", "2s", *words, "--port", server.port, lines=lines), (0, told, ""))
-
-    def test_several_ids(self):
-        server = self.play([GREETING, ("REMOVE 3", "REMOVED yes"), ("REMOVE 9", "REMOVED no"), GOODBYE])
-        self.assertEqual(run("remove", 3, 9, "--port", server.port), (0, "REMOVED yes\nREMOVED no\n", ""))
-
-    def test_what_is_drained_is_finished(self):
-        steps = [("DRAIN 2", "DRAINED 1\nITEM 0 5 1 a"), ("DONE 0", "DONE 0"),
-                 ("DRAIN 1", "DRAINED 1\nITEM 1 6 3 b"), ("DONE 1", "DONE 1")]
-        server = self.play([GREETING, *steps, GOODBYE])
-        told = "ITEM 0 5 1 a\nITEM 1 6 3 b\nDRAINED 2\n"
-        self.assertEqual(run("drain", 2, "--port", server.port), (0, told, ""))
+                server = self.play(f"AT 0; {steps}")
+                self.assertEqual(run(*words.split(), "--port", server.port, lines=lines), (0, told, ""))
 
     def test_refusals(self):
-        server = self.play([GREETING, ("OFFER 0 a", "ERR 3 range")])
-        told = f"rb_broker_client: the server at 127.0.0.1:{server.port} refused it: ERR 3 range\n"
-        self.assertEqual(run("offer", 0, "a", "--port", server.port), (1, "", told))
-        server = self.play([GREETING, ("SIZE", "ERR 6 full")])
-        told = f"rb_broker_client: the server at 127.0.0.1:{server.port} refused it: ERR 6 full\n"
-        self.assertEqual(run("size", "--port", server.port), (1, "", told))
+        for words, step, refusal in (("offer 0 a", "OFFER 0 a", "ERR 3 range"), ("size", "SIZE", "ERR 6 full")):
+            server = self.play(f"AT 0; {step} > {refusal}")
+            told = f"rb_broker_client: the server at 127.0.0.1:{server.port} refused it: {refusal}\n"
+            self.assertEqual(run(*words.split(), "--port", server.port), (1, "", told))
 
     def test_no_server(self):
         port = free_port()
@@ -95,7 +81,7 @@ class CommandTest(ScriptedTest):
             self.assertRegex(errors, f"^rb_broker_client: {text}.*Connection refused\n$")
 
     def test_a_server_that_does_not_answer(self):
-        server = self.play([GREETING, ("OFFER 0 a", HANGS_UP)])
+        server = self.play("AT 0; OFFER 0 a > hangs up")
         status, said, errors = run("offer", 0, "a", "--port", server.port, "--patience", 0.1)
         self.assertEqual((status, said), (1, ""))
         text = f"it may have been offered at 127.0.0.1:{server.port} or not: OFFER 0 a: "
@@ -150,7 +136,7 @@ class CommandTest(ScriptedTest):
                         self.assertEqual(run(*command, "--port", 1, "--tls", *words), (1, "", told))
 
     def test_a_record(self):
-        server = self.play([GREETING, ("SIZE", "SIZE 3"), GOODBYE])
+        server = self.play("AT 0; SIZE > SIZE 3; QUIT")
         with tempfile.TemporaryDirectory() as room:
             path = os.path.join(room, "record")
             self.assertEqual(run("size", "--port", server.port, "--record", path)[0], 0)

@@ -5,147 +5,70 @@ import time
 import unittest.mock
 
 from from_threads import for_both_kinds
-from scripted import GOODBYE, GREETING, HANGS_UP, NOTHING, PATIENCE, SAYS_NOTHING, OnceMoreCame
-from test_worker import A_IS_DONE, AGE, POLL, WorkerCase
+from scripted import PATIENCE
+from worker_case import AGE, LAST, ConcurrencyCase
 from rb_broker_client import Job, Pauses, Report
 
-BRIEF = "POLLFOR 200000000"  # a wait while jobs run
-LONG_ENOUGH = 0.05  # seconds after which a wait has waited
-
-
-def waited(reply):
-    """A reply that a wait has waited for."""
-    return lambda: time.sleep(LONG_ENOUGH) or (reply() if callable(reply) else reply)
-
-
-class Jobs:
-    """A handler whose jobs end when they are told to. The payload `b` fails."""
-
-    def __init__(self):
-        self._may_end = {it: threading.Event() for it in "abcdef"}
-        self._has_begun = {it: threading.Event() for it in "abcdef"}
-        self._lock = threading.Lock()
-        self.running = self.most = 0
-
-    def __call__(self, job):
-        with self._lock:
-            self.running += 1
-            self.most = max(self.most, self.running)
-        self._has_begun[job.payload].set()
-        is_told = self._may_end[job.payload].wait(PATIENCE)
-        with self._lock:
-            self.running -= 1
-        if job.payload == "b" or not is_told:
-            raise ValueError(job.payload)
-
-    def end(self, payload):
-        self._may_end[payload].set()
-
-    def ends(self, payload, reply):
-        """A reply to a wait, which is sent once the end of this job was told behind the wait."""
-        return OnceMoreCame(self._may_end[payload].set, reply)
-
-    def ends_beside(self, payload, other, reply):
-        """A reply by which another job begins, whereupon this one ends."""
-        def end():
-            self._has_begun[other].wait(PATIENCE)
-            self._may_end[payload].set()
-
-        def answer():
-            threading.Thread(target=end, daemon=True).start()
-            return reply() if callable(reply) else reply
-        return answer
-
-
-class ConcurrencyCase(WorkerCase):
-    def setUp(self):
-        self.jobs = Jobs()
-        super().setUp()
-
-    def work(self, *sessions, handler=None, concurrency=2, **options):
-        return super().work(*sessions, handler=handler or self.jobs, concurrency=concurrency, **options)
+GIVES_A, GIVES_B = "WAIT > late: ITEM 0 0 1 a", "WAIT > late: ITEM 0 0 1 b"
+A_THEN_C = f"{GIVES_A}; BRIEF > beside c a: ITEM 1 0 1 c"  # whereupon a ends
+AT_ONCE = "rb_broker_client.work.AT_ONCE"
 
 
 @for_both_kinds
 class OrderTest(ConcurrencyCase):
-    def test_jobs_are_answered_in_whatever_order_they_end(self):
-        steps = [(POLL, waited("ITEM 0 0 1 a")), (BRIEF, waited("ITEM 1 0 1 c")),
-                 (BRIEF, self.jobs.ends("c", "NONE")), ("DONE 1", "DONE 1"),
-                 (BRIEF, self.jobs.ends("a", "NONE")), A_IS_DONE]
-        self.assert_reports(Report(done=2), [*steps, *self.last()], concurrency=3)
-        self.assertEqual(self.jobs.most, 2)
+    def test_as_many_as_can_be_started(self):
+        for why, most, concurrency, steps, done in (
+            ("jobs are answered in whatever order they end", 2, 3,
+             f"{GIVES_A}; BRIEF > late: ITEM 1 0 1 c; BRIEF > ends c: NONE; DONE 1; BRIEF > ends a: NONE; DONE 0; {LAST}", 2),
+            ("no more are fetched than can be started", 2, 2,
+             f"{A_THEN_C}; DONE 0; BRIEF > beside d c: ITEM 2 0 1 d; DONE 1; BRIEF > ends d: stops: NONE; DONE 2; QUIT", 3),
+        ):
+            with self.subTest(why):
+                self.assert_reports(Report(done=done), steps, concurrency=concurrency)
+                self.assertEqual(self.jobs.most, most)
 
-    def test_no_more_are_fetched_than_can_be_started(self):
-        steps = [(POLL, waited("ITEM 0 0 1 a")), (BRIEF, self.jobs.ends_beside("a", "c", "ITEM 1 0 1 c")),
-                 A_IS_DONE, (BRIEF, self.jobs.ends_beside("c", "d", "ITEM 2 0 1 d")),
-                 ("DONE 1", "DONE 1"), (BRIEF, self.jobs.ends("d", self.stops("NONE"))),
-                 ("DONE 2", "DONE 2"), GOODBYE]
-        self.assert_reports(Report(done=3), steps)
-        self.assertEqual(self.jobs.most, 2)
+    def test_where_many_are_due_they_are_drained(self):
+        drains = "WAIT > ITEM 0 0 1 a; DRAIN 3 > "
+        with unittest.mock.patch(AT_ONCE, PATIENCE):
+            self.assert_reports(
+                Report(done=4), f"{drains}beside e a: DRAINED 3, ITEM 1 0 1 c, ITEM 2 0 1 d, ITEM 3 0 1 e; DONE 0; "
+                "BRIEF > ends c: NONE; DONE 1; BRIEF > ends d: NONE; DONE 2; BRIEF > ends e: stops: NONE; DONE 3; QUIT",
+                concurrency=4)
+            self.assertEqual(self.jobs.most, 4)
+            self.assert_each_reports(
+                ("after a drain that finds fewer it waits", Report(done=2), {"concurrency": 4},
+                 f"{drains}DRAINED 1, ITEM 1 0 1 c; BRIEF > ends a: NONE; DONE 0; BRIEF > ends c: stops: NONE; DONE 1; "
+                 "QUIT"),
+                ("a drain that is refused", Report(done=1), {"concurrency": 3},
+                 "WAIT > ITEM 0 0 1 a; DRAIN 2 > ERR 7 memory; DRAIN 2 > ends a: ERR 6 full; DONE 0; QUIT", LAST))
 
-    def test_where_many_are_due_as_many_are_fetched_as_can_be_started(self):
-        three = "DRAINED 3\nITEM 1 0 1 c\nITEM 2 0 1 d\nITEM 3 0 1 e"
-        steps = [(POLL, "ITEM 0 0 1 a"), ("DRAIN 3", self.jobs.ends_beside("a", "e", three)), A_IS_DONE,
-                 (BRIEF, self.jobs.ends("c", "NONE")), ("DONE 1", "DONE 1"),
-                 (BRIEF, self.jobs.ends("d", "NONE")), ("DONE 2", "DONE 2"),
-                 (BRIEF, self.jobs.ends("e", self.stops("NONE"))), ("DONE 3", "DONE 3"), GOODBYE]
-        with unittest.mock.patch("rb_broker_client.work.AT_ONCE", PATIENCE):
-            self.assert_reports(Report(done=4), steps, concurrency=4)
-        self.assertEqual(self.jobs.most, 4)
-
-    def test_after_a_drain_that_finds_fewer_it_waits(self):
-        steps = [(POLL, "ITEM 0 0 1 a"), ("DRAIN 3", "DRAINED 1\nITEM 1 0 1 c"),
-                 (BRIEF, self.jobs.ends("a", "NONE")), A_IS_DONE,
-                 (BRIEF, self.jobs.ends("c", self.stops("NONE"))), ("DONE 1", "DONE 1"), GOODBYE]
-        with unittest.mock.patch("rb_broker_client.work.AT_ONCE", PATIENCE):
-            self.assert_reports(Report(done=2), steps, concurrency=4)
-
-    def test_a_drain_that_is_refused(self):
-        steps = [(POLL, "ITEM 0 0 1 a"), ("DRAIN 2", "ERR 7 memory"),
-                 ("DRAIN 2", self.jobs.ends("a", "ERR 6 full")), A_IS_DONE, GOODBYE]
-        with unittest.mock.patch("rb_broker_client.work.AT_ONCE", PATIENCE):
-            self.assert_reports(Report(done=1), steps, self.last(), concurrency=3)
-
-    def test_nothing_is_fetched_behind_a_failure(self):
-        steps = [(POLL, waited("ITEM 0 0 1 b")), (BRIEF, self.jobs.ends("b", "NONE")),
-                 ("FAIL 0", "ERR 6 full"), GOODBYE]
-        self.assert_reports(Report(lost=1), steps, self.last())
-
-    def test_a_failure_that_finds_no_memory_beside_a_job_that_runs(self):
-        steps = [(POLL, waited("ITEM 0 0 1 b")), (BRIEF, self.jobs.ends_beside("b", "a", "ITEM 1 0 1 a")),
-                 ("FAIL 0", "ERR 7 memory"), ("FAIL 0", self.jobs.ends("a", "ERR 7 memory")),
-                 ("DONE 1", "DONE 1"), ("FAIL 0", self.stops("AGAIN 2 5")), GOODBYE]
-        pauses = Pauses(first=0.1, longest=0.1)
-        self.assert_reports(Report(done=1, again=1), steps, pauses=pauses)
+    def test_failures(self):
+        self.assert_each_reports(
+            ("nothing is fetched behind one", Report(lost=1), {},
+             f"{GIVES_B}; BRIEF > ends b: NONE; FAIL 0 > ERR 6 full; QUIT", LAST),
+            ("one that finds no memory beside a job that runs", Report(done=1, again=1), {"pauses": Pauses(0.1, 0.1)},
+             f"{GIVES_B}; BRIEF > beside a b: ITEM 1 0 1 a; FAIL 0 > ERR 7 memory; FAIL 0 > ends a: ERR 7 memory; "
+             "DONE 1; FAIL 0 > stops: AGAIN 2 5; QUIT"))
 
 
 @for_both_kinds
 class EndTest(ConcurrencyCase):
-    def test_a_stop_finishes_what_runs(self):
-        ends = self.jobs.ends_beside("a", "c", "ITEM 1 0 1 c")
-        steps = [(POLL, waited("ITEM 0 0 1 a")), (BRIEF, lambda: self.stops(ends())()),
-                 ("DONE 0", self.jobs.ends_beside("c", "c", "DONE 0")), ("DONE 1", "DONE 1"), GOODBYE]
-        self.assert_reports(Report(done=2), steps)
-
-    def test_an_old_session_is_left_once_what_runs_has_ended(self):
-        second = self.jobs.ends_beside("a", "c", "ITEM 1 0 1 c")
-        steps = [(POLL, waited("ITEM 0 0 1 a")), (BRIEF, lambda: time.sleep(2 * AGE) or second()),
-                 ("DONE 0", self.jobs.ends_beside("c", "c", "DONE 0")), ("DONE 1", "DONE 1"), GOODBYE]
-        self.assert_reports(Report(done=2), steps, self.last(), session=AGE)
+    def test_what_runs_is_finished(self):
+        c_ends = "DONE 0 > beside c c: DONE 0; DONE 1; QUIT"
+        self.assert_each_reports(
+            ("before a stop", Report(done=2), {}, f"{GIVES_A}; BRIEF > stops: beside c a: ITEM 1 0 1 c; {c_ends}"),
+            ("before an old session is left", Report(done=2), {"session": AGE},
+             f"{GIVES_A}; BRIEF > old: beside c a: ITEM 1 0 1 c; {c_ends}", LAST))
 
     def test_jobs_of_a_lost_session_keep_their_places(self):
-        running = []
-        first = [GREETING, (POLL, waited("ITEM 0 0 1 a")), (BRIEF, self.jobs.ends_beside("a", "c", "ITEM 1 0 1 c")),
-                 (NOTHING, HANGS_UP)]
-        greeted = ("AT 0", lambda: running.append(self.jobs.running) or "ERR 1 syntax")
-        second = [greeted, (BRIEF, lambda: self.jobs.end("c") or self.stops("NONE")()), GOODBYE]
-        self.assert_reports(Report(unheard=2), first, second, is_greeted=False)
+        running, first = [], f"{A_THEN_C}; > hangs up"
+        self.runs = lambda _: running.append(self.jobs.running)
+        self.end_c = lambda _: self.jobs.end("c")
+        self.assert_reports(Report(unheard=2), first, "AT 0 > runs: ERR 1 syntax; BRIEF > end_c: stops: NONE; QUIT")
         self.assertEqual(running, [1])
 
     def test_a_stop_waits_for_the_jobs_of_a_lost_session(self):
-        hangs_up = lambda: self.stops(self.jobs.ends_beside("a", "a", HANGS_UP)())()
-        steps = [(POLL, waited("ITEM 0 0 1 a")), (BRIEF, hangs_up)]
-        self.assert_reports(Report(unheard=1), steps)
+        self.assert_reports(Report(unheard=1), f"{GIVES_A}; BRIEF > stops: beside a a: hangs up")
         self.assertEqual(self.jobs.running, 0)
 
 
@@ -155,29 +78,26 @@ class ThreadsTest(ConcurrencyCase):
             self.jobs(job)
             sys.exit(3)
 
-        steps = [(POLL, waited("ITEM 0 0 1 a")), (BRIEF, self.jobs.ends("a", SAYS_NOTHING))]
         with self.assertRaises(SystemExit) as ended:
-            self.work(steps, handler=leave).run()
+            self.work(f"{GIVES_A}; BRIEF > ends a: nothing", handler=leave).run()
         self.assertEqual(ended.exception.code, 3)
 
     def test_dead_jobs_are_told_in_the_threads(self):
         told, is_over = [], threading.Event()
+        self.goes_on = lambda _: is_over.set()
 
         def keep(job):
             told.append((job, threading.current_thread() is not threading.main_thread()))
             is_over.wait(PATIENCE)
 
-        steps = [(POLL, waited("ITEM 0 0 3 b")), (BRIEF, self.jobs.ends("b", "NONE")), ("FAIL 0", "DEAD 0"),
-                 (BRIEF, lambda: is_over.set() or self.stops("NONE")()), GOODBYE]
+        steps = "WAIT > late: ITEM 0 0 3 b; BRIEF > ends b: NONE; FAIL 0 > DEAD 0; BRIEF > goes_on: stops: NONE; QUIT"
         self.assert_reports(Report(dead=1), steps, on_dead=keep)
         self.assertEqual(told, [(Job(0, 0, 3, "b"), True)])
 
     def test_no_thread_is_left(self):
-        name = "rb_broker_client-1"
-        steps = [(POLL, waited("ITEM 0 0 1 a")), (BRIEF, self.jobs.ends("a", self.stops("NONE"))),
-                 A_IS_DONE, GOODBYE]
-        self.assert_reports(Report(done=1), steps)
+        names = lambda: [it.name for it in threading.enumerate()]
+        self.assert_reports(Report(done=1), f"{GIVES_A}; BRIEF > ends a: stops: NONE; DONE 0; QUIT")
         deadline = time.monotonic() + PATIENCE
-        while name in [it.name for it in threading.enumerate()] and time.monotonic() < deadline:
+        while "rb_broker_client-1" in names() and time.monotonic() < deadline:
             time.sleep(0.01)
-        self.assertNotIn(name, [it.name for it in threading.enumerate()])
+        self.assertNotIn("rb_broker_client-1", names())

@@ -3,12 +3,13 @@ import asyncio
 import functools
 import json
 
-from scripted import GOODBYE, GREETING, HANGS_UP, PATIENCE, FileTest, free_port
+from scripted import PATIENCE, FileTest, free_port
 from test_command import run
-from test_worker import POLL, WorkerCase
+from worker_case import LAST, WorkerCase
 from rb_broker_client import AsyncProducer, AsyncWorker, DeadLetters, Job, Producer, Report
 
-BAD = (POLL, "ITEM 2 1000 3 b"), ("FAIL 2", "DEAD 2")
+BAD = "WAIT > ITEM 2 1000 3 b; FAIL 2 > DEAD 2"
+KEEPS_B = "AT 0; OFFER 0 b > OFFERED 0 5"
 
 
 class FileCase(FileTest):
@@ -27,34 +28,29 @@ class FileCase(FileTest):
 
 class KeptTest(FileCase, WorkerCase):
     def test_each_dead_job_is_a_line(self):
-        self.assert_reports(Report(dead=1), [*BAD, *self.last()], on_dead=DeadLetters(self.path))
+        self.assert_reports(Report(dead=1), f"{BAD}; {LAST}", on_dead=DeadLetters(self.path))
         (letter,) = self.letters()
         self.assertRegex(letter.pop("died"), r"^20\d\d-\d\d-\d\dT\d\d:\d\d:\d\d\.\d{3}\+00:00$")
         self.assertEqual(letter, {"payload": "b", "attempts": 3, "id": 2})
 
     def test_a_queue_of_its_own(self):
-        other = self.play([GREETING, ("OFFER 0 b", "OFFERED 0 5")])
-        with Producer(other.port, patience=PATIENCE) as producer:
-            self.assert_reports(Report(dead=1), [*BAD, *self.last()], on_dead=DeadLetters(producer))
+        with Producer(self.play(KEEPS_B).port, patience=PATIENCE) as producer:
+            self.assert_reports(Report(dead=1), f"{BAD}; {LAST}", on_dead=DeadLetters(producer))
 
     def test_for_asyncio(self):
-        other = self.play([GREETING, ("OFFER 0 b", "OFFERED 0 5")])
-
         async def handle(job):
-            worker.stop()
+            self.worker.stop()
             raise ValueError(job.payload)
 
-        async def work(port, target):
-            nonlocal worker
-            worker = AsyncWorker(handle, port, on_dead=DeadLetters(target))
-            await worker.run()
+        async def work(target):
+            self.worker = AsyncWorker(handle, self.play(f"AT 0; {BAD}; QUIT").port, on_dead=DeadLetters(target))
+            await self.worker.run()
 
         async def both():
-            await work(self.play([GREETING, *BAD, GOODBYE]).port, self.path)
-            async with AsyncProducer(other.port, patience=PATIENCE) as producer:
-                await work(self.play([GREETING, *BAD, GOODBYE]).port, producer)
+            await work(self.path)
+            async with AsyncProducer(self.play(KEEPS_B).port, patience=PATIENCE) as producer:
+                await work(producer)
 
-        worker = None
         asyncio.run(both())
         self.assertEqual(self.payloads(), ["b"])
 
@@ -79,14 +75,14 @@ class CommandTest(FileCase):
 
     def test_they_are_offered_and_taken_out_of_the_file(self):
         self.keep("a", "b")
-        server = self.play([GREETING, ("OFFER 0 b", "OFFERED 0 5"), ("OFFER 0 a", "OFFERED 1 5")])
+        server = self.play(f"{KEEPS_B}; OFFER 0 a > OFFERED 1 5")
         self.assertEqual(run("dead", self.path, "--offer", "--port", server.port), (0, "offered 2\n", ""))
         self.assertEqual(self.payloads(), [])
         self.assertEqual(run("dead", self.path, "--offer", "--port", free_port()), (0, "offered 0\n", ""))
 
     def test_what_was_not_offered_stays_in_the_file(self):
         self.keep("a", "b", "c")
-        server = self.play([GREETING, ("OFFER 0 c", "OFFERED 0 5"), ("OFFER 0 b", HANGS_UP)])
+        server = self.play("AT 0; OFFER 0 c > OFFERED 0 5; OFFER 0 b > hangs up")
         self.assertEqual(run("dead", self.path, "--offer", "--port", server.port, "--patience", 0.5)[0], 1)
         self.assertEqual(self.payloads(), ["a", "b"])
 

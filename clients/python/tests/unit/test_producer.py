@@ -5,14 +5,14 @@ import time
 import unittest.mock
 
 from from_threads import for_both_kinds
-from scripted import GOODBYE, GREETING, HANGS_UP, NOTHING, PATIENCE, ScriptedTest, free_port
+from scripted import PATIENCE, ScriptedTest, free_port
 from rb_broker_client import (
     Broker, FullError, InDoubtError, NotOfferedError, Offered, OutOfMemoryError, Pauses, Producer, RangeRefusedError,
 )
 
-OFFER = "OFFER 5 a"
+OFFER, FIRST, SECOND = "OFFER 5 a", "OFFER 5 a > OFFERED 0 5", "OFFER 5 a > OFFERED 1 5"
+LOST = "OFFER 5 a > hangs up"
 AGE = 0.5  # seconds beyond which a session is left: long enough for an offer before, on a busy machine too
-LEAVES = "rb_broker_client-leaves"  # the thread that leaves an old session
 
 
 def offer(producer, payload="a"):
@@ -20,7 +20,8 @@ def offer(producer, payload="a"):
 
 
 def leaving_threads():
-    return [it.name for it in threading.enumerate()].count(LEAVES)
+    """How many threads leave an old session."""
+    return [it.name for it in threading.enumerate()].count("rb_broker_client-leaves")
 
 
 class ProducerCase(ScriptedTest):
@@ -28,9 +29,10 @@ class ProducerCase(ScriptedTest):
 
     kind = Producer
 
-    def produce(self, *sessions, patience=PATIENCE, is_greeted=True, **options):
+    def produce(self, *sessions, patience=PATIENCE, **options):
         """A producer of these sessions, each of which begins with the greeting."""
-        self.server = self.play(*([GREETING, *steps] if is_greeted else steps for steps in sessions))
+        sessions = [it if isinstance(it, list) or it[:4] == "AT 0" else f"AT 0; {it}" for it in sessions]
+        self.server = self.play(*sessions)
         options = {"pauses": Pauses(first=0.01, longest=0.02), **options}
         producer = self.kind(self.server.port, patience=patience, **options)
         self.addCleanup(producer.close)
@@ -46,66 +48,56 @@ class ProducerCase(ScriptedTest):
 @for_both_kinds
 class ProducerTest(ProducerCase):
     def test_offers_go_through_one_session(self):
-        producer = self.produce([(OFFER, "OFFERED 0 5"), ("OFFERAT 9 b", "OFFERED 1 9")])
+        producer = self.produce(f"{FIRST}; OFFERAT 9 b > OFFERED 1 9")
         self.assertEqual(offer(producer), Offered(0, 5))
         self.assertEqual(producer.offer_at("b", expires_at_ns=9), Offered(1, 9))
 
     def test_a_connection_that_was_lost_before_the_offer(self):
-        producer = self.produce([(OFFER, "OFFERED 0 5"), (NOTHING, HANGS_UP)], [(OFFER, "OFFERED 1 6")])
+        producer = self.produce(f"{FIRST}; > hangs up", "OFFER 5 a > OFFERED 1 6")
         self.assertEqual(offer(producer), Offered(0, 5))
         self.assert_session_ends()
         self.assertEqual(offer(producer), Offered(1, 6))
 
-    def test_a_reply_that_is_not_heard_leaves_a_doubt(self):
-        producer = self.produce([(OFFER, HANGS_UP)])
+    def test_a_reply_that_is_not_heard_leaves_a_doubt_and_the_next_offer_connects_again(self):
+        producer = self.produce(LOST, "OFFER 5 b > OFFERED 0 5")
         with self.assertRaisesRegex(InDoubtError, OFFER):
             offer(producer)
-        self.assert_played(self.server)  # the session has ended
-
-    def test_after_a_doubt_the_next_offer_connects_again(self):
-        producer = self.produce([(OFFER, HANGS_UP)], [("OFFER 5 b", "OFFERED 0 5")])
-        self.assertRaises(InDoubtError, offer, producer)
+        self.assert_session_ends()
         self.assertEqual(offer(producer, "b"), Offered(0, 5))
 
-    def test_a_doubt_stays_when_no_server_comes_back_or_the_next_refuses(self):
-        for patience, sessions in ((0.3, []), (3, [[(OFFER, "ERR 6 full")]] * 3)):
-            producer = self.produce([(OFFER, HANGS_UP)], *sessions, patience=patience, may_double=True)
-            self.assertRaises(InDoubtError, offer, producer)
-
-    def test_no_server(self):
+    def test_what_can_not_be_offered(self):
+        full, impatient = f"{OFFER} > ERR 6 full", {"patience": 0.4, "pauses": Pauses(first=1.0)}
+        for why, fault, options, *sessions in (
+            ("a doubt stays when no server comes back", InDoubtError, {"patience": 0.3, "may_double": True}, LOST),
+            ("or the next refuses", InDoubtError, {"patience": 3, "may_double": True}, LOST, full, full, full),
+            ("patience has an end", FullError, impatient, full),
+            ("also for want of memory", OutOfMemoryError, impatient, f"{OFFER} > ERR 7 memory"),
+        ):
+            with self.subTest(why):
+                self.assertRaises(fault, offer, self.produce(*sessions, **options))
         with self.kind(free_port(), patience=0.2) as producer:
             self.assertRaises(NotOfferedError, offer, producer)
 
     def test_offers_that_are_tried_again(self):
-        full, no_memory = (OFFER, "ERR 6 full"), (OFFER, "ERR 7 memory")
         for why, id, options, *sessions in (
-            ("one that may double", 7, {"may_double": True}, [(OFFER, HANGS_UP)], [(OFFER, "OFFERED 7 5")]),
-            ("a full run is left for the next", 0, {}, [full], [(OFFER, "OFFERED 0 5")]),
-            ("want of memory, in the same session", 0, {}, [no_memory, no_memory, (OFFER, "OFFERED 0 5")]),
+            ("one that may double", 7, {"may_double": True}, LOST, f"{OFFER} > OFFERED 7 5"),
+            ("a full run is left for the next", 0, {}, f"{OFFER} > ERR 6 full", FIRST),
+            ("want of memory, in the same session", 0, {}, f"{OFFER} > ERR 7 memory; {OFFER} > ERR 7 memory; {FIRST}"),
+            ("a server that goes away before it serves", 0, {}, "AT 0 > hangs up", FIRST),
         ):
             with self.subTest(why):
                 with self.produce(*sessions, **options) as producer:
                     self.assertEqual(offer(producer), Offered(id, 5))
                 self.assert_played(self.server)
-        producer = self.produce([("AT 0", HANGS_UP)], [GREETING, (OFFER, "OFFERED 0 5")], is_greeted=False)
-        self.assertEqual(offer(producer), Offered(0, 5))
 
-    def test_patience_has_an_end(self):
-        for reply, refusal in (("ERR 6 full", FullError), ("ERR 7 memory", OutOfMemoryError)):
-            producer = self.produce([(OFFER, reply)], patience=0.4, pauses=Pauses(first=1.0))
-            self.assertRaises(refusal, offer, producer)
-
-    def test_other_refusals_are_the_callers(self):
-        producer = self.produce([(OFFER, "ERR 3 range"), (OFFER, "OFFERED 0 5")])
+    def test_refusals_are_the_callers_and_what_a_server_would_refuse_is_not_sent(self):
+        producer = self.produce(f"{OFFER} > ERR 3 range; {FIRST}; {SECOND}")
         self.assertRaises(RangeRefusedError, offer, producer)
         self.assertEqual(offer(producer), Offered(0, 5))
-
-    def test_what_a_server_would_refuse_is_not_sent(self):
-        producer = self.produce([(OFFER, "OFFERED 0 5")])
         for wrong in ("a" * 65, "two words", ""):
             self.assertRaises(ValueError, offer, producer, wrong)
         self.assertRaises(TypeError, producer.offer, None)
-        self.assertEqual(offer(producer), Offered(0, 5))
+        self.assertEqual(offer(producer), Offered(1, 5))
 
 
 @for_both_kinds
@@ -113,15 +105,15 @@ class AgeTest(ProducerCase):
     """A session that is as old as it may be is left, and the next offer begins another."""
 
     def test_an_idle_producer_leaves_by_itself(self):
-        for reply in ("BYE", HANGS_UP):
-            sessions = [(OFFER, "OFFERED 0 5"), ("QUIT", reply)], [(OFFER, "OFFERED 1 5")]
-            with self.produce(*sessions, session=AGE) as producer:
+        for reply in ("BYE", "hangs up"):
+            with self.produce(f"{FIRST}; QUIT > {reply}", SECOND, session=AGE) as producer:
                 self.assertEqual(offer(producer), Offered(0, 5))
                 self.assert_session_ends()
                 self.assertEqual(offer(producer), Offered(1, 5))
 
     def test_an_offer_that_goes_on_is_answered_first(self):
-        producer = self.produce([(OFFER, lambda: time.sleep(2 * AGE) or "OFFERED 0 5"), GOODBYE], session=AGE)
+        self.old = lambda _: time.sleep(2 * AGE)
+        producer = self.produce(f"{OFFER} > old: OFFERED 0 5; QUIT", session=AGE)
         self.assertEqual(offer(producer), Offered(0, 5))
         self.assert_session_ends()
 
@@ -134,21 +126,21 @@ class LeavingThreadTest(ProducerCase):
     """The thread that leaves an old session while there is no offer."""
 
     def test_where_no_thread_can_be_had_the_next_offer_leaves(self):
-        producer = self.produce([(OFFER, "OFFERED 0 5"), GOODBYE], [(OFFER, "OFFERED 1 5")], session=AGE)
+        producer = self.produce(f"{FIRST}; QUIT", SECOND, session=AGE)
         with unittest.mock.patch("threading.Timer.start", side_effect=RuntimeError("can't start new thread")):
             self.assertEqual(offer(producer), Offered(0, 5))
             self.assert_session_goes_on()
             self.assertEqual(offer(producer), Offered(1, 5))
 
     def test_none_keeps_it_without_a_thread(self):
-        producer = self.produce([(OFFER, "OFFERED 0 5"), (OFFER, "OFFERED 1 5")], session=None)
+        producer = self.produce(f"{FIRST}; {SECOND}", session=None)
         self.assertEqual(offer(producer), Offered(0, 5))
         self.assertEqual(leaving_threads(), 0)
         self.assert_session_goes_on()
         self.assertEqual(offer(producer), Offered(1, 5))
 
     def test_a_closed_producer_leaves_no_thread(self):
-        producer = self.produce([(OFFER, "OFFERED 0 5")])
+        producer = self.produce(FIRST)
         offer(producer)
         self.assertEqual(leaving_threads(), 1)
         producer.close()
@@ -160,9 +152,9 @@ class LeavingThreadTest(ProducerCase):
 
 class ForkTest(ProducerCase):
     def test_a_forked_process_has_a_session_of_its_own(self):
-        producer = self.produce([(OFFER, "OFFERED 0 5"), (OFFER, "OFFERED 1 5")], session=None)
+        producer = self.produce(f"{FIRST}; {SECOND}", session=None)
         offer(producer)
-        other = self.play([GREETING, (OFFER, "OFFERED 7 5")])
+        other = self.play(f"AT 0; {OFFER} > OFFERED 7 5")
         child = os.fork()
         if child == 0:
             try:
@@ -180,16 +172,13 @@ class ThreadsTest(ProducerCase):
 
     def test_their_offers_take_turns(self):
         count, told = 40, []
-        producer = self.produce([(OFFER, f"OFFERED {id} 5") for id in range(count)])
+        producer = self.produce("; ".join(f"{OFFER} > OFFERED {id} 5" for id in range(count)))
         self.in_threads(*[lambda: [told.append(offer(producer).id) for _ in range(count // 4)]] * 4)
         self.assertEqual(sorted(told), list(range(count)))
 
     def test_one_that_waits_for_another_too_long_has_not_offered(self):
         is_asked, is_over, told = threading.Event(), threading.Event(), []
-
-        def answer():
-            is_asked.set()
-            return is_over.wait(PATIENCE) and "OFFERED 0 5"
+        self.goes_on = lambda _: is_asked.set() or is_over.wait(PATIENCE)
 
         def offer_meanwhile():
             self.assertTrue(is_asked.wait(PATIENCE))
@@ -198,6 +187,6 @@ class ThreadsTest(ProducerCase):
             told.append("no turn")
             is_over.set()
 
-        producer = self.produce([(OFFER, answer)])
+        producer = self.produce(f"{OFFER} > goes_on: OFFERED 0 5")
         self.in_threads(lambda: told.append(offer(producer)), offer_meanwhile)
         self.assertEqual(told, ["no turn", Offered(0, 5)])

@@ -5,14 +5,20 @@ import json
 import time
 
 from from_threads import for_both_kinds
-from scripted import GOODBYE, GREETING, HANGS_UP, NOTHING, PATIENCE, SAYS_NOTHING, FileTest
+from scripted import PATIENCE, FileTest
 from rb_broker_client import Broker, Offered, Pauses, Producer, Report, Request, UnknownReplyError, Worker
 
-OFFER = "OFFER 5 a"
+POLL = "POLLFOR 1000000000"
+GREETED = ("AT 0", ["ERR 1 syntax"])
 
 
 class RecordCase(FileTest):
     """Tests whose records go to a file."""
+
+    def connect(self, steps, record=None):
+        broker = self.kind(self.play(steps).port, patience=PATIENCE, record=record or self.path)
+        self.addCleanup(broker.close)
+        return broker
 
     def lines(self):
         """The lines of the record, which have the keys that they must have."""
@@ -22,42 +28,40 @@ class RecordCase(FileTest):
             self.assertEqual([*it], ["session", "sent", "received", "request", "reply"])
         return lines
 
-    def told(self):
-        """The requests and the replies of the record."""
-        return [(it["request"], it["reply"]) for it in self.lines()]
+    def assert_told(self, *told):
+        """The requests and replies of the record."""
+        self.assertEqual([(it["request"], it["reply"]) for it in self.lines()], [*told])
+
+    def assert_sessions(self, *numbers):
+        """Lines of the same number are of one session, and the others of others."""
+        names = [it["session"] for it in self.lines()]
+        self.assertEqual([[*dict.fromkeys(names)].index(it) for it in names], [*numbers])
 
 
 @for_both_kinds
 class BrokerRecordTest(RecordCase):
     kind = Broker
 
-    def connect(self, *steps, record=None):
-        broker = self.kind(self.play(steps).port, patience=PATIENCE, record=record or self.path)
-        self.addCleanup(broker.close)
-        return broker
-
     def test_requests_and_replies_as_they_were_sent(self):
-        steps = [("OFFER 0 a", "OFFERED 0 5"), ("DRAIN 9", "DRAINED 2\nITEM 0 5 1 a\nITEM 1 6 1 b"),
-                 ("SIZE", "ERR 6 full"), ("TAKE", "STOPPED"), GOODBYE]
-        broker = self.connect(*steps)
+        broker = self.connect("OFFER 0 a > OFFERED 0 5; DRAIN 9 > DRAINED 2, ITEM 0 5 1 a, ITEM 1 6 1 b; "
+                              "SIZE > ERR 6 full; TAKE > STOPPED; QUIT")
         broker.ask_all([Request.offer("a"), Request.drain(9), Request.size(), Request.take()])
         broker.quit()
-        self.assertEqual(self.told(), [
+        self.assert_told(
             ("OFFER 0 a", ["OFFERED 0 5"]), ("DRAIN 9", ["DRAINED 2", "ITEM 0 5 1 a", "ITEM 1 6 1 b"]),
-            ("SIZE", ["ERR 6 full"]), ("TAKE", ["STOPPED"]), ("QUIT", ["BYE"]),
-        ])
-        self.assertEqual(len({it["session"] for it in self.lines()}), 1)
+            ("SIZE", ["ERR 6 full"]), ("TAKE", ["STOPPED"]), ("QUIT", ["BYE"]))
+        self.assert_sessions(0, 0, 0, 0, 0)
 
     def test_moments_lie_around_what_they_tell(self):
         asked, replied = [], []
 
-        def answer():
+        def answer(_):
             asked.append(time.monotonic_ns())
             time.sleep(0.05)
             replied.append(time.monotonic_ns())
             return "SIZE 0"
 
-        broker = self.connect(("SIZE", answer), ("SIZE", answer))
+        broker = self.connect([("SIZE", answer)] * 2)
         for _ in range(2):
             began = time.monotonic_ns()
             broker.size()
@@ -65,31 +69,31 @@ class BrokerRecordTest(RecordCase):
             line = self.lines()[-1]
             self.assertTrue(began <= line["sent"] <= asked[-1] < replied[-1] <= line["received"] <= ended, line)
 
-    def test_a_request_whose_reply_never_came(self):
-        broker = self.connect(("SIZE", "SIZE 3"), ("TAKE", HANGS_UP))
-        broker.send(Request.size(), Request.take(), Request.quit())
-        self.assertEqual(broker.receive(), 3)
-        self.assertRaises(OSError, broker.receive)
-        broker.close()
-        self.assertEqual(self.told(), [("SIZE", ["SIZE 3"]), ("TAKE", []), ("QUIT", [])])
-        self.assertEqual([it["received"] is None for it in self.lines()], [False, True, True])
-
-    def test_a_reply_of_which_a_part_came(self):
-        broker = self.connect(("DRAIN 9", b"DRAINED 2\nITEM 0 5 1 a\nITE"), ("QUIT", HANGS_UP))
-        broker.send(Request.drain(9), Request.quit())
-        self.assertRaises(OSError, broker.receive)
-        broker.close()
-        self.assertEqual(self.told(), [("DRAIN 9", ["DRAINED 2", "ITEM 0 5 1 a"]), ("QUIT", [])])
-        self.assertEqual([it["received"] for it in self.lines()], [None, None])
+    def test_replies_that_never_came(self):
+        cut = ("DRAIN 9", b"DRAINED 2\nITEM 0 5 1 a\nITE")
+        for steps, requests, told, heard in (
+            ("SIZE > SIZE 3; TAKE > hangs up", [Request.size(), Request.take()],
+             [("SIZE", ["SIZE 3"]), ("TAKE", []), ("QUIT", [])], [3]),
+            ([cut, "QUIT > hangs up"], [Request.drain(9)], [("DRAIN 9", ["DRAINED 2", "ITEM 0 5 1 a"]), ("QUIT", [])], []),
+        ):
+            self.path += "-next"
+            broker = self.connect(steps)
+            broker.send(*requests, Request.quit())
+            self.assertEqual([broker.receive() for _ in heard], heard)
+            self.assertRaises(OSError, broker.receive)
+            broker.close()
+            self.assert_told(*told)
+            self.assertEqual([it["received"] is None for it in self.lines()],
+                             [False] * len(heard) + [True] * (len(told) - len(heard)))
 
     def test_what_is_no_reply(self):
-        broker = self.connect(("SIZE", b"\xffHELLO\n"))
+        broker = self.connect([("SIZE", b"\xffHELLO\n")])
         self.assertRaises(UnknownReplyError, broker.size)
-        self.assertEqual(self.told(), [("SIZE", ["\\xffHELLO"])])
+        self.assert_told(("SIZE", ["\\xffHELLO"]))
 
     def test_an_open_file(self):
         file = io.StringIO()
-        broker = self.connect(("SIZE", "SIZE 3"), record=file)
+        broker = self.connect("SIZE > SIZE 3", record=file)
         broker.size()
         broker.close()
         self.assertEqual(json.loads(file.getvalue())["reply"], ["SIZE 3"])
@@ -97,19 +101,14 @@ class BrokerRecordTest(RecordCase):
 
     def test_each_session_has_another_name_in_one_file(self):
         for _ in range(2):
-            broker = self.connect(("SIZE", "SIZE 3"), GOODBYE)
+            broker = self.connect("SIZE > SIZE 3; QUIT")
             broker.size()
             broker.quit()
-        names = [it["session"] for it in self.lines()]
-        self.assertEqual([names[0], names[2]], [names[1], names[3]])
-        self.assertNotEqual(names[0], names[2])
-
-    def test_a_path_that_can_not_be_written(self):
-        self.assertRaises(FileNotFoundError, self.kind, 7011, record="/no/such/folder/record")
+        self.assert_sessions(0, 0, 1, 1)
 
     def test_a_record_that_breaks_off_is_logged_and_the_session_goes_on(self):
         file = io.StringIO()
-        broker = self.connect(("SIZE", "SIZE 3"), ("SIZE", "SIZE 4"), ("SIZE", "SIZE 5"), record=file)
+        broker = self.connect("SIZE > SIZE 3; SIZE > SIZE 4; SIZE > SIZE 5", record=file)
         self.assertEqual(broker.size(), 3)
         file.close()
         with self.logged() as said:
@@ -117,22 +116,22 @@ class BrokerRecordTest(RecordCase):
         (record,) = said
         self.assertIn("the record can't be written", record.getMessage())
 
+    def test_a_path_that_can_not_be_written(self):
+        self.assertRaises(FileNotFoundError, self.kind, 7011, record="/no/such/folder/record")
+
 
 @for_both_kinds
 class ProducerRecordTest(RecordCase):
     kind = Producer
 
     def test_the_sessions_of_a_producer(self):
-        server = self.play([GREETING, (OFFER, "OFFERED 0 5"), (NOTHING, HANGS_UP)], [GREETING, (OFFER, "OFFERED 1 5")])
+        server = self.play("AT 0; OFFER 5 a > OFFERED 0 5; > hangs up", "AT 0; OFFER 5 a > OFFERED 1 5")
         with self.kind(server.port, pauses=Pauses(0.01, 0.02), record=self.path) as producer:
             self.assertEqual(producer.offer("a", delay=5e-9), Offered(0, 5))
             self.assertTrue(server.ended.acquire(timeout=PATIENCE))
             self.assertEqual(producer.offer("a", delay=5e-9), Offered(1, 5))
-        greeted = ("AT 0", ["ERR 1 syntax"])
-        self.assertEqual(self.told(), [greeted, (OFFER, ["OFFERED 0 5"]), greeted, (OFFER, ["OFFERED 1 5"])])
-        first, same, other, last = [it["session"] for it in self.lines()]
-        self.assertEqual((first, other), (same, last))
-        self.assertNotEqual(first, other)
+        self.assert_told(GREETED, ("OFFER 5 a", ["OFFERED 0 5"]), GREETED, ("OFFER 5 a", ["OFFERED 1 5"]))
+        self.assert_sessions(0, 0, 1, 1)
 
     def test_a_path_that_can_not_be_written(self):
         self.assertRaises(FileNotFoundError, self.kind, 7011, record="/no/such/folder/record")
@@ -141,36 +140,32 @@ class ProducerRecordTest(RecordCase):
 @for_both_kinds
 class WorkerRecordTest(RecordCase):
     kind = Worker
-    POLL = "POLLFOR 1000000000"
+
+    def stops(self, _):
+        self.worker.stop()
 
     def test_the_sessions_of_a_worker(self):
-        worker = None
-        stops = lambda: worker.stop() or "NONE"
-        server = self.play([GREETING, (self.POLL, "ITEM 0 0 1 a"), ("DONE 0", "DONE 0"), (self.POLL, SAYS_NOTHING),
-                            (NOTHING, HANGS_UP)], [GREETING, (self.POLL, stops), GOODBYE])
-        worker = self.kind(lambda job: None, server.port, pauses=Pauses(0.01, 0.02), record=self.path)
-        self.assertEqual(worker.run(), Report(done=1))
-        greeted = ("AT 0", ["ERR 1 syntax"])
-        self.assertEqual(self.told(), [
-            greeted, (self.POLL, ["ITEM 0 0 1 a"]), ("DONE 0", ["DONE 0"]), (self.POLL, []),
-            greeted, (self.POLL, ["NONE"]), ("QUIT", ["BYE"]),
-        ])
-        self.assertEqual(len({it["session"] for it in self.lines()}), 2)
+        server = self.play("AT 0; WAIT > ITEM 0 0 1 a; DONE 0; WAIT > nothing; > hangs up", "AT 0; WAIT > stops: NONE; QUIT")
+        self.worker = self.kind(lambda job: None, server.port, pauses=Pauses(0.01, 0.02), record=self.path)
+        self.assertEqual(self.worker.run(), Report(done=1))
+        self.assert_told(GREETED, (POLL, ["ITEM 0 0 1 a"]), ("DONE 0", ["DONE 0"]), (POLL, []),
+                         GREETED, (POLL, ["NONE"]), ("QUIT", ["BYE"]))
+        self.assert_sessions(0, 0, 0, 0, 1, 1, 1)
 
     def test_a_path_that_can_not_be_written(self):
         self.assertRaises(FileNotFoundError, self.kind, print, 7011, record="/no/such/folder/record")
 
 
 class ThreadsTest(RecordCase):
+    kind = Broker
+
     def test_clients_of_several_threads_may_have_one_path(self):
         count = 200
-        servers = [self.play([("SIZE", "SIZE 3")] * count) for _ in range(4)]
 
-        def ask(port):
-            with Broker(port, patience=PATIENCE, record=self.path) as broker:
-                for _ in range(count):
-                    broker.size()
+        def ask(broker):
+            for _ in range(count):
+                broker.size()
 
-        self.in_threads(*[functools.partial(ask, it.port) for it in servers])
+        self.in_threads(*[functools.partial(ask, self.connect("; ".join(["SIZE > SIZE 3"] * count))) for _ in range(4)])
         names = [it["session"] for it in self.lines()]
         self.assertEqual(sorted(names.count(it) for it in set(names)), [count] * 4)

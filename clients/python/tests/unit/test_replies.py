@@ -1,5 +1,6 @@
-"""The readers of replies, over lines. docs/PROTOCOL.md says what they must read."""
+"""The lines of requests, and the readers of their replies. docs/PROTOCOL.md says what they must send and read."""
 import unittest
+from datetime import timedelta
 
 from rb_broker_client import (
     Again, Dead, FullError, HeldTooManyError, Job, LineRefusedError, NotHeldError, NumberRefusedError, Offered,
@@ -8,6 +9,9 @@ from rb_broker_client import (
 )
 
 GREATEST = 18_446_744_073_709_551_615
+CHARACTERS = "".join(map(chr, range(0x21, 0x7F)))  # that a payload may have
+OFFERS = (Request.offer, lambda payload: Request.offer_at(payload, expires_at_ns=5))
+JOB, WAITS = Job(0, 150, 1, "a"), (Request.poll_for(5), Request.take())
 
 
 def answer(request, *lines):
@@ -19,108 +23,109 @@ def answer(request, *lines):
     return told
 
 
-class AnswerTest(unittest.TestCase):
-    """Each reply of the protocol, to each request that it answers."""
+class LineTest(unittest.TestCase):
+    """What is sent, or refused before it is."""
 
-    def test_greetings_and_offers(self):
-        self.assertIsNone(answer(Request.greeting(), "ERR 1 syntax"))
-        self.assertEqual(answer(Request.offer("a", delay=50e-9), "OFFERED 0 150"), Offered(0, 150))
-        latest = Request.offer_at("a", expires_at_ns=GREATEST)
-        self.assertEqual(answer(latest, f"OFFERED 7 {GREATEST}"), Offered(7, GREATEST))
+    def test_each_request_and_the_replies_that_answer_it(self):
+        a, b = Job(3, 2205, 1, "a"), Job(4, 2205, 1, "b")
+        two, full = ["DRAINED 2", "ITEM 3 2205 1 a", "ITEM 4 2205 1 b"], [f"ITEM {id} 0 1 a" for id in range(64)]
+        for line, request, *replies in (
+            ("OFFER 0 a", Request.offer("a")),
+            ("OFFER 50 a", Request.offer("a", delay=50e-9), ("OFFERED 0 150", Offered(0, 150))),
+            ("OFFERAT 150 a", Request.offer_at("a", expires_at_ns=150),
+             (f"OFFERED 7 {GREATEST}", Offered(7, GREATEST))),
+            ("POLL", Request.poll(), ("ITEM 0 150 1 a", JOB), ("NONE", None)),
+            ("POLLFOR 5000000000", Request.poll_for(5), ("ITEM 0 150 1 a", JOB), ("NONE", None)),
+            ("TAKE", Request.take(), ("ITEM 0 150 1 a", JOB)),
+            ("PEEK", Request.peek(), ("HEAD 0 150 1 a", JOB), ("NONE", None)),
+            ("DRAIN 10", Request.drain(10), ("DRAINED 0", []), (two, [a, b])),
+            ("DRAIN 100", Request.drain(100), (["DRAINED 64", *full], [Job(id, 0, 1, "a") for id in range(64)])),
+            ("DONE 2", Request.done(2), ("DONE 2", None)),
+            ("FAIL 2", Request.fail(2), ("AGAIN 1 1200", Again(1, 1200)), ("DEAD 2", Dead(2))),
+            ("REMOVE 0", Request.remove(0), ("REMOVED yes", True), ("REMOVED no", False)),
+            ("CLEAR", Request.clear(), ("CLEARED", None)),
+            ("SIZE", Request.size(), ("SIZE 1", 1)),
+            ("QUIT", Request.quit(), ("BYE", None)),
+            ("AT 0", Request.greeting(), ("ERR 1 syntax", None)),
+        ):
+            self.assertEqual(str(request), line)
+            for reply, told in replies:
+                heard = answer(request, *([reply] if isinstance(reply, str) else reply))
+                self.assertEqual((type(heard), heard), (type(told), told), line)
 
-    def test_jobs_that_are_given(self):
-        job = Job(0, 150, 1, "a")
-        for request in (Request.poll(), Request.poll_for(5), Request.take()):
-            self.assertEqual(answer(request, "ITEM 0 150 1 a"), job)
-        for request in (Request.poll(), Request.poll_for(5), Request.peek()):
-            self.assertIsNone(answer(request, "NONE"))
-        self.assertEqual(answer(Request.peek(), "HEAD 0 150 1 a"), job)
+    def test_durations_are_seconds_or_a_timedelta(self):
+        for delay, told in (
+            (2, "2000000000"), (2.5, "2500000000"), (0.1, "100000000"), (timedelta(seconds=2.5), "2500000000"),
+            (timedelta(days=36_500, microseconds=1), "3153600000000001000"), (10_000_000_000, "10000000000000000000"),
+        ):
+            self.assertEqual(str(Request.offer("a", delay=delay)), f"OFFER {told} a")
+            self.assertEqual(str(Request.poll_for(delay)), f"POLLFOR {told}")
+
+    def test_what_is_no_duration(self):
+        for delay in (-1, -0.5, float("nan"), float("inf"), timedelta(seconds=-1), 2**64, 18_446_744_074):
+            self.assertRaises(ValueError, Request.offer, "a", delay=delay)
+            self.assertRaises(ValueError, Request.poll_for, delay)
+        for delay in ("5", None, [5]):
+            self.assertRaises(TypeError, Request.offer, "a", delay=delay)
+
+    def test_what_is_no_payload(self):
+        """What a server would refuse is not sent, and no request is smuggled in."""
+        text = "^a payload is 1 to 64 characters of printable ASCII"
+        wrongs = [(it, ValueError, text) for it in ("a\nCLEAR", "a\n", "a\r", "\r", "", "two words", "a" * 65, "é", "a\tb",
+                                                    "\x7f")]
+        wrongs += [(it, TypeError, f"^a payload is a str, not {type(it).__name__}$") for it in (None, 17, b"a", ["a"], 1.5)]
+        for payload, fault, text in wrongs:
+            for offer in OFFERS:
+                with self.assertRaisesRegex(fault, text):
+                    offer(payload)
 
     def test_the_longest_reply_and_each_character_of_a_payload(self):
-        characters = "".join(map(chr, range(0x21, 0x7F)))
-        for payload in ("~" * 64, characters[:64], characters[64:], "ERR", "NONE"):
+        for payload in ("~" * 64, CHARACTERS[:64], CHARACTERS[64:], "ERR", "NONE"):
+            self.assertEqual(str(Request.offer(payload)), f"OFFER 0 {payload}")
             line = f"ITEM {GREATEST} {GREATEST} 1000 {payload}"
             self.assertEqual(answer(Request.take(), line), Job(GREATEST, GREATEST, 1000, payload))
 
-    def test_a_drain(self):
-        self.assertEqual(answer(Request.drain(10), "DRAINED 0"), [])
-        two = ["DRAINED 2", "ITEM 3 2205 1 a", "ITEM 4 2205 1 b"]
-        self.assertEqual(answer(Request.drain(10), *two), [Job(3, 2205, 1, "a"), Job(4, 2205, 1, "b")])
-        full = [f"ITEM {id} 0 1 a" for id in range(64)]
-        self.assertEqual(len(answer(Request.drain(100), "DRAINED 64", *full)), 64)
-
-    def test_ends_of_jobs(self):
-        self.assertIsNone(answer(Request.done(2), "DONE 2"))
-        self.assertEqual(answer(Request.fail(0), "AGAIN 1 1200"), Again(1, 1200))
-        self.assertEqual(answer(Request.fail(2), "DEAD 2"), Dead(2))
-
-    def test_what_is_taken_out_and_counted(self):
-        self.assertIs(answer(Request.remove(0), "REMOVED yes"), True)
-        self.assertIs(answer(Request.remove(0), "REMOVED no"), False)
-        self.assertIsNone(answer(Request.clear(), "CLEARED"))
-        self.assertEqual(answer(Request.size(), "SIZE 1"), 1)
-        self.assertIsNone(answer(Request.quit(), "BYE"))
+    def test_other_numbers_are_the_servers_to_judge(self):
+        self.assertEqual(Request.offer_at("a", expires_at_ns=-1).line, b"OFFERAT -1 a")
+        self.assertEqual(Request.done(2**64).line, b"DONE 18446744073709551616")
 
 
 class RefusalTest(unittest.TestCase):
-    """Refusals, and waits that were given up."""
+    """Refusals, waits that were given up, and lines that answer no such request."""
 
     def test_each_refusal(self):
-        kinds = {
+        for line, kind in {
             "ERR 1 syntax": SyntaxRefusedError, "ERR 2 number": NumberRefusedError, "ERR 3 range": RangeRefusedError,
             "ERR 4 payload": PayloadRefusedError, "ERR 5 not-held": NotHeldError, "ERR 6 full": FullError,
             "ERR 7 memory": OutOfMemoryError, "ERR 8 line": LineRefusedError, "ERR 9 held": HeldTooManyError,
-        }
-        for line, kind in kinds.items():
+        }.items():
             for request in (Request.poll(), Request.drain(1), Request.done(0), Request.fail(0)):
                 with self.subTest(line=line, request=str(request)), self.assertRaisesRegex(kind, f"^{line}$"):
                     answer(request, line)
 
     def test_a_wait_that_was_given_up(self):
-        for request in (Request.take(), Request.poll_for(5)):
+        for request in WAITS:
             self.assertRaises(StoppedError, answer, request, "STOPPED")
 
-    def test_a_request_that_does_not_wait_is_not_stopped(self):
-        for request in (Request.poll(), Request.peek(), Request.drain(1), Request.size()):
-            self.assertRaises(UnknownReplyError, answer, request, "STOPPED")
-
-
-class UnknownTest(unittest.TestCase):
-    """Lines that answer no such request."""
-
-    def refuse(self, request, *lines):
-        for line in lines:
-            with self.subTest(request=str(request), line=line):
-                self.assertRaises(UnknownReplyError, answer, request, line)
-
-    def test_other_words(self):
-        self.refuse(Request.size(), "", " ", "size 1", "SIZE", "SIZE 1 2", "SIZE  1", " SIZE 1", "SIZE 1 ",
-                    "SIZE 1\r")
-        self.refuse(Request.poll(), "HEAD 0 150 1 a", "NONE ", "OFFERED 0 150", "ITEM 0 150 1",
-                    "ITEM 0 150 1 a b")
-        self.refuse(Request.peek(), "ITEM 0 150 1 a")
-        self.refuse(Request.remove(0), "REMOVED", "REMOVED maybe", "REMOVED yes no")
-        self.refuse(Request.take(), "NONE")
-
-    def test_numbers_that_are_none(self):
-        self.refuse(Request.size(), "SIZE -1", "SIZE +1", "SIZE 01", "SIZE x", "SIZE 1.0", "SIZE 1_0", "SIZE \xb2",
-                    f"SIZE {GREATEST + 1}", "SIZE 000000000000000000000")
-
-    def test_items_that_are_none(self):
-        self.refuse(Request.take(), "ITEM 0 150 0 a", "ITEM 0 150 1001 a", "ITEM 0 150 1 ", "ITEM 0 150 1 a\tb",
-                    "ITEM 0 150 1 \xe9", "ITEM 0 150 1 " + "a" * 65)
-
-    def test_jobs_that_were_not_asked_for(self):
-        self.refuse(Request.done(2), "DONE 3", "DONE", "DEAD 2")
-        self.refuse(Request.fail(2), "DEAD 3", "AGAIN 1", "DONE 2")
-
-    def test_what_greets_is_no_server(self):
-        self.refuse(Request.greeting(), "NOW 0", "ERR 1", "HELLO", "")
-
-    def test_refusals_that_are_none(self):
-        self.refuse(Request.size(), "ERR", "ERR 6", "ERR 6 memory", "ERR 10 other", "ERR 6 full ")
-
-    def test_a_drain_that_breaks_off(self):
-        self.assertRaises(UnknownReplyError, answer, Request.drain(100), "DRAINED 65")
-        for line in ("NONE", "ERR 6 full", "HEAD 0 0 1 a"):
-            self.assertRaises(UnknownReplyError, answer, Request.drain(100), "DRAINED 1", line)
+    def test_lines_that_answer_no_such_request(self):
+        size, take, drain = Request.size(), Request.take(), Request.drain(100)
+        for request, *lines in (
+            *((it, "STOPPED") for it in (Request.poll(), Request.peek(), Request.drain(1), size)),  # none of them waits
+            (size, "", " ", "size 1", "SIZE", "SIZE 1 2", "SIZE  1", " SIZE 1", "SIZE 1 ", "SIZE 1\r"),
+            (size, "SIZE -1", "SIZE +1", "SIZE 01", "SIZE x", "SIZE 1.0", "SIZE 1_0", "SIZE \xb2", f"SIZE {GREATEST + 1}",
+             "SIZE 000000000000000000000"),
+            (size, "ERR", "ERR 6", "ERR 6 memory", "ERR 10 other", "ERR 6 full "),
+            (Request.poll(), "HEAD 0 150 1 a", "NONE ", "OFFERED 0 150", "ITEM 0 150 1", "ITEM 0 150 1 a b"),
+            (Request.peek(), "ITEM 0 150 1 a"),
+            (Request.remove(0), "REMOVED", "REMOVED maybe", "REMOVED yes no"),
+            (take, "NONE", "ITEM 0 150 0 a", "ITEM 0 150 1001 a", "ITEM 0 150 1 ", "ITEM 0 150 1 a\tb", "ITEM 0 150 1 \xe9",
+             "ITEM 0 150 1 " + "a" * 65),
+            (Request.done(2), "DONE 3", "DONE", "DEAD 2"),
+            (Request.fail(2), "DEAD 3", "AGAIN 1", "DONE 2"),
+            (Request.greeting(), "NOW 0", "ERR 1", "HELLO", ""),
+            (drain, "DRAINED 65", *(("DRAINED 1", it) for it in ("NONE", "ERR 6 full", "HEAD 0 0 1 a"))),
+        ):
+            for line in lines:
+                with self.subTest(request=str(request), line=line):
+                    reply = [line] if isinstance(line, str) else line
+                    self.assertRaises(UnknownReplyError, answer, request, *reply)

@@ -4,9 +4,9 @@ import unittest
 from unittest.mock import Mock
 
 from from_threads import for_both_kinds
-from scripted import HANGS_UP, NOTHING, PATIENCE
+from scripted import PATIENCE
 from test_producer import ProducerCase, offer
-from test_worker import A_IS_DONE, GIVES_A, POLL, WorkerCase
+from worker_case import A, LAST, WorkerCase
 from rb_broker_client import NotOfferedError, Report
 from rb_broker_client.run import Run
 
@@ -62,8 +62,8 @@ class RunTest(unittest.TestCase):
 @for_both_kinds
 class ProducerTest(ProducerCase):
     def test_a_producer_whose_next_server_begins_anew(self):
-        first = [("OFFER 5 a", "OFFERED 0 5"), ("OFFER 5 b", "OFFERED 1 9"), (NOTHING, HANGS_UP)]
-        producer = self.produce(first, [("OFFER 5 c", "OFFERED 0 5"), ("OFFER 5 d", "OFFERED 1 6")])
+        producer = self.produce("OFFER 5 a > OFFERED 0 5; OFFER 5 b > OFFERED 1 9; > hangs up",
+                                "OFFER 5 c > OFFERED 0 5; OFFER 5 d > OFFERED 1 6")
         offer(producer, "a")
         offer(producer, "b")
         self.assert_session_ends()
@@ -74,8 +74,8 @@ class ProducerTest(ProducerCase):
 
     def test_what_a_producer_says_that_waits(self):
         is_over = threading.Event()
-        late = ("AT 0", lambda: is_over.wait(PATIENCE) and "ERR 1 syntax")
-        producer = self.produce([late], patience=0.5, is_greeted=False)
+        self.late = lambda _: is_over.wait(PATIENCE)
+        producer = self.produce("AT 0 > late: ERR 1 syntax", patience=0.5)
         self.addCleanup(is_over.set)
         told = r"all workers of the server at .* were busy for 0\.[5-9] seconds$"
         self.assertRaisesRegex(NotOfferedError, told, producer.offer, "a")
@@ -84,14 +84,12 @@ class ProducerTest(ProducerCase):
 @for_both_kinds
 class WorkerTest(WorkerCase):
     def test_a_worker_whose_next_server_begins_anew(self):
-        gives = [GIVES_A, A_IS_DONE]
-        with self.logged() as said:
-            self.assert_reports(Report(done=2), [*gives, (POLL, HANGS_UP)], [*gives, *self.last()])
-        (record,) = said
-        self.assertIn("has lost its run: it gave a job of id 0 for the second time", record.getMessage())
-
-    def test_a_job_that_comes_back_under_an_id_of_before(self):
-        first = [(POLL, "ITEM 0 0 1 b"), ("FAIL 0", "AGAIN 1 5"), (POLL, HANGS_UP)]
-        with self.logged() as said:
-            self.assert_reports(Report(again=2), first, [(POLL, "ITEM 7 0 1 b"), ("FAIL 7", "AGAIN 1 5"), *self.last()])
-        self.assertIn("it gave id 1 to a second job that failed", said[-1].getMessage())
+        for report, told, first, following in (
+            (Report(done=2), "has lost its run: it gave a job of id 0 for the second time", A, A),
+            (Report(again=2), "it gave id 1 to a second job that failed", "WAIT > ITEM 0 0 1 b; FAIL 0 > AGAIN 1 5",
+             "WAIT > ITEM 7 0 1 b; FAIL 7 > AGAIN 1 5"),
+        ):
+            with self.logged() as said:
+                self.assert_reports(report, f"{first}; WAIT > hangs up", f"{following}; {LAST}")
+            (record,) = said
+            self.assertIn(told, record.getMessage())

@@ -6,35 +6,33 @@ import time
 import unittest.mock
 
 from from_threads import for_both_kinds
-from scripted import GOODBYE, GREETING, PATIENCE, ScriptedTest
-from test_concurrency import BRIEF, ConcurrencyCase, waited
-from test_worker import A_IS_DONE, GIVES_A, POLL, WorkerCase
+from scripted import PATIENCE, ScriptedTest
+from worker_case import A, GIVES_A, LAST, ConcurrencyCase, WorkerCase
 from rb_broker_client import AsyncWorker, Report
 
 LIMIT = 0.5  # seconds of a handler
+LATE_A = "WAIT > late: ITEM 0 0 1 a"
 
 
 class TimeoutTest(ConcurrencyCase):
     def test_a_job_that_takes_longer_fails_and_its_place_is_not_free(self):
         """Nothing is asked between the failure and the end of the handler."""
-        ends = lambda: threading.Timer(LIMIT, self.jobs.end, ["a"]).start() or "AGAIN 1 5"
-        steps = [(POLL, waited("ITEM 0 0 1 a")), ("FAIL 0", ends), (POLL, self.stops("NONE")), GOODBYE]
+        self.soon = lambda _: threading.Timer(LIMIT, self.jobs.end, ["a"]).start()
         began = time.monotonic()
         with self.logged() as said:
-            self.assert_reports(Report(again=1), steps, concurrency=1, timeout=LIMIT)
+            self.assert_reports(Report(again=1), f"{LATE_A}; FAIL 0 > soon: AGAIN 1 5; {LAST}", concurrency=1,
+                                timeout=LIMIT)
         self.assertGreater(time.monotonic() - began, 2 * LIMIT)
         told = "the handler of job a, attempt 1, takes longer than 0.5 seconds: the job fails"
         self.assertEqual([it.getMessage() for it in said], [told])
 
     def test_a_stop_does_not_wait_for_it(self):
-        steps = [(POLL, waited("ITEM 0 0 1 a")), ("FAIL 0", self.stops("AGAIN 1 5")), GOODBYE]
-        self.addCleanup(self.jobs.end, "a")
-        self.assert_reports(Report(again=1), steps, concurrency=1, timeout=LIMIT)
+        self.addCleanup(lambda: self.jobs.end("a"))
+        self.assert_reports(Report(again=1), f"{LATE_A}; FAIL 0 > stops: AGAIN 1 5; QUIT", concurrency=1, timeout=LIMIT)
         self.assertEqual(self.jobs.running, 1)
 
     def test_one_that_ends_in_time_is_done(self):
-        self.jobs.end("a")
-        self.assert_reports(Report(done=1), [GIVES_A, A_IS_DONE, *self.last()], concurrency=1, timeout=PATIENCE)
+        self.assert_reports(Report(done=1), f"{A}; {LAST}", handler=self.handle, concurrency=1, timeout=PATIENCE)
 
 
 class CancelledTest(ScriptedTest):
@@ -48,8 +46,7 @@ class CancelledTest(ScriptedTest):
                 ended.append(job.payload)
                 worker.stop()
 
-        server = self.play([GREETING, GIVES_A, ("FAIL 0", "AGAIN 1 5"), GOODBYE])
-        worker = AsyncWorker(handle, server.port, timeout=LIMIT)
+        worker = AsyncWorker(handle, self.play(f"AT 0; {GIVES_A}; FAIL 0 > AGAIN 1 5; QUIT").port, timeout=LIMIT)
         self.assertEqual(asyncio.run(worker.run()), Report(again=1))
         self.assertEqual(ended, ["a"])
 
@@ -64,21 +61,22 @@ class LongTest(WorkerCase):
         self.addCleanup(patch.stop)
         super().setUp()
 
-    def logs(self, done, *steps, **options):
+    def logs(self, done, steps, **options):
         """A worker does these jobs, which take long. What is logged of them."""
         handler = lambda job: time.sleep((3 + 2 * job.id) * LIMIT)
         with self.logged(logging.WARNING) as said:
-            self.assert_reports(Report(done=done), [*steps], handler=handler, **options)
+            self.assert_reports(Report(done=done), steps, handler=handler, **options)
         return [it.getMessage() for it in said]
+
+    def long(self, _):
+        time.sleep(4 * LIMIT)
 
     def test_it_is_logged_once(self):
         told = ["the handler of job a, attempt 1, has been running for 0.5 seconds"]
-        self.assertEqual(self.logs(1, GIVES_A, A_IS_DONE, *self.last()), told)
-        beside = [(POLL, waited("ITEM 0 0 1 a")), (BRIEF, lambda: time.sleep(4 * LIMIT) or "NONE")]
-        self.assertEqual(self.logs(1, *beside, A_IS_DONE, *self.last(), concurrency=2), told)
+        self.assertEqual(self.logs(1, f"{A}; {LAST}"), told)
+        self.assertEqual(self.logs(1, f"{LATE_A}; BRIEF > long: NONE; DONE 0; {LAST}", concurrency=2), told)
 
     def test_nothing_else_is_to_be_waited_for(self):
         """Both places are taken for long, both handlers are logged, and no answer is due."""
-        steps = [(POLL, waited("ITEM 0 0 1 a")), (BRIEF, waited("ITEM 1 0 1 c")), A_IS_DONE,
-                 (BRIEF, self.stops("NONE")), ("DONE 1", "DONE 1"), GOODBYE]
-        self.assertEqual(len(self.logs(2, *steps, concurrency=2, session=None)), 2)
+        steps = f"{LATE_A}; BRIEF > late: ITEM 1 0 1 c; DONE 0; BRIEF > stops: NONE; DONE 1; QUIT"
+        self.assertEqual(len(self.logs(2, steps, concurrency=2, session=None)), 2)
