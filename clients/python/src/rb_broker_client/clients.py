@@ -237,8 +237,8 @@ class Producer(BaseProducer):
 
     An offer is tried again, for up to `patience`, when the job was surely not accepted: no server was there, or none of
     its workers was free, or it refused the offer because its run is full or it has no memory. Other refusals are raised
-    at once. If the connection is lost between an offer and its reply, nobody can tell whether the job was accepted. Then
-    it raises `InDoubtError`, or with `may_double=True` offers again: each job at least once, and perhaps twice.
+    at once. If the connection is lost between an offer and its reply, nobody can tell whether the job was accepted.
+    Then it raises `InDoubtError`, or with `may_double=True` offers again: each job at least once, and perhaps twice.
 
     An offer begins a session if there is none, which keeps one of the server's workers busy. It is left `session`
     seconds later, by a daemon thread or in the loop, or with the next offer, and after three seconds if others may be

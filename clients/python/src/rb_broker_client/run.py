@@ -59,9 +59,9 @@ class Run:
         self._greatest = max(id, self._greatest)
 
     def _lost(self, sign: str) -> None:
-        self._log.error("the server at %s has lost its run: %s, and ids up to %d were known. What stood in its queue is "
-                        "gone, with what was not done of the %d jobs that this client had offered, and ids of that run "
-                        "name other jobs now", self.place, sign, self._greatest, self._offered)
+        self._log.error("the server at %s has lost its run: %s, and ids up to %d were known. What stood in its queue "
+                        "is gone, with what was not done of the %d jobs that this client had offered, and ids of that "
+                        "run name other jobs now", self.place, sign, self._greatest, self._offered)
         self._begin()
 
 

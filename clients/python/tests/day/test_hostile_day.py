@@ -19,7 +19,7 @@ from history import History
 from nuisance import Nuisance
 from rb_broker_client import AsyncProducer, Broker, FullError, InDoubtError, Pauses, Producer
 from records import ends_in, lines_between
-from server import PATIENCE, TOP, ServedTest, start
+from server import PATIENCE, ServedTest, start
 
 JOBS = int(os.environ.get("RB_BROKER_JOBS", 1_000))
 LONGEST = 120 + JOBS / 10  # seconds until all jobs are offered, or done
@@ -128,11 +128,8 @@ class HostileDayTest(ServedTest):
     def end(self):
         """Lets the server end, while clients go on."""
         self.server.use_up(LONGEST)
-        status, lines = self.server.end()
-        self.assertEqual(status, 0, lines)
-        self.assertRegex(lines[0], f"^sessions {SESSIONS} faults [0-9]+ lost [0-9]+$")
+        lines = self.assert_ends(self.server, SESSIONS, self.histories[-1], POLICY, faults="[0-9]+", lost="[0-9]+")
         self.lost += int(lines[0].split(" ")[-1])
-        self.assertEqual(self.assert_chained(self.histories[-1], *POLICY), lines[1])
 
     def replace(self, calls):
         self.end()
@@ -229,6 +226,4 @@ class HostileDayTest(ServedTest):
         path = f"{self.room}/records-{number}.jsonl"
         with open(path, "w", encoding="ascii") as file:
             file.writelines(lines_between(self.records, self.began[number], [*self.began, math.inf][number + 1]))
-        words = [sys.executable, os.path.join(TOP, "tools", "verify"), self.histories[number], path, *self.verifying]
-        ran = subprocess.run(words, stdout=subprocess.PIPE, stderr=subprocess.STDOUT, encoding="utf-8", timeout=LONGEST)
-        self.assertEqual((ran.returncode, ran.stdout.splitlines()[-1]), (0, "0 faults"), ran.stdout)
+        self.assert_verified(self.histories[number], path, *self.verifying)

@@ -10,6 +10,7 @@ import os
 import random
 import socket
 import subprocess
+import sys
 import tempfile
 import threading
 import time
@@ -76,12 +77,6 @@ class Server:
         self._process.stderr.close()
 
 
-def free_port():
-    """A port at which nobody listens."""
-    with socket.create_server(("127.0.0.1", 0)) as it:
-        return it.getsockname()[1]
-
-
 class ServedTest(unittest.TestCase):
     """A test that starts servers and workers, each of which is gone at its end."""
 
@@ -123,29 +118,33 @@ class ServedTest(unittest.TestCase):
         thread.join(PATIENCE)
         self.assertEqual((thread.is_alive(), worker.report), (False, report))
 
-    def offer(self, server, payloads):
+    def offer(self, server, *payloads, delay=0):
         """Offers a job of each payload, many in one piece. Their ids rise."""
-        payloads = [*map(str, payloads)]
         with Broker(server.port, patience=PATIENCE) as broker:
             for first in range(0, len(payloads), PIECE):
-                ids = [it.id for it in broker.ask_all(map(Request.offer, payloads[first:first + PIECE]))]
+                piece = payloads[first:first + PIECE]
+                ids = [it.id for it in broker.ask_all([Request.offer(str(it), delay=delay) for it in piece])]
                 self.assertEqual(ids, sorted(set(ids)))
             broker.quit()
 
-    def assert_lost_none(self, ended, sessions):
-        """The server ended well after so many sessions, and no job was lost. A client that was stopped between its
-        connection and its first reply may have left a fault."""
-        status, lines = ended
-        self.assertEqual(status, 0)
-        self.assertRegex(lines[0], f"^sessions {sessions} faults [0-9]+ lost 0$")
+    def assert_ends(self, server, sessions, history=None, policy=(), faults="0", lost="0"):
+        """The server ends well after so many sessions. By the program's own replay the history is legal, its retries
+        are right, and its audit line is that which the server wrote. Gives the lines that it wrote."""
+        status, lines = server.end()
+        self.assertEqual(status, 0, lines)
+        self.assertRegex(lines[0], f"^sessions {sessions} faults {faults} lost {lost}$")
+        if history is not None:
+            process = start([PROGRAM, "replay", history, "--chains", *map(str, policy)], stderr=subprocess.STDOUT,
+                            encoding="utf-8")
+            said, _ = process.communicate(timeout=LONGEST)
+            self.assertEqual((process.returncode, said.strip()), (0, lines[1]))
+        return lines
 
-    def assert_chained(self, history, *policy):
-        """The history is legal and its retries are right, by the program's own replay. Gives the audit line."""
-        words = [PROGRAM, "replay", history, "--chains", *map(str, policy)]
-        process = start(words, stderr=subprocess.STDOUT, encoding="utf-8")
-        said, _ = process.communicate(timeout=LONGEST)
-        self.assertEqual(process.returncode, 0, said)
-        return said.strip()
+    def assert_cut(self, server, sessions, *history, lost="0"):
+        """The same of a server whose sessions are used up now. A client that was stopped between its connection and its
+        first reply may have left a fault."""
+        server.use_up()
+        return self.assert_ends(server, sessions, *history, faults="[0-9]+", lost=lost)
 
     def assert_attempts(self, histories, handled, attempts):
         """The histories have these attempts of each payload, and each that was given was handled once, as it was
@@ -155,6 +154,26 @@ class ServedTest(unittest.TestCase):
         given = [history.elements[id] for id in sorted(history.given)]
         self.assertEqual(sorted((it.id, it.expires_at_ns, it.attempt, it.payload) for it in handled),
                          [(it.id, it.expiry, it.attempt, it.payload) for it in given])
+
+    def assert_verified(self, *words):
+        """By tools/verify a history has what these records tell."""
+        ran = subprocess.run([sys.executable, os.path.join(TOP, "tools", "verify"), *words], stdout=subprocess.PIPE,
+                             stderr=subprocess.STDOUT, encoding="utf-8", timeout=LONGEST)
+        self.assertEqual((ran.returncode, ran.stdout.splitlines()[-1]), (0, "0 faults"), ran.stdout)
+
+    def command(self, port, *words):
+        """Runs the package's command to its end. Its status, and what it wrote."""
+        words = [sys.executable, "-m", "rb_broker_client", *map(str, words), "--port", str(port)]
+        ran = subprocess.run(words, stdout=subprocess.PIPE, stderr=subprocess.PIPE, encoding="ascii", timeout=PATIENCE)
+        return ran.returncode, ran.stdout, ran.stderr
+
+    def start_worker(self, port, *words, **options):
+        """Starts the command as a worker, which is gone at the end of the test."""
+        worker = start([sys.executable, "-u", "-m", "rb_broker_client", "worker", *words, "--port", str(port)],
+                       encoding="ascii", **options)
+        self.addCleanup(worker.communicate)
+        self.addCleanup(worker.kill)
+        return worker
 
     def wait_until(self, is_so, seconds=PATIENCE):
         """Waits for a condition that another thread brings about."""

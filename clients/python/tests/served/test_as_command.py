@@ -1,10 +1,9 @@
 """The package as a command, with the built program."""
 import signal
 import subprocess
-import sys
 import time
 
-from server import PATIENCE, ServedTest, start
+from server import PATIENCE, ServedTest
 
 HANDLERS = """
 import time
@@ -34,70 +33,61 @@ class CommandTest(ServedTest):
         with open(f"{self.room}/handlers.py", "w", encoding="ascii") as file:
             file.write(HANDLERS)
 
-    def words(self, server, *words):
-        return [sys.executable, "-m", "rb_broker_client", *map(str, words), "--port", str(server.port)]
+    def start(self, server, *words, handler="handlers:deliver"):
+        return self.start_worker(server.port, handler, *words, cwd=self.room, stderr=subprocess.PIPE)
 
-    def run_command(self, server, *words):
-        """Runs a command to its end. Its status, and what it wrote."""
-        ran = subprocess.run(self.words(server, *words), stdout=subprocess.PIPE, stderr=subprocess.PIPE,
-                             encoding="ascii", timeout=PATIENCE)
-        return ran.returncode, ran.stdout, ran.stderr
+    def assert_done(self, server, *words):
+        """The command ends well. Gives what it wrote."""
+        status, said, errors = self.command(server.port, *words)
+        self.assertEqual((status, errors), (0, ""))
+        return said
 
-    def start_worker(self, server, *words, handler="handlers:deliver"):
-        worker = start(self.words(server, "worker", handler, *words), cwd=self.room,
-                       stderr=subprocess.PIPE, encoding="ascii")
-        self.addCleanup(worker.communicate)
-        self.addCleanup(worker.kill)
-        return worker
+    def assert_stops(self, worker, said, number=signal.SIGTERM):
+        """The worker ends well once it has this signal, and writes this. Gives what it logged."""
+        worker.send_signal(number)
+        told, errors = worker.communicate(timeout=PATIENCE)
+        self.assertEqual((worker.returncode, told), (0, said))
+        return errors
 
     def test_a_job_from_its_offer_to_its_end(self):
         server = self.serve("--sessions", 6, "--workers", 2, "--attempts", 2)
-        self.assertEqual(self.run_command(server, "peek"), (0, "NONE\n", ""))
-        status, said, errors = self.run_command(server, "offer", "1ms", "letter")
+        self.assertEqual(self.assert_done(server, "peek"), "NONE\n")
+        said = self.assert_done(server, "offer", "1ms", "letter")
         self.assertRegex(said, "^OFFERED 0 [0-9]+\n$")
-        self.assertEqual((status, errors), (0, ""))
-        expiry = said.split()[2]
-        self.assertEqual(self.run_command(server, "peek"), (0, f"HEAD 0 {expiry} 1 letter\n", ""))
-        self.assertEqual(self.run_command(server, "size"), (0, "SIZE 1\n", ""))
-        self.assertEqual(self.run_command(server, "offer", "0s", "bad")[0], 0)
-        worker = self.start_worker(server, "--on-dead", "handlers:keep", "--concurrency", "4")
-        told = {worker.stdout.readline() for _ in range(2)}
-        self.assertEqual(told, {"letter 1\n", "dead bad 2\n"})
-        worker.send_signal(signal.SIGTERM)
-        said, errors = worker.communicate(timeout=PATIENCE)
-        self.assertEqual((worker.returncode, said), (0, "done 1, again 1, dead 1, lost 0, unheard 0\n"))
+        self.assertEqual(self.assert_done(server, "peek"), f"HEAD 0 {said.split()[2]} 1 letter\n")
+        self.assertEqual(self.assert_done(server, "size"), "SIZE 1\n")
+        self.assert_done(server, "offer", "0s", "bad")
+        worker = self.start(server, "--on-dead", "handlers:keep", "--concurrency", "4")
+        self.assertEqual({worker.stdout.readline() for _ in range(2)}, {"letter 1\n", "dead bad 2\n"})
+        errors = self.assert_stops(worker, "done 1, again 1, dead 1, lost 0, unheard 0\n")
         self.assertIn("WARNING attempt 1 of job bad failed", errors)
-        self.assertEqual(server.end()[1][0], "sessions 6 faults 0 lost 0")
+        self.assert_ends(server, 6)
 
     def test_a_coroutine_function(self):
         server = self.serve("--sessions", 3, "--workers", 2, "--attempts", 1)
         for payload in ("bad", "letter"):
-            self.assertEqual(self.run_command(server, "offer", 0, payload)[0], 0)
-        worker = self.start_worker(server, "--on-dead", "handlers:keep_async", handler="handlers:deliver_async")
-        told = {worker.stdout.readline() for _ in range(2)}
-        self.assertEqual(told, {"letter 1\n", "dead bad 1\n"})
-        worker.send_signal(signal.SIGTERM)
-        said, _ = worker.communicate(timeout=PATIENCE)
-        self.assertEqual((worker.returncode, said), (0, "done 1, again 0, dead 1, lost 0, unheard 0\n"))
-        self.assertEqual(server.end()[1][0], "sessions 3 faults 0 lost 0")
+            self.assert_done(server, "offer", 0, payload)
+        worker = self.start(server, "--on-dead", "handlers:keep_async", handler="handlers:deliver_async")
+        self.assertEqual({worker.stdout.readline() for _ in range(2)}, {"letter 1\n", "dead bad 1\n"})
+        self.assert_stops(worker, "done 1, again 0, dead 1, lost 0, unheard 0\n")
+        self.assert_ends(server, 3)
+
+    def start_slow(self):
+        """A server, and a worker in the middle of a slow job."""
+        server = self.serve("--sessions", 2)
+        self.assert_done(server, "offer", 0, "slow")
+        worker = self.start(server)
+        self.assertEqual(worker.stdout.readline(), "slow has begun\n")
+        return server, worker
 
     def test_the_first_signal_finishes_the_job_in_hand(self):
         for number in (signal.SIGINT, signal.SIGTERM):
-            server = self.serve("--sessions", 2)
-            self.assertEqual(self.run_command(server, "offer", 0, "slow")[0], 0)
-            worker = self.start_worker(server)
-            self.assertEqual(worker.stdout.readline(), "slow has begun\n")
-            worker.send_signal(number)
-            said, _ = worker.communicate(timeout=PATIENCE)
-            told = "slow 1\ndone 1, again 0, dead 0, lost 0, unheard 0\n"
-            self.assertEqual((worker.returncode, said), (0, told))
-            self.assertEqual(server.end()[1][0], "sessions 2 faults 0 lost 0")
+            server, worker = self.start_slow()
+            self.assert_stops(worker, "slow 1\ndone 1, again 0, dead 0, lost 0, unheard 0\n", number)
+            self.assert_ends(server, 2)
 
     def test_the_second_signal_ends_it_at_once(self):
-        server = self.serve("--sessions", 2)
-        self.assertEqual(self.run_command(server, "offer", 0, "slow")[0], 0)
-        worker = self.start_worker(server)
-        self.assertEqual(worker.stdout.readline(), "slow has begun\n")
+        _, worker = self.start_slow()
         worker.send_signal(signal.SIGTERM)
         time.sleep(0.2)
         worker.send_signal(signal.SIGTERM)
@@ -106,13 +96,13 @@ class CommandTest(ServedTest):
 
     def test_it_says_when_a_server_is_gone_and_when_it_is_served_again(self):
         server = self.serve("--sessions", 9)
-        worker = self.start_worker(server)
-        self.assertEqual(self.run_command(server, "offer", 0, "first")[0], 0)
+        worker = self.start(server)
+        self.assert_done(server, "offer", 0, "first")
         self.assertEqual(worker.stdout.readline(), "first 1\n")
         server.kill()
         time.sleep(1)  # it looks for the next one meanwhile
         following = self.serve("--sessions", 2, port=server.port)
-        self.assertEqual(self.run_command(following, "offer", 0, "second")[0], 0)
+        self.assert_done(following, "offer", 0, "second")
         self.assertEqual(worker.stdout.readline(), "second 1\n")
         worker.send_signal(signal.SIGTERM)
         _, errors = worker.communicate(timeout=PATIENCE)

@@ -6,7 +6,6 @@ from rb_broker_client import Pauses, Producer, Report
 from server import PATIENCE, ServedTest
 
 POLICY = ("--delay", 1_000_000, "--attempts", 5)
-HOUR = timedelta(hours=1)
 JOBS, SERVERS = 1_500, 4
 
 
@@ -25,16 +24,13 @@ class LeavingTest(ServedTest):
 
     def assert_ends_well(self, server):
         """The server ends once its sessions are used up, though no client is told to leave."""
-        server.use_up()
-        ended = server.end()
-        self.assert_lost_none(ended, 1_000)
-        self.assertEqual(self.assert_chained(self.histories[-1], *POLICY), ended[1][1])
+        self.assert_cut(server, 1_000, self.histories[-1], POLICY)
 
     def test_a_server_ends_beside_an_idle_worker_and_an_idle_producer(self):
         server = self.serve_run(0)
         crew = self.gather(server, 1, is_done, session=0.5)
         with Producer(server.port, session=0.5) as producer:
-            producer.offer("1", delay=HOUR)
+            producer.offer("1", delay=timedelta(hours=1))
             producer.offer("2")
             self.wait_until(lambda: crew.done() == ["2"])
             self.assert_ends_well(server)
@@ -66,8 +62,6 @@ class LeavingTest(ServedTest):
             for number in range(JOBS):
                 producer.offer(str(number))
 
-
-class DeadTest(ServedTest):
     def test_dead_jobs_are_told_with_their_last_attempt(self):
         server = self.serve("--delay", 0, "--attempts", 2, "--sessions", 2)
         dead = []
@@ -78,4 +72,4 @@ class DeadTest(ServedTest):
         self.wait_until(lambda: len(dead) == 2 and crew.done() == ["good"])
         self.assertEqual(crew.stop(), Report(done=1, again=2, dead=2))
         self.assertEqual(sorted((it.attempt, it.payload) for it in dead), [(2, "bad"), (2, "worse")])
-        self.assertEqual(server.end()[1][0], "sessions 2 faults 0 lost 0")
+        self.assert_ends(server, 2)

@@ -1,9 +1,9 @@
 """The example of the README, as a program of its own."""
 import os
-import socket
 import subprocess
 import sys
 
+from scripted import free_port
 from server import PATIENCE, TOP, ServedTest
 
 LETTERS = os.path.join(TOP, "clients", "python", "examples", "letters.py")
@@ -24,14 +24,11 @@ class LettersTest(ServedTest):
         server = self.serve("--sessions", 2)
         told = run_letters(server.port)
         self.assertEqual((told.returncode, told.stdout, told.stderr), (0, OUTPUT, ""))
-        status, (counts, line) = server.end()
-        self.assertEqual((status, counts), (0, "sessions 2 faults 0 lost 0"))
-        self.assertRegex(line, '"given":3,"left":0,"offered":3,"opening":0,"removed":0}$')
+        _, audit = self.assert_ends(server, 2)
+        self.assertRegex(audit, '"given":3,"left":0,"offered":3,"opening":0,"removed":0}$')
 
     def test_nobody_listens(self):
-        with socket.create_server(("127.0.0.1", 0)) as it:
-            port = it.getsockname()[1]
-        for wrong in (port, 65_536):
+        for wrong in (free_port(), 65_536):
             told = run_letters(wrong)
             self.assertEqual((told.returncode, told.stdout), (1, ""))
             self.assertRegex(told.stderr, "^letters: .*\n$")

@@ -21,21 +21,20 @@ class NextServerTest(ServedTest):
         self.histories = [f"{self.room}/first", f"{self.room}/next"]
 
     def test_what_a_full_run_left_is_worked_off_in_the_next(self):
-        first = self.serve("--workers", 6, "--sessions", 60, "--calls", JOBS, *POLICY, "--history", self.histories[0])
+        options = ("--workers", 6, "--sessions", 60, *POLICY)
+        first = self.serve(*options, "--calls", JOBS, "--history", self.histories[0])
         crew = self.gather(first, WORKERS, is_done)
         producing = self.begin(lambda: self.produce(first.port))
         self.wait_until_full(first)
-        first.use_up()
-        first_end = first.end()
-        following = self.serve("--workers", 6, "--sessions", 60, "--calls", 100_000, *POLICY, "--from",
-                               self.histories[0], "--history", self.histories[1], port=first.port)
+        lines = self.assert_cut(first, 60, self.histories[0], POLICY, lost="[0-9]+")
+        following = self.serve(*options, "--calls", 100_000, "--from", self.histories[0], "--history",
+                               self.histories[1], port=first.port)
         producing.join(2 * PATIENCE)
-        self.wait_until(lambda: len(crew.done()) + self.lost(crew) >= JOBS)
+        self.wait_until(lambda: len(crew.done()) + sum(it.report.lost for it in crew.workers) >= JOBS)
         report = crew.stop()
-        following.use_up()
         self.assertEqual((report.done, report.unheard), (JOBS - report.lost, 0))
-        self.check_end(first_end, self.histories[0], report.lost)
-        self.check_end(following.end(), self.histories[1], 0)
+        self.assertRegex(lines[0], f" lost {report.lost}$")
+        self.assert_cut(following, 60, self.histories[1], POLICY)
         self.check_jobs(crew, report)
 
     def produce(self, port):
@@ -55,15 +54,6 @@ class NextServerTest(ServedTest):
         with Broker(server.port, patience=PATIENCE) as broker:
             self.wait_until(is_full)
             broker.quit()
-
-    def lost(self, crew):
-        return sum(it.report.lost for it in crew.workers)
-
-    def check_end(self, ended, path, lost):
-        status, lines = ended
-        self.assertEqual(status, 0)
-        self.assertRegex(lines[0], f"^sessions 60 faults 0 lost {lost}$")
-        self.assertEqual(self.assert_chained(path, *POLICY), lines[1])
 
     def check_jobs(self, crew, report):
         """Each job was offered once, though the server was replaced; each element that was given was handled once;
@@ -89,8 +79,7 @@ class NextServerTest(ServedTest):
                 self.wait_until(lambda: {str(it) for it in numbers} <= {*crew.done()})
 
             offer(*range(1, 30))
-            server.use_up()
-            self.assert_lost_none(server.end(), 300)
+            self.assert_cut(server, 300)
             server = self.serve(*policy, "--from", self.histories[0], port=server.port)
             offer(*range(30, 60))
             self.assertEqual(said.records, [])
@@ -133,4 +122,4 @@ class NextServerTest(ServedTest):
             producer.offer("second")
             self.wait_until(lambda: crew.done() == ["first", "second"])
         crew.stop()
-        self.assertEqual(following.end()[1][0], "sessions 2 faults 0 lost 0")
+        self.assert_ends(following, 2)

@@ -42,7 +42,7 @@ class HangTest(ServedTest):
             look()
             time.sleep(PAUSE)
 
-    def assert_ends(self, worker, thread, report):
+    def assert_finishes(self, worker, thread, report):
         self.may_end.set()
         self.assert_stops(worker, thread, report)
 
@@ -56,9 +56,8 @@ class HangTest(ServedTest):
                 self.offer_slowly(producer.offer)
             self.wait_until(lambda: len(self.done) == QUICK)
             self.assertNotIn("hangs", self.done)
-            self.assert_ends(worker, thread, Report(done=QUICK + 1))
-            server.use_up()
-            self.assert_lost_none(server.end(), 100)
+            self.assert_finishes(worker, thread, Report(done=QUICK + 1))
+            self.assert_cut(server, 100)
 
     def test_two_sessions_at_a_time_at_most(self):
         server = self.serve("--workers", 3, "--sessions", 100)
@@ -69,7 +68,7 @@ class HangTest(ServedTest):
             self.wait_until(lambda: len(self.done) == QUICK)
             broker.quit()
         self.assertEqual(max(most), 2)
-        self.assert_ends(worker, thread, Report(done=QUICK + 1))
+        self.assert_finishes(worker, thread, Report(done=QUICK + 1))
 
     def test_where_the_server_has_no_worker_for_the_next(self):
         """The session that it has fetches on, once it is clear that its job takes long."""
@@ -80,7 +79,7 @@ class HangTest(ServedTest):
                 for payload in ("hangs", *map(str, range(QUICK))):
                     producer.offer(payload)
             self.wait_until(lambda: len(self.done) == QUICK)
-            self.assert_ends(worker, thread, Report(done=QUICK + 1))
+            self.assert_finishes(worker, thread, Report(done=QUICK + 1))
 
     def test_a_job_that_takes_too_long_fails_and_is_given_again(self):
         server = self.serve("--workers", 4, "--sessions", 100, "--attempts", 2)
@@ -90,7 +89,7 @@ class HangTest(ServedTest):
             self.offer_slowly(producer.offer)
         self.wait_until(lambda: len(self.done) == QUICK and dead)
         self.assertEqual([(it.payload, it.attempt) for it in dead], [("hangs", 2)])
-        self.assert_ends(worker, thread, Report(done=QUICK, again=1, dead=1))
+        self.assert_finishes(worker, thread, Report(done=QUICK, again=1, dead=1))
 
 
 class CrowdTest(ServedTest):

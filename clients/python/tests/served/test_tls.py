@@ -6,17 +6,17 @@ import shutil
 import signal
 import ssl
 import subprocess
-import sys
 import tempfile
 import textwrap
 import threading
 import unittest
 
 from encryption import Certificates, Proxy
+from scripted import free_port
 from rb_broker_client import (
     AsyncBroker, AsyncProducer, AsyncWorker, Broker, NotOfferedError, Offered, Producer, Report, Request, Worker,
 )
-from server import PATIENCE, TOP, ServedTest, free_port, start
+from server import PATIENCE, TOP, ServedTest, start
 
 JOBS = 200
 REFUSED = "(?i)alert|reset|closed|broken pipe|EOF"
@@ -82,32 +82,23 @@ class TlsTest(ServedTest):
             self.assertEqual(len(broker.drain(64)), 64)
             broker.quit()
 
-    def command(self, port, command, *words):
-        """Runs the command to its end. Its status, and what it wrote."""
-        ran = subprocess.run([sys.executable, "-m", "rb_broker_client", *command, "--port", str(port), *words],
-                             stdout=subprocess.PIPE, stderr=subprocess.PIPE, encoding="ascii", timeout=PATIENCE)
-        return ran.returncode, ran.stdout, ran.stderr
-
     def test_the_command(self):
         port, tls = self.protect(), self.certificates.words()
-        worker = start([sys.executable, "-u", "-m", "rb_broker_client", "worker", "builtins:print", "--port", str(port),
-                        *tls], stderr=subprocess.DEVNULL, encoding="ascii")
-        self.addCleanup(worker.communicate)
-        self.addCleanup(worker.kill)
-        status, said, errors = self.command(port, ["offer", "0", "letter"], *tls[:-4], "--cert",
-                                           self.certificates.joined("client"))
+        worker = self.start_worker(port, "builtins:print", *tls, stderr=subprocess.DEVNULL)
+        status, said, errors = self.command(port, "offer", 0, "letter", *tls[:-4], "--cert",
+                                            self.certificates.joined("client"))
         self.assertEqual((status, errors), (0, ""))
         self.assertRegex(said, r"\AOFFERED 0 [0-9]+\n\Z")
         self.assertIn("letter", worker.stdout.readline())
         worker.send_signal(signal.SIGTERM)
         told = "done 1, again 0, dead 0, lost 0, unheard 0\n"
         self.assertEqual((worker.communicate(timeout=PATIENCE)[0], worker.returncode), (told, 0))
-        self.assertEqual(self.command(port, ["size"], *tls), (0, "SIZE 0\n", ""))
+        self.assertEqual(self.command(port, "size", *tls), (0, "SIZE 0\n", ""))
 
     def test_a_key_of_another_certificate(self):
         words, key = self.certificates.words(), self.certificates.key("stranger")
         told = f"rb_broker_client: {key} can't be used: it has no key of {words[4]} that can be read\n"
-        self.assertEqual(self.command(1, ["size"], *words[:-1], key), (1, "", told))
+        self.assertEqual(self.command(1, "size", *words[:-1], key), (1, "", told))
 
     def refuse(self, port, text, encrypts=True, **certificates):
         """Each kind of client is refused, and says why. It trusts and shows these certificates, if it encrypts."""
@@ -127,7 +118,7 @@ class TlsTest(ServedTest):
         with Producer(port, patience=0.5, tls=tls) as producer:
             with self.assertRaisesRegex(NotOfferedError, text):
                 producer.offer("letter")
-        status, said, errors = self.command(port, ["size"], *words)
+        status, said, errors = self.command(port, "size", *words)
         self.assertEqual((status, said), (1, ""))
         self.assertRegex(errors, rf"\Arb_broker_client: no answer from 127\.0\.0\.1:{port}: [^\n]+\n\Z")
         self.assertRegex(errors, text)

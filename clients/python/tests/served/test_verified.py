@@ -1,11 +1,8 @@
 """A run whose clients keep records, judged from outside by tools/verify."""
 import asyncio
-import os
-import subprocess
-import sys
 
 from rb_broker_client import AsyncProducer, AsyncWorker, Producer, Report, Worker
-from server import LONGEST, PATIENCE, TOP, ServedTest
+from server import PATIENCE, ServedTest
 
 JOBS = 1_000
 POLICY = ("--delay", 1_000_000, "--attempts", 3)
@@ -39,11 +36,10 @@ class VerifiedTest(ServedTest):
         for worker, thread in zip(workers, threads):
             worker.stop()
             thread.join(PATIENCE)
-        server.use_up()
-        self.assert_lost_none(server.end(), 300)
+        self.assert_cut(server, 300)
         self.assertEqual([sum(getattr(it.report, name) for it in workers) for name in vars(Report())],
                          [JOBS, JOBS // 5, 0, 0, 0])
-        self.assert_verified(history, record)
+        self.assert_verified("--all", history, record)  # the record has each call
 
     def produce(self, port, options):
         """Half of the jobs by a producer, and half by another of asyncio, at the same time."""
@@ -57,9 +53,3 @@ class VerifiedTest(ServedTest):
             for number in range(0, JOBS, 2):
                 producer.offer(str(number))
         other.join(PATIENCE)
-
-    def assert_verified(self, history, record):
-        """The record has each call, and tools/verify finds no fault."""
-        words = [sys.executable, os.path.join(TOP, "tools", "verify"), "--all", history, record]
-        ran = subprocess.run(words, stdout=subprocess.PIPE, stderr=subprocess.STDOUT, encoding="utf-8", timeout=LONGEST)
-        self.assertEqual((ran.returncode, ran.stdout.splitlines()[-1]), (0, "0 faults"), ran.stdout)

@@ -17,10 +17,10 @@ SHORT = {"WAIT": "POLLFOR 1000000000", "BRIEF": "POLLFOR 200000000"}  # a worker
 class ScriptedServer:
     """Serves its sessions one after the other, or `together`, at a free port, and then listens no more.
 
-    A session is a list of steps: the request line that has to come, or an empty one where nothing is waited for; and the
-    reply, which is a text or bytes, or a function that gives it. Such a function is called with one that waits until
-    the next request has come. After the last step the client has to leave, and to send nothing before. `ended` is
-    released once for each session.
+    A session is a list of steps: the request line that has to come, or an empty one where nothing is waited for; and
+    the reply, which is a text or bytes, or a function that gives it. Such a function is called with one that waits
+    until the next request has come. After the last step the client has to leave, and to send nothing before. `ended`
+    is released once for each session.
     """
 
     def __init__(self, *sessions, together=False):

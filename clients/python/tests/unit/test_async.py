@@ -1,6 +1,7 @@
 """What is of the clients of asyncio alone. The tests of the others are theirs too (`for_both_kinds`)."""
 import asyncio
 import contextvars
+import threading
 import time
 import unittest.mock
 
@@ -46,13 +47,15 @@ class CancelTest(ScriptedTest):
 
         async def run(port):
             working = asyncio.ensure_future(AsyncWorker(handle, port, concurrency=2).run())
-            await asyncio.sleep(0.3)
+            await asyncio.get_running_loop().run_in_executor(None, is_waiting.wait, PATIENCE)
             working.cancel()
             with self.assertRaises(asyncio.CancelledError):
                 await working
             return [*ended]
 
-        server = self.play(f"AT 0; {GIVES_A}; BRIEF > nothing")
+        is_waiting = threading.Event()
+        self.waits = lambda _: is_waiting.set()
+        server = self.play(f"AT 0; {GIVES_A}; BRIEF > waits: nothing")
         self.assertEqual(asyncio.run(run(server.port)), ["a"])
 
     def test_a_handler_that_is_cancelled_has_failed(self):

@@ -97,8 +97,9 @@ class BrokerTest(ScriptedTest):
         broker.quit()
 
     def test_a_job_is_told_of_by_itself(self):
-        broker = self.connect("POLL > ITEM 0 5 1 a; DONE 0; TAKE > ITEM 1 5 1 b; FAIL 1 > AGAIN 3 9; "
-                              "DRAIN 9 > DRAINED 1, ITEM 2 5 1 c; DONE 2; POLLFOR 500000000 > NONE; PEEK > HEAD 0 150 1 a")
+        broker = self.connect(
+            "POLL > ITEM 0 5 1 a; DONE 0; TAKE > ITEM 1 5 1 b; FAIL 1 > AGAIN 3 9; DRAIN 9 > DRAINED 1, ITEM 2 5 1 c; "
+            "DONE 2; POLLFOR 500000000 > NONE; PEEK > HEAD 0 150 1 a")
         job = broker.poll()
         self.assertEqual(job, Job(0, 5, 1, "a"))
         self.end(job.done)

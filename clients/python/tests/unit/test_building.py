@@ -46,22 +46,21 @@ def can_build(python):
         return False
 
 
-class BuildingCase(unittest.TestCase):
+class PackageTest(unittest.TestCase):
     """An environment that has pip, setuptools and wheel, and a copy of the sources, since building leaves files."""
 
     @classmethod
     def setUpClass(cls):
-        cls.builder = next(filter(can_build, PYTHONS), None)
-        if cls.builder is None:
+        builder = next(filter(can_build, PYTHONS), None)
+        if builder is None:
             raise unittest.SkipTest("no python has setuptools 61, wheel and venv")
         room = tempfile.TemporaryDirectory()
         cls.addClassCleanup(room.cleanup)
         cls.room = os.path.realpath(room.name)
-        cls.sources = os.path.join(cls.room, "sources")
+        cls.sources, cls.place = (os.path.join(cls.room, it) for it in ("sources", "environment"))
         shutil.copytree(TOP, cls.sources, ignore=shutil.ignore_patterns("__pycache__", "build", "*.egg-info"))
-        cls.place = os.path.join(cls.room, "environment")
         cls.python = os.path.join(cls.place, "bin", "python")
-        run([cls.builder, "-m", "venv", "--system-site-packages", cls.place], cls.room)
+        run([builder, "-m", "venv", "--system-site-packages", cls.place], cls.room)
 
     def built(self, hook, *folders):
         """Calls a hook of the builder, as pip does. The path of what it wrote."""
@@ -70,18 +69,8 @@ class BuildingCase(unittest.TestCase):
         code = f"import sys; from setuptools import build_meta; print(build_meta.{hook}(sys.argv[1]))"
         return os.path.join(folder, run([self.python, "-c", code, folder], self.sources).splitlines()[-1])
 
-
-class InstallTest(BuildingCase):
     def pip(self, *words):
         run([self.python, "-m", "pip", "--no-cache-dir", "--disable-pip-version-check", *words], self.room)
-
-    def install(self, *what):
-        self.pip("install", "--no-index", "--no-build-isolation", *what)
-        self.addCleanup(self.uninstall)
-
-    def uninstall(self):
-        self.pip("uninstall", "--yes", "rb-broker-client")
-        self.assertIn("ModuleNotFoundError", run([self.python, "-c", "import rb_broker_client"], self.room, status=1))
 
     def assert_installed(self, place):
         """The package is there, with its version and its metadata, and works as a command."""
@@ -90,42 +79,38 @@ class InstallTest(BuildingCase):
         self.assertEqual((first, needs), (second, ">=3.9"))
         self.assertTrue(folder.startswith(place), folder)
         self.assertTrue(os.path.exists(os.path.join(folder, "py.typed")))
-        self.assertEqual(sorted(it for it in os.listdir(folder) if it.endswith(".py")),
-                         sorted(it for it in os.listdir(os.path.join(TOP, SOURCE)) if it.endswith(".py")))
+        self.assertEqual(*(sorted(it for it in os.listdir(place) if it.endswith(".py"))
+                           for place in (folder, os.path.join(TOP, SOURCE))))
         told = run([self.python, "-m", "rb_broker_client", "--help"], self.room)
         self.assertIn("usage: python3 -m rb_broker_client", told)
 
-    def test_from_the_folder(self):
-        self.install(self.sources)
-        self.assert_installed(self.place)
+    def test_it_is_installed_and_removed(self):
+        """From the folder, from an archive of the sources, and where the sources are."""
+        for place, *what in ((self.place, self.sources), (self.place, self.built("build_sdist")),
+                             (os.path.join(self.sources, SOURCE), "--editable", self.sources)):
+            with self.subTest(what=what):
+                self.pip("install", "--no-index", "--no-build-isolation", *what)
+                self.assert_installed(place)
+                self.pip("uninstall", "--yes", "rb-broker-client")
+                said = run([self.python, "-c", "import rb_broker_client"], self.room, status=1)
+                self.assertIn("ModuleNotFoundError", said)
 
-    def test_from_an_archive_of_the_sources(self):
-        self.install(self.built("build_sdist"))
-        self.assert_installed(self.place)
-
-    def test_where_the_sources_are(self):
-        self.install("--editable", self.sources)
-        self.assert_installed(os.path.join(self.sources, SOURCE))
-
-
-class BuildingTest(BuildingCase):
     def test_what_is_built_twice_is_the_same(self):
-        digests = set()
+        digests, contents = set(), []
         for folder in ("first", "second"):
             with open(self.built("build_wheel", folder), "rb") as file:
                 digests.add(hashlib.sha256(file.read()).hexdigest())
-        self.assertEqual(len(digests), 1)
-
-    def test_what_an_archive_of_the_sources_has(self):
-        contents = []
-        for folder in ("first", "second"):
             with tarfile.open(self.built("build_sdist", folder)) as archive:
                 files = [it for it in archive.getmembers() if it.isfile()]
                 contents.append({it.name.partition("/")[2]: archive.extractfile(it).read() for it in files})
+        self.assertEqual(len(digests), 1)
         self.assertEqual(*contents)
         self.assertTrue({"README.md", "pyproject.toml", f"{SOURCE}/worker.py"} <= {*contents[0]})
 
     def test_git_ignores_what_is_left_beside_the_sources(self):
+        """A folder of its own, in which nothing was built before."""
+        self.sources = os.path.join(self.room, "fresh")
+        shutil.copytree(TOP, self.sources, ignore=shutil.ignore_patterns("__pycache__", "build", "*.egg-info"))
         names = lambda: {os.path.join(place, it) for place, _, names in os.walk(self.sources) for it in names}
         before = names()
         run(["git", "init", "--quiet"], self.sources)

@@ -19,9 +19,11 @@ class OrderTest(ConcurrencyCase):
     def test_as_many_as_can_be_started(self):
         for why, most, concurrency, steps, done in (
             ("jobs are answered in whatever order they end", 2, 3,
-             f"{GIVES_A}; BRIEF > late: ITEM 1 0 1 c; BRIEF > ends c: NONE; DONE 1; BRIEF > ends a: NONE; DONE 0; {LAST}", 2),
+             f"{GIVES_A}; BRIEF > late: ITEM 1 0 1 c; BRIEF > ends c: NONE; DONE 1; BRIEF > ends a: NONE; DONE 0; "
+             f"{LAST}", 2),
             ("no more are fetched than can be started", 2, 2,
-             f"{A_THEN_C}; DONE 0; BRIEF > beside d c: ITEM 2 0 1 d; DONE 1; BRIEF > ends d: stops: NONE; DONE 2; QUIT", 3),
+             f"{A_THEN_C}; DONE 0; BRIEF > beside d c: ITEM 2 0 1 d; DONE 1; BRIEF > ends d: stops: NONE; DONE 2; "
+             "QUIT", 3),
         ):
             with self.subTest(why):
                 self.assert_reports(Report(done=done), steps, concurrency=concurrency)

@@ -74,7 +74,8 @@ class BrokerRecordTest(RecordCase):
         for steps, requests, told, heard in (
             ("SIZE > SIZE 3; TAKE > hangs up", [Request.size(), Request.take()],
              [("SIZE", ["SIZE 3"]), ("TAKE", []), ("QUIT", [])], [3]),
-            ([cut, "QUIT > hangs up"], [Request.drain(9)], [("DRAIN 9", ["DRAINED 2", "ITEM 0 5 1 a"]), ("QUIT", [])], []),
+            ([cut, "QUIT > hangs up"], [Request.drain(9)],
+             [("DRAIN 9", ["DRAINED 2", "ITEM 0 5 1 a"]), ("QUIT", [])], []),
         ):
             self.path += "-next"
             broker = self.connect(steps)
@@ -145,7 +146,8 @@ class WorkerRecordTest(RecordCase):
         self.worker.stop()
 
     def test_the_sessions_of_a_worker(self):
-        server = self.play("AT 0; WAIT > ITEM 0 0 1 a; DONE 0; WAIT > nothing; > hangs up", "AT 0; WAIT > stops: NONE; QUIT")
+        server = self.play("AT 0; WAIT > ITEM 0 0 1 a; DONE 0; WAIT > nothing; > hangs up",
+                           "AT 0; WAIT > stops: NONE; QUIT")
         self.worker = self.kind(lambda job: None, server.port, pauses=Pauses(0.01, 0.02), record=self.path)
         self.assertEqual(self.worker.run(), Report(done=1))
         self.assert_told(GREETED, (POLL, ["ITEM 0 0 1 a"]), ("DONE 0", ["DONE 0"]), (POLL, []),

@@ -71,10 +71,12 @@ class LineTest(unittest.TestCase):
     def test_what_is_no_payload(self):
         """What a server would refuse is not sent, and no request is smuggled in."""
         text = "^a payload is 1 to 64 characters of printable ASCII"
-        wrongs = [(it, ValueError, text) for it in ("a\nCLEAR", "a\n", "a\r", "\r", "", "two words", "a" * 65, "é", "a\tb",
-                                                    "\x7f")]
-        wrongs += [(it, TypeError, f"^a payload is a str, not {type(it).__name__}$") for it in (None, 17, b"a", ["a"], 1.5)]
-        for payload, fault, text in wrongs:
+        texts = ("a\nCLEAR", "a\n", "a\r", "\r", "", "two words", "a" * 65, "é", "a\tb", "\x7f")
+        others = (None, 17, b"a", ["a"], 1.5)
+        for payload, fault, text in (
+            *((it, ValueError, text) for it in texts),
+            *((it, TypeError, f"^a payload is a str, not {type(it).__name__}$") for it in others),
+        ):
             for offer in OFFERS:
                 with self.assertRaisesRegex(fault, text):
                     offer(payload)
@@ -112,14 +114,14 @@ class RefusalTest(unittest.TestCase):
         for request, *lines in (
             *((it, "STOPPED") for it in (Request.poll(), Request.peek(), Request.drain(1), size)),  # none of them waits
             (size, "", " ", "size 1", "SIZE", "SIZE 1 2", "SIZE  1", " SIZE 1", "SIZE 1 ", "SIZE 1\r"),
-            (size, "SIZE -1", "SIZE +1", "SIZE 01", "SIZE x", "SIZE 1.0", "SIZE 1_0", "SIZE \xb2", f"SIZE {GREATEST + 1}",
-             "SIZE 000000000000000000000"),
+            (size, "SIZE -1", "SIZE +1", "SIZE 01", "SIZE x", "SIZE 1.0", "SIZE 1_0", "SIZE \xb2",
+             f"SIZE {GREATEST + 1}", "SIZE 000000000000000000000"),
             (size, "ERR", "ERR 6", "ERR 6 memory", "ERR 10 other", "ERR 6 full "),
             (Request.poll(), "HEAD 0 150 1 a", "NONE ", "OFFERED 0 150", "ITEM 0 150 1", "ITEM 0 150 1 a b"),
             (Request.peek(), "ITEM 0 150 1 a"),
             (Request.remove(0), "REMOVED", "REMOVED maybe", "REMOVED yes no"),
-            (take, "NONE", "ITEM 0 150 0 a", "ITEM 0 150 1001 a", "ITEM 0 150 1 ", "ITEM 0 150 1 a\tb", "ITEM 0 150 1 \xe9",
-             "ITEM 0 150 1 " + "a" * 65),
+            (take, "NONE", "ITEM 0 150 0 a", "ITEM 0 150 1001 a", "ITEM 0 150 1 ", "ITEM 0 150 1 a\tb",
+             "ITEM 0 150 1 \xe9", "ITEM 0 150 1 " + "a" * 65),
             (Request.done(2), "DONE 3", "DONE", "DEAD 2"),
             (Request.fail(2), "DEAD 3", "AGAIN 1", "DONE 2"),
             (Request.greeting(), "NOW 0", "ERR 1", "HELLO", ""),

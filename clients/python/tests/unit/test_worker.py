@@ -37,7 +37,8 @@ class JobTest(WorkerCase):
              f"{GIVES_B}; {NO_MEMORY}; FAIL 1 > stops: ERR 7 memory; QUIT"),
             ("want of memory for a wait", Report(), {}, f"WAIT > ERR 7 memory; {LAST}"),
             ("a session that holds too many is left", Report(), {}, "WAIT > ERR 9 held; QUIT", LAST),
-            ("a server goes away between jobs", Report(done=1), {}, "WAIT > hangs up", "WAIT > hangs up", f"{A}; {LAST}"),
+            ("a server goes away between jobs", Report(done=1), {}, "WAIT > hangs up", "WAIT > hangs up",
+             f"{A}; {LAST}"),
             ("what the server made of a job is not heard, and no last failure is told", Report(unheard=2),
              {"on_dead": dead.append}, f"{GIVES_A}; DONE 0 > hangs up", f"{GIVES_B}; FAIL 1 > hangs up", LAST),
             ("a server goes away before it serves", Report(), {}, "AT 0 > hangs up", LAST),
@@ -158,7 +159,8 @@ class StopTest(WorkerCase):
     def test_while_it_runs(self):
         self.assert_each_reports(
             ("before the session is served nothing is fetched", Report(), {}, "AT 0 > stops: nothing"),
-            ("a job that is given meanwhile is settled", Report(done=1), {}, "WAIT > stops: ITEM 0 0 1 a; DONE 0; QUIT"),
+            ("a job that is given meanwhile is settled", Report(done=1), {},
+             "WAIT > stops: ITEM 0 0 1 a; DONE 0; QUIT"),
             ("in the handler", Report(done=1), {"handler": lambda _: self.worker.stop()}, f"{A}; QUIT"),
         )
 
