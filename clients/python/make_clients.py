@@ -10,7 +10,7 @@ import os
 SOURCE = os.path.join(os.path.dirname(os.path.realpath(__file__)), "src", "rb_broker_client")
 MADE = os.path.join(SOURCE, "clients.py")
 
-HEAD = '''"""The clients. Made by make_clients.py from their base classes and from `Request`: change those, and run it."""
+HEAD = '''"""The clients. Made by make_clients.py from their base classes and from `Request`: change those."""
 from __future__ import annotations
 
 from collections.abc import Iterable

@@ -1,4 +1,4 @@
-"""The clients. Made by make_clients.py from their base classes and from `Request`: change those, and run it."""
+"""The clients. Made by make_clients.py from their base classes and from `Request`: change those."""
 from __future__ import annotations
 
 from collections.abc import Iterable
