@@ -4,7 +4,7 @@ from __future__ import annotations
 import socket
 import ssl
 from collections.abc import Callable, Iterable
-from contextlib import ExitStack, suppress
+from contextlib import ExitStack
 from selectors import EVENT_READ, EVENT_WRITE
 from typing import Any, ClassVar, Union
 
@@ -91,9 +91,11 @@ class Session:
         """Sends requests in one piece, as far as the connection takes it now. The rest is sent with what follows."""
         self._unsent += self.dialogue.ask(*questions)
         self._demand()
-        with suppress(*_NOT_NOW):
+        try:
             while self._unsent:
                 del self._unsent[:self._socket.send(self._unsent)]
+        except _NOT_NOW:
+            pass
 
     def received(self) -> list[Any]:
         """The answers to what has come, each refusal in its place."""

@@ -64,7 +64,8 @@ class Dialogue:
 
     def _read(self) -> None:
         while self._lines and self._due and not self._is_unclear:
-            (request, sent), lines = self._due[0], iter(self._lines)
+            request, sent = self._due[0]
+            lines = iter(self._lines)
             try:
                 answer = request.read(lines)
             except StopIteration:
@@ -73,6 +74,8 @@ class Dialogue:
                 answer = instead
                 self._is_unclear = isinstance(instead, UnknownReplyError)
             self._due.popleft()
-            reply = [self._lines.popleft() for _ in range(len(self._lines) - length_hint(lines))]
+            reply = []
+            for _ in range(len(self._lines) - length_hint(lines)):
+                reply.append(self._lines.popleft())
             self._note(sent, self._came, request.line, reply)
             self.answers.append(answer)

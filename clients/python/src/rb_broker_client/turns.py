@@ -102,7 +102,7 @@ class LoopTurns:
     is_apart = True
 
     def __init__(self, is_apart: bool) -> None:
-        self._tasks: set[asyncio.Task[object]] = set()
+        self._tasks: set[Any] = set()
         self._loop: asyncio.AbstractEventLoop | None = None  # the one in which it runs
         self._is_rung = self.has_started = False  # whether a turn is due in it, and whether this one has started tasks
         self._timer: asyncio.TimerHandle | None = None
@@ -177,7 +177,7 @@ class LoopTurns:
         return started.cancel
 
     def ended(self) -> None:
-        self._tasks -= {asyncio.current_task()}
+        self._tasks.discard(asyncio.current_task())
         self._ring()
 
     async def close(self) -> None:
