@@ -1,108 +1,145 @@
 package rbbroker.client;
 
-import java.io.BufferedInputStream;
 import java.io.Closeable;
 import java.io.EOFException;
 import java.io.IOException;
-import java.io.InputStream;
 import java.net.ConnectException;
 import java.net.InetSocketAddress;
 import java.net.ProtocolException;
-import java.net.Socket;
+import java.net.SocketAddress;
 import java.net.SocketTimeoutException;
+import java.net.StandardSocketOptions;
+import java.net.UnknownHostException;
+import java.nio.ByteBuffer;
+import java.nio.channels.ReadableByteChannel;
+import java.nio.channels.SelectableChannel;
+import java.nio.channels.SelectionKey;
+import java.nio.channels.Selector;
+import java.nio.channels.SocketChannel;
 import java.nio.charset.StandardCharsets;
-import java.util.ArrayDeque;
-import java.util.Deque;
-import java.util.concurrent.TimeUnit;
-import java.util.concurrent.locks.LockSupport;
-import javax.net.ssl.SSLException;
-import javax.net.ssl.SSLParameters;
-import javax.net.ssl.SSLSocket;
 
 /**
- * A connection by TCP, or by TLS over it, that sends text and receives lines. One thread at a time may use it.
+ * A TCP connection that sends text and receives lines. One thread at a time may use it.
  *
- * <p>A thread of its own connects, sends the first text and reads. So an interrupt breaks no wait off here and closes
- * nothing, and no reply is lost: what waits goes on, and the thread is interrupted afterwards. Deadlines are those of
- * {@link System#nanoTime}.
+ * <p>An interrupt breaks no wait off here and closes nothing, so that no reply is lost: what waits goes on, and the
+ * thread is interrupted afterwards. Deadlines are those of {@link System#nanoTime}.
  */
-final class Connection implements Closeable {
+class Connection implements Closeable {
     /** Bytes of the longest reply line, its line feed included. */
     private static final int LONGEST_REPLY = 117;
-    /** How many lines are kept unread, which is more than a reply has. */
-    private static final int MOST_LINES = 1_000;
-    /** How long the other side may still refuse a certificate once both agreed. What is sent then may hide why. */
-    private static final long REFUSAL = TimeUnit.MILLISECONDS.toNanos(20);
-    /** How long a thread whose sending failed waits for the reason, which may be on its way. */
-    private static final long REASON = TimeUnit.SECONDS.toNanos(1);
 
-    private final Options options;
-    private final Socket tcp = new Socket();
-    /** What requests are sent by, once it is connected. */
-    private volatile Socket socket;
-    /** When the reply to what was sent has to be here. */
+    final Options options;
+    private final ByteBuffer bytes = ByteBuffer.allocate(8_192);
+    /** What was received and not read yet. Each byte is a character. */
+    private final StringBuilder received = new StringBuilder();
+    private SocketChannel channel;
+    private ReadableByteChannel source;
+    private Selector selector;
+    private SelectionKey key;
+    /** When what was sent has to be on its way, and its reply to be here. */
     private long deadline;
-    /** Lines that were received and not read yet. */
-    private final Deque<String> lines = new ArrayDeque<>();
-    /** Why nothing more comes. */
-    private IOException fault;
 
     Connection(Options options) {
         this.options = options;
     }
 
-    /** Begins to connect, and then sends this. */
-    void begin(String text) {
-        Thread reader = new Thread(() -> read(text), "rbbroker-" + options.port());
-        reader.setDaemon(true);
-        reader.start();
+    /** Begins to connect. */
+    final void begin() throws IOException {
+        InetSocketAddress address = new InetSocketAddress(options.host(), options.port());
+        if (address.isUnresolved()) {
+            throw new UnknownHostException(options.host());
+        }
+        connect(address);
     }
 
-    boolean isConnected() {
-        return socket != null;
+    void connect(InetSocketAddress address) throws IOException {
+        channel = SocketChannel.open();
+        receiveFrom(channel);
+        channel.connect(address);
+    }
+
+    /** Waits until it is connected. Gives whether it is. */
+    boolean awaitConnected(long nanos) throws IOException {
+        if (!channel.isConnected() && !await(SelectionKey.OP_CONNECT, System.nanoTime() + nanos)) {
+            return false;
+        }
+        channel.finishConnect();
+        requireOther(channel.getLocalAddress(), channel.getRemoteAddress());
+        channel.setOption(StandardSocketOptions.TCP_NODELAY, true);
+        return true;
+    }
+
+    /**
+     * If nobody listens, the system may give this side the very port that it looks for, so that it finds itself. To
+     * stay connected would keep the port from the next server.
+     */
+    static void requireOther(SocketAddress here, SocketAddress there) throws ConnectException {
+        if (here.equals(there)) {
+            throw new ConnectException("Connection refused");
+        }
+    }
+
+    final <C extends SelectableChannel & ReadableByteChannel> void receiveFrom(C readable) throws IOException {
+        source = readable;
+        readable.configureBlocking(false);
+        selector = Selector.open();
+        key = readable.register(selector, 0);
     }
 
     /** Sends requests, whose replies have to be here by a deadline. They are small beside a connection's buffers. */
-    void send(String text, long until) throws IOException {
+    final void send(String text, long until) throws IOException {
         deadline = until;
-        try {
-            write(text);
-        } catch (IOException broken) {
-            awaitLine(REASON);
-            throw isLost() ? fault : broken;
+        write(ByteBuffer.wrap(text.getBytes(StandardCharsets.US_ASCII)));
+    }
+
+    void write(ByteBuffer text) throws IOException {
+        while (text.hasRemaining()) {
+            if (channel.write(text) == 0 && !await(SelectionKey.OP_WRITE, deadline)) {
+                throw new SocketTimeoutException("the server reads no more");
+            }
         }
     }
 
-    /** Waits until a line is here, or none comes any more. Returns false if neither is so in time. */
-    synchronized boolean awaitLine(long nanos) {
-        long until = System.nanoTime() + nanos;
-        for (long left = nanos; lines.isEmpty() && fault == null && left > 0; left = until - System.nanoTime()) {
-            awaitChange(this, left);
-        }
-        return !lines.isEmpty() || fault != null;
+    /** Waits until something is received. Gives whether anything is. */
+    final boolean awaitInput(long nanos) throws IOException {
+        return received.length() > 0 || await(SelectionKey.OP_READ, System.nanoTime() + nanos);
     }
 
     /** The next line, without its line feed. */
-    synchronized String receiveLine() throws IOException {
-        if (!awaitLine(deadline - System.nanoTime())) {
-            throw new SocketTimeoutException("the server does not answer");
+    final String receiveLine() throws IOException {
+        int end = received.indexOf("\n");
+        while (end < 0) {
+            if (received.length() >= LONGEST_REPLY) {
+                throw new ProtocolException(received.substring(0, LONGEST_REPLY) + "..");
+            }
+            if (!receive() && !await(SelectionKey.OP_READ, deadline)) {
+                throw new SocketTimeoutException("the server does not answer");
+            }
+            end = received.indexOf("\n");
         }
-        if (lines.isEmpty()) {
-            throw fault;
-        }
-        notifyAll();
-        return lines.remove();
+        String line = received.substring(0, end);
+        received.delete(0, end + 1);
+        return line;
     }
 
     /** Whether the connection is known to have ended. If not, it may have ended all the same. */
-    synchronized boolean isLost() {
-        return fault != null;
+    final boolean isLost() {
+        try {
+            receive();
+            return false;
+        } catch (IOException ended) {
+            return true;
+        }
     }
 
     @Override
     public void close() {
-        end(new EOFException("the connection was closed"));
-        for (Closeable it : new Closeable[] {socket, tcp}) {
+        closeAll(source, selector);
+    }
+
+    /** Closes these, of which each may be null. */
+    static void closeAll(Closeable... open) {
+        for (Closeable it : open) {
             try (it) {
                 continue;
             } catch (IOException ignored) {
@@ -111,91 +148,42 @@ final class Connection implements Closeable {
         }
     }
 
-    /** Waits for a change of what this thread has locked, but no longer than this. An interrupt is put off. */
-    static void awaitChange(Object locked, long nanos) {
-        boolean wasInterrupted = Thread.interrupted();
+    /** Why nothing more comes. */
+    IOException end() {
+        return new EOFException("the server closed the connection");
+    }
+
+    /** Keeps what has come. Gives whether anything has. */
+    private boolean receive() throws IOException {
+        int count = source.read(bytes.clear());
+        if (count < 0) {
+            throw end();
+        }
+        if (count > 0) {
+            received.append(new String(bytes.array(), 0, count, StandardCharsets.ISO_8859_1));
+        }
+        return count > 0;
+    }
+
+    /** Waits for the channel. Gives whether it is ready, or the time came first. */
+    final boolean await(int operation, long until) throws IOException {
+        boolean wasInterrupted = false;
+        key.interestOps(operation);
         try {
-            TimeUnit.NANOSECONDS.timedWait(locked, nanos);
-        } catch (InterruptedException interrupt) {
-            wasInterrupted = true;
-        }
-        if (wasInterrupted) {
-            Thread.currentThread().interrupt();
-        }
-    }
-
-    private void write(String text) throws IOException {
-        socket.getOutputStream().write(text.getBytes(StandardCharsets.US_ASCII));
-    }
-
-    private synchronized void end(IOException why) {
-        fault = fault == null ? why : fault;
-        notifyAll();
-    }
-
-    private void read(String text) {
-        try (tcp) {
-            InputStream input = new BufferedInputStream(connect().getInputStream());
-            try {
-                write(text);
-            } catch (IOException broken) {
-                // what can still be read tells why
+            while (true) {
+                long left = until - System.nanoTime();
+                int ready = selector.select(Math.max(0, left) / 1_000_000 + 1);
+                selector.selectedKeys().clear();
+                // An interrupt ends each select at once. It is put off until this wait is over.
+                wasInterrupted |= Thread.interrupted();
+                if (ready > 0 || left <= 0) {
+                    return ready > 0;
+                }
             }
-            while (!isLost()) {
-                keep(readLine(input));
-            }
-        } catch (IOException broken) {
-            end(broken);
-        } catch (RuntimeException broken) {
-            end(new SSLException(broken));
-        }
-    }
-
-    private synchronized void keep(String line) {
-        while (lines.size() >= MOST_LINES && fault == null) {
-            awaitChange(this, REASON);
-        }
-        lines.add(line);
-        notifyAll();
-    }
-
-    private static String readLine(InputStream input) throws IOException {
-        StringBuilder line = new StringBuilder();
-        for (int it = input.read(); it != '\n'; it = input.read()) {
-            if (it < 0) {
-                throw new EOFException("the server closed the connection");
-            }
-            line.append((char) it);
-            if (line.length() == LONGEST_REPLY) {
-                throw new ProtocolException(line + "..");
+        } finally {
+            if (wasInterrupted) {
+                Thread.currentThread().interrupt();
             }
         }
-        return line.toString();
-    }
-
-    private Socket connect() throws IOException {
-        int patience = (int) Math.min(Integer.MAX_VALUE, TimeUnit.NANOSECONDS.toMillis(options.patience()) + 1);
-        InetSocketAddress address = new InetSocketAddress(options.host(), options.port());
-        tcp.connect(address, patience);
-        if (tcp.getLocalSocketAddress().equals(address)) {
-            // Nobody listens, and the system gave this side the very port that it looks for, so that it found itself.
-            // To stay connected would keep the port from the next server.
-            throw new ConnectException("Connection refused");
-        }
-        tcp.setTcpNoDelay(true);
-        socket = options.tls() == null ? tcp : agree(patience);
-        return socket;
-    }
-
-    private Socket agree(int patience) throws IOException {
-        tcp.setSoTimeout(patience);
-        SSLSocket tls = (SSLSocket) options.tls().createSocket(tcp, options.host(), options.port(), true);
-        SSLParameters parameters = tls.getSSLParameters();
-        parameters.setEndpointIdentificationAlgorithm("HTTPS"); // the other side must be whom this one looks for
-        tls.setSSLParameters(parameters);
-        tls.startHandshake();
-        LockSupport.parkNanos(REFUSAL);
-        tcp.setSoTimeout(0);
-        return tls;
     }
 }

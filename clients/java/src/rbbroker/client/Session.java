@@ -72,7 +72,7 @@ final class Session {
     /** A session that is to be opened. */
     Session(Options options) {
         this.options = options;
-        connection = new Connection(options);
+        connection = options.tls() == null ? new Connection(options) : new TlsConnection(options);
         longest = options.longestSession();
     }
 
@@ -171,7 +171,7 @@ final class Session {
         return isClosed;
     }
 
-    /** It lasts a turn at most, since others may wait for a worker of the server. Returns whether that is less. */
+    /** It lasts no longer than a turn, since others may wait for a worker of the server. Gives whether that is less. */
     boolean makeWay() {
         boolean isLess = longest > LONGEST_TURN;
         longest = Math.min(longest, LONGEST_TURN);
@@ -196,10 +196,13 @@ final class Session {
     private void awaitService(BooleanSupplier isWanted) throws IOException, InterruptedException {
         long sent = System.nanoTime();
         long deadline = sent + options.patience();
-        connection.begin(Request.GREETING.line() + "\n");
-        while (!connection.awaitLine(LOOK_AFTER)) {
-            goOn(deadline, isWanted, connection.isConnected()
-                ? "all its workers are busy (waited " + secondsSince(sent) + ")" : "it does not accept the connection");
+        connection.begin();
+        while (!connection.awaitConnected(LOOK_AFTER)) {
+            goOn(deadline, isWanted, "it does not accept the connection");
+        }
+        connection.send(Request.GREETING.line() + "\n", deadline);
+        while (!connection.awaitInput(LOOK_AFTER)) {
+            goOn(deadline, isWanted, "all its workers are busy (waited " + secondsSince(sent) + ")");
         }
         Request.GREETING.receive(connection);
         long waited = System.nanoTime() - sent;

@@ -29,8 +29,8 @@ final class SessionPool {
     private static final System.Logger LOG = System.getLogger("rbbroker.client");
     /** How long a session that is to end may be kept by jobs before that is worth a line in the log. */
     private static final long KEPT_LONG = TimeUnit.MINUTES.toNanos(1);
-    /** After this a thread looks again, as a session may take jobs again, or a server serve another. */
-    private static final long LOOK_AGAIN = TimeUnit.MILLISECONDS.toNanos(500);
+    /** Milliseconds after which a thread looks again, as a session may take jobs again, or a server serve another. */
+    private static final long LOOK_AGAIN = 500;
 
     private final Options options;
     private final Runs runs;
@@ -66,7 +66,7 @@ final class SessionPool {
         }
     }
 
-    /** Lends a session, or returns null if none can be had in this time. An interrupt ends a call that waits. */
+    /** Lends a session for a use, or gives null if none can be had for so long. An interrupt ends a call that waits. */
     Session lend(Use use, long nanos) throws InterruptedException {
         long deadline = System.nanoTime() + nanos;
         while (true) {
@@ -141,7 +141,7 @@ final class SessionPool {
         }
     }
 
-    /** Lends a session that is served or to be opened, or returns null if there is none until then. */
+    /** Lends a session that is served or to be opened, or gives null if there is none until then. */
     private synchronized Session find(Use use, long deadline) throws InterruptedException {
         while (true) {
             if (isClosed) {
@@ -159,17 +159,30 @@ final class SessionPool {
                 TimeUnit.NANOSECONDS.timedWait(this, left);
             } else {
                 calling++;
-                Connection.awaitChange(this, LOOK_AGAIN);
+                awaitChange();
                 calling--;
             }
         }
     }
 
-    /** Waits until nobody uses this session. Who waits for it comes before others. Returns whether it goes on. */
+    /** Waits for a change, but not for long. An interrupt is put off. */
+    private void awaitChange() {
+        boolean wasInterrupted = Thread.interrupted();
+        try {
+            wait(LOOK_AGAIN);
+        } catch (InterruptedException interrupt) {
+            wasInterrupted = true;
+        }
+        if (wasInterrupted) {
+            Thread.currentThread().interrupt();
+        }
+    }
+
+    /** Waits until nobody uses this session. Who waits for it comes before others. Gives whether it goes on. */
     private boolean await(Session session) {
         session.answering++;
         while (session.use != null && !session.isClosed) {
-            Connection.awaitChange(this, LOOK_AGAIN);
+            awaitChange();
         }
         session.answering--;
         forgetLost(it -> it == session);
@@ -235,7 +248,7 @@ final class SessionPool {
         return sessions.stream().anyMatch(Session::isServed);
     }
 
-    /** Opens a session. Returns whether it is served: if not, others are, or the queue was closed meanwhile. */
+    /** Opens a session. Gives whether it is served: if not, others are, or the queue was closed meanwhile. */
     private boolean open(Session session) throws InterruptedException {
         long begun = System.nanoTime();
         try {
@@ -258,7 +271,7 @@ final class SessionPool {
         return !isClosed && (!hasServed() || System.nanoTime() - begun < options.longestWait());
     }
 
-    /** The server serves no further session. Returns whether there are others, which have to do for a while. */
+    /** The server serves no further session. Gives whether there are others, which have to do for a while. */
     private synchronized boolean makesDo() {
         if (isClosed || !hasServed()) {
             return isClosed;

@@ -412,7 +412,6 @@ public class ServedTest extends QueueTest {
         offer(queue, 2);
         Job job = queue.take();
         server.kill();
-        Thread.sleep(500); // until then a thread has read the end of the connection
         ServerLostException fault = assertThrows(ServerLostException.class, job::done);
         assertFalse(fault.getMessage(), fault.isInDoubt());
         serveNext("--sessions", 2);
