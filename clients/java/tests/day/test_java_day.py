@@ -25,6 +25,7 @@ class JavaWorker:
     """A HostileWorker, with notes of its own."""
 
     handler = "work"
+    may_end = True  # it ends with its standard input, whether it has taken a job or not
 
     def __init__(self, port, notes):
         self.record = notes

@@ -43,8 +43,13 @@ class WorkerProcess:
 
     @property
     def has_begun(self):
-        """Whether it has asked something. Before that a signal might end it as any other process."""
+        """Whether it has asked something."""
         return os.path.getsize(self.record) > 0
+
+    @property
+    def may_end(self):
+        """Whether a signal ends it in good order. Before it has asked something, one might end it as any other process."""
+        return self.has_begun
 
     def kill(self):
         self._process.kill()
@@ -90,7 +95,7 @@ class HostileDayTest(ServedTest):
         self.is_over.set()
         killer.join(PATIENCE)
         self.assertEqual(self.faults, [])
-        self.wait_until(lambda: all(it.has_begun for it in self.workers), LONGEST)
+        self.wait_until(lambda: all(it.may_end for it in self.workers), LONGEST)
         self.assertEqual([it.stop() for it in self.workers], [0] * len(self.handlers))
         sessions = 0
         for it in nuisances:
