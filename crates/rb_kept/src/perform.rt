@@ -3,7 +3,7 @@ ghost use Rattle.rb_queue.specs.Opening.{ids_of};
 ghost use Rattle.rb_kept.specs.Performing.{Performs};
 
 use rb_delayed::{Delayed, Element, add_capped};
-use rb_queue::{Act, Ask, DelayQueue, Draft, Ids, Reply};
+use rb_queue::{Act, Ask, DelayQueue, Ids, Reply};
 use rb_timer::Timer;
 use std::alloc::Global;
 
@@ -37,7 +37,18 @@ pub(crate) fn perform<T: Timer>(
     ensures { Performs queue.old at ask result queue.new }
 {
     match ask {
-        Ask::Offer(draft) => offer(queue, draft),
+        Ask::Offer(draft) => {
+            let Ok(element) = queue.offer(draft) else {
+                return Performed::NoMemory;
+            };
+            // The event keeps one copy, and the caller gets the other. The copy has a name of its own,
+            // because an element that is written twice in one value counts as moved.
+            let recorded = element;
+            Performed::Done(Answer {
+                act: Act::Offer(recorded),
+                reply: Reply::Offered(element),
+            })
+        }
         Ask::Poll => poll(queue, at),
         Ask::Take => take(queue, at),
         Ask::PollFor { start, timeout } => poll_for(queue, at, start, timeout),
@@ -47,22 +58,6 @@ pub(crate) fn perform<T: Timer>(
         Ask::Clear => clear(queue),
         Ask::Size => size(queue),
     }
-}
-
-fn offer<T: Timer>(queue: &mut DelayQueue<T>, draft: Draft) -> Performed
-    requires { queue.old.next_id < u64.MAX }
-    ensures { (now : ℕ) → Performs queue.old now (Ask.Offer draft) result queue.new }
-{
-    let Ok(element) = queue.offer(draft) else {
-        return Performed::NoMemory;
-    };
-    // The event keeps one copy, and the caller gets the other. The copy has a name of its own,
-    // because an element that is written twice in one value counts as moved.
-    let recorded = element;
-    Performed::Done(Answer {
-        act: Act::Offer(recorded),
-        reply: Reply::Offered(element),
-    })
 }
 
 fn poll<T: Timer>(queue: &mut DelayQueue<T>, at: u64) -> Performed
