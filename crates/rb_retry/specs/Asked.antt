@@ -1,5 +1,6 @@
 -- What an ask may get at a desk.
-use Rattle.std.specs.Prelude.{◌≡◌, ℕ, ◌≤◌, List, [], ◌∷◌, ◌++◌, length, Some}
+use Rattle.std.specs.Prelude.{◌≡◌, ℕ, ◌≤◌, List, [], ◌∷◌, ◌++◌, length, Some, Result, Ok, Err}
+use Rattle.rb_delayed.specs.declared.element.Element.{Element}
 use Rattle.rb_queue.specs.Draft.{IsDrafted}
 use Rattle.rb_queue.specs.declared.ask.Ask.{Ask}
 use Rattle.rb_queue.specs.declared.ask.Ask.TheVariants.{Offer, Poll, Take, PollFor, Peek, Remove, Drain, Clear, Size}
@@ -7,7 +8,9 @@ use Rattle.rb_queue.specs.declared.event.Event.{Event}
 use Rattle.rb_queue.specs.declared.reply.Reply.{Reply}
 use Rattle.rb_queue.specs.declared.reply.Reply.TheVariants as replies
 use Rattle.rb_kept.specs.Tries.{IsActOf, TakesMemory}
+use Rattle.rb_kept.specs.declared.fault.CallFault.{CallFault}
 use Rattle.rb_retry.specs.Made.{Made}
+use Rattle.rb_retry.specs.KeptSteps.{fault_of}
 use Rattle.rb_retry.specs.declared.desk_fault.DeskFault.{DeskFault}
 use Rattle.rb_retry.specs.declared.desk_fault.DeskFault.TheVariants.{Full, Memory, Stopped}
 
@@ -45,6 +48,11 @@ IsReplyTo (Drain most) (replies.Drained items) = length items ≤ most
 IsReplyTo Clear replies.Cleared = Unit {0}
 IsReplyTo Size (replies.Size count) = Unit {0}
 IsReplyTo _ _ = ⊥
+
+-- the desk's answer to an offer that returned this: the element
+abbrev pub offer_answer : Result Element CallFault → Result Reply DeskFault
+offer_answer (Ok element) = Ok (replies.Offered element)
+offer_answer (Err fault) = Err (fault_of fault)
 
 -- Exactly one more event was made, which is of the ask and has this reply.
 pub record Makes (gives : ℕ → Type 0) (handed : ℕ) (ask : Ask) (answer : Reply) (old new : List Made) : Type 0 where

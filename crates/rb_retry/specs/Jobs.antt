@@ -4,10 +4,10 @@ use Rattle.rb_delayed.specs.declared.element.Element.{Element}
 use Rattle.rb_queue.specs.declared.ask.Ask.TheVariants.{Offer}
 use Rattle.rb_queue.specs.declared.draft.Draft.{Draft}
 use Rattle.rb_queue.specs.declared.reply.Reply.{Reply}
-use Rattle.rb_queue.specs.declared.reply.Reply.TheVariants.{Offered, Item, Nothing}
+use Rattle.rb_queue.specs.declared.reply.Reply.TheVariants.{Item, Nothing}
 use Rattle.rb_kept.specs.declared.fault.CallFault.{CallFault}
 use Rattle.rb_retry.specs.Retry.{IsRetry}
-use Rattle.rb_retry.specs.KeptSteps.{fault_of}
+pub use Rattle.rb_retry.specs.Asked.{offer_answer}
 use Rattle.rb_retry.specs.DeskRules.{DeskRules}
 use Rattle.rb_retry.specs.declared.desk_fault.DeskFault.{DeskFault}
 use Rattle.rb_retry.specs.declared.verdict.Verdict.{Verdict}
@@ -23,11 +23,6 @@ answer_with (Err fault) = Err fault
 abbrev pub answer_with_one : Result Element DeskFault → Result Reply DeskFault
 answer_with_one (Ok element) = Ok (Item element)
 answer_with_one (Err fault) = Err fault
-
--- the desk's answer to an offer that returned this: the element
-abbrev pub offer_answer : Result Element CallFault → Result Reply DeskFault
-offer_answer (Ok element) = Ok (Offered element)
-offer_answer (Err fault) = Err (fault_of fault)
 
 module _ {S : Type 0} (rules : DeskRules S) where
   -- A job of this element fails at this moment. Its next attempt is offered, at this very moment; or it has

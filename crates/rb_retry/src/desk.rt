@@ -1,13 +1,16 @@
 ghost use Rattle.std.specs.Prelude.{◌≡◌, ℕ, ◌≤◌, List, length, Option, Result, Ok, Err};
 ghost use Rattle.rb_queue.specs.declared.ask.Ask.{Ask};
+ghost use Rattle.rb_queue.specs.declared.ask.Ask.TheVariants as asks;
 ghost use Rattle.rb_queue.specs.declared.reply.Reply.{Reply};
 ghost use Rattle.rb_kept.specs.declared.kept.TheConstants.{MOST_CALLS};
 ghost use Rattle.rb_retry.specs.Made.{Made, GivesOnce};
-ghost use Rattle.rb_retry.specs.Asked.{Makes, MayGet};
+ghost use Rattle.rb_retry.specs.Asked.{Makes, MayGet, offer_answer};
 ghost use Rattle.rb_retry.specs.declared.desk_fault.DeskFault.{DeskFault};
 
 use crate::desk_fault::DeskFault;
-use rb_queue::{Ask, Reply};
+use rb_delayed::Element;
+use rb_kept::CallFault;
+use rb_queue::{Ask, Draft, Reply};
 
 /// A caller's way to a delay queue, with a clock of its own.
 ///
@@ -56,6 +59,15 @@ pub trait Desk {
     /// and `Stopped`, only for a take or a timed poll.
     fn call(&mut self, asked: u64, ask: Ask) -> Result<Reply, DeskFault>
         ensures step { Steps (state self.old) asked ask result (state self.new) }
+        ensures few { length (mine (state self.new)) ≤ MOST_CALLS };
+
+    /// Offers an element at the moment `asked`, in nanoseconds: the call of `Ask::Offer`, answered with
+    /// the element.
+    ///
+    /// The faults are `Full`, if there is no room for an event, and `Memory`, if there is not enough for
+    /// the element.
+    fn offer(&mut self, asked: u64, draft: Draft) -> Result<Element, CallFault>
+        ensures step { Steps (state self.old) asked (asks.Offer draft) (offer_answer result) (state self.new) }
         ensures few { length (mine (state self.new)) ≤ MOST_CALLS };
 
     /// A call that gets a reply makes exactly one event, which has this reply.

@@ -1,16 +1,13 @@
 ghost use Rattle.std.specs.Prelude.{◌≡◌};
-ghost use Rattle.rb_queue.specs.declared.ask.Ask.TheVariants as asks;
 ghost use Rattle.rb_retry.specs.DeskRules.{desk_rules};
-ghost use Rattle.rb_retry.specs.Jobs.{FailsTo, offer_answer};
+ghost use Rattle.rb_retry.specs.Jobs.{FailsTo};
 
 use crate::desk::Desk;
-use crate::desk_fault::DeskFault;
 use crate::job::Job;
 use crate::policy::Policy;
 use crate::verdict::Verdict;
 use rb_delayed::Element;
 use rb_kept::CallFault;
-use rb_queue::{Ask, Draft, Reply};
 
 /// Lets the job fail at `now`, in nanoseconds, and offers the policy's next attempt at that moment.
 ///
@@ -26,24 +23,11 @@ pub fn fail<D: Desk>(
     ensures fails { FailsTo (desk_rules D.Desk policy.now) job now (D.state desk.old) result (D.state desk.new) }
 {
     match policy.retry_of(job.element(), now) {
-        Some(draft) => match offer(desk, draft, now) {
+        Some(draft) => match desk.offer(now, draft) {
             Ok(again) => Ok(Verdict::Again(again)),
             Err(fault) => Err((job, fault)),
         },
         None => Ok(Verdict::Dead(done(job))),
-    }
-}
-
-// Offers a draft. The desk answers with the element, or that there is no room or no memory for it.
-fn offer<D: Desk>(desk: &mut D, draft: Draft, now: u64) -> Result<Element, CallFault>
-    ensures step { D.Steps (D.state desk.old) now (asks.Offer draft) (offer_answer result) (D.state desk.new) }
-{
-    let answer = desk.call(now, Ask::Offer(draft));
-    match &answer {
-        Ok(Reply::Offered(element)) => Ok(*element),
-        Err(DeskFault::Full) => Err(CallFault::Full),
-        Err(DeskFault::Memory) => Err(CallFault::Memory),
-        _ => unreachable!(),
     }
 }
 

@@ -6,9 +6,10 @@ ghost use Rattle.rb_retry.specs.KeptLaws.{kept_keeps_name, kept_sets_no_name};
 
 use crate::desk::Desk;
 use crate::desk_fault::DeskFault;
-use rb_kept::{Kept, Outcome, Step};
+use rb_delayed::Element;
+use rb_kept::{CallFault, Kept, Outcome, Step};
 use rb_ledger::Tally;
-use rb_queue::{Ask, Reply};
+use rb_queue::{Ask, Draft, Reply};
 use rb_timer::Timer;
 
 /// The only seat of a kept queue that is not shared.
@@ -88,9 +89,22 @@ impl<'a, T: Timer> Desk for KeptDesk<'a, T> {
         Some(self.moment)
     }
 
+    #[tactic(auto, using(crate::proofs::MadeCounts::made_few))]
     fn call(&mut self, asked: u64, ask: Ask) -> Result<Reply, DeskFault> {
         let asked = asked_at(self.moment, &ask, asked);
         answer_of(self.kept.act(self.tally, SEAT, asked, ask))
+    }
+
+    #[tactic(auto, using(crate::proofs::MadeCounts::made_few))]
+    fn offer(&mut self, asked: u64, draft: Draft) -> Result<Element, CallFault> {
+        let outcome = self.kept.act(self.tally, SEAT, asked, Ask::Offer(draft))?;
+        let Outcome::Done(reply) = outcome else {
+            unreachable!()
+        };
+        let Reply::Offered(element) = reply else {
+            unreachable!()
+        };
+        Ok(element)
     }
 
     ghost makes = { kept_makes };

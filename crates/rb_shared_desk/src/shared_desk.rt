@@ -6,10 +6,11 @@ ghost use Rattle.rb_shared_desk.specs.SharedSteps.{fault_of_wait, made_through, 
 ghost use Rattle.rb_shared_desk.specs.SharedLaws.{shared_makes, shared_gives_once, shared_refuses, shared_stays};
 ghost use Rattle.rb_shared_desk.specs.SharedLaws.{shared_keeps_name, shared_sets_no_name};
 
-use rb_blocking::{Bell, Clock, Gate, WaitFault, Waiter, call_and_ring, call_and_wait};
-use rb_kept::Outcome;
+use rb_blocking::{Bell, Clock, Gate, WaitFault, Waiter, call_and_wait, offer_ring};
+use rb_delayed::Element;
+use rb_kept::{CallFault, Outcome};
 use rb_lock::{Pass, Shared};
-use rb_queue::{Ask, Reply};
+use rb_queue::{Ask, Draft, Reply};
 use rb_retry::{Desk, DeskFault};
 use rb_timer::Timer;
 use std::snapshot::Snapshot;
@@ -134,21 +135,28 @@ impl<'a, T: Timer, C: Clock, G: Gate, R: Wait + time::Clock> Desk for SharedDesk
     fn call(&mut self, asked: u64, ask: Ask) -> Result<Reply, DeskFault> {
         // For the proof: the pass has seen a legal history.
         let _ = self.pass.name();
-        let (rt, shared, clock, bell) = (self.rt, self.shared, self.clock, self.bell);
-        if matches!(ask, Ask::Take | Ask::PollFor { .. }) {
-            let waiter = Waiter {
-                shared,
-                clock,
-                bell,
-            };
-            let waited = call_and_wait(rt, &waiter, self.pass, self.gate, &ask);
-            return waited.map_err(desk_fault_of);
+        match ask {
+            Ask::Take | Ask::PollFor { .. } => {
+                let waiter = Waiter {
+                    shared: self.shared,
+                    clock: self.clock,
+                    bell: self.bell,
+                };
+                call_and_wait(self.rt, &waiter, self.pass, self.gate, &ask).map_err(desk_fault_of)
+            }
+            Ask::Offer(draft) => Ok(Reply::Offered(self.offer(asked, draft)?)),
+            _ => match self.shared.call(self.rt, self.pass, asked, ask)? {
+                Outcome::Done(reply) => Ok(reply),
+                Outcome::Later(_) => unreachable!(),
+            },
         }
-        match call_and_ring(rt, shared, self.pass, asked, ask, bell) {
-            Ok(Outcome::Done(reply)) => Ok(reply),
-            Ok(Outcome::Later(_)) => unreachable!(),
-            Err(fault) => Err(DeskFault::from(fault)),
-        }
+    }
+
+    #[tactic(auto, using(crate::proofs::SharedEndings::call_endings))]
+    fn offer(&mut self, asked: u64, draft: Draft) -> Result<Element, CallFault> {
+        // For the proof: the pass has seen a legal history.
+        let _ = self.pass.name();
+        offer_ring(self.rt, self.shared, self.pass, asked, draft, self.bell)
     }
 
     ghost makes = { shared_makes (wait_rules C.Clock G.Gate) };

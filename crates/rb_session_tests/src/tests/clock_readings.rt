@@ -5,8 +5,9 @@ ghost use Rattle.std.specs.Prelude.{◌≡◌, ℕ};
 
 use crate::tests::devices::{NEVER, Sheet, expect_bytes, expect_end, expect_number};
 use rb_binary::BinaryTimer;
-use rb_kept::Kept;
-use rb_queue::{Ask, Reply};
+use rb_delayed::Element;
+use rb_kept::{CallFault, Kept};
+use rb_queue::{Ask, Draft, Reply};
 use rb_retry::{Desk, DeskFault, KeptDesk, Policy};
 use rb_session::{Ended, SessionFault, run_session};
 use rb_timer::Timer;
@@ -50,6 +51,10 @@ impl<'a, T: Timer> Desk for CountingDesk<'a, T> {
 
     fn call(&mut self, asked: u64, ask: Ask) -> Result<Reply, DeskFault> {
         self.desk.call(asked, ask)
+    }
+
+    fn offer(&mut self, asked: u64, draft: Draft) -> Result<Element, CallFault> {
+        self.desk.offer(asked, draft)
     }
 
     ghost makes = { kept_makes };
