@@ -27,7 +27,7 @@ pub use fault::WaitFault;
 pub use gate::Gate;
 pub use laws::bell_limits_have_their_values;
 pub use machine_clock::MachineClock;
-pub use offers::{call_and_ring, offer_ring};
+pub use offers::offer_ring;
 pub use turn_gate::TurnGate;
 pub use waiter::Waiter;
 pub use waits::{call_and_wait, poll_for, take};

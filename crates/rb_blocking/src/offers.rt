@@ -1,7 +1,6 @@
 ghost use Rattle.std.specs.Prelude.{◌≡◌};
 ghost use Rattle.rb_queue.specs.declared.ask.Ask.TheVariants.{Offer};
 ghost use Rattle.rb_lock.specs.Passes.{Learns};
-ghost use Rattle.rb_lock.specs.SharedCalls.{Answered};
 ghost use Rattle.rb_blocking.specs.WaitingCalls.{try_of};
 ghost use Rattle.rb_blocking.specs.RungOffers.{OfferAnswered};
 
@@ -32,46 +31,16 @@ pub fn offer_ring<T: Timer, R: Wait>(
     ensures learns { Learns pass.old pass.new }
     ensures offered { OfferAnswered pass.old pass.new (try_of pass.old asked (Offer draft)) result }
 {
-    let outcome = call_and_ring(rt, shared, pass, asked, Ask::Offer(draft), bell)?;
+    let expiry = draft.expiry;
+    let outcome = shared.call(rt, pass, asked, Ask::Offer(draft))?;
     let Outcome::Done(reply) = outcome else {
         unreachable!()
     };
     let Reply::Offered(element) = reply else {
         unreachable!()
     };
+    // What has expired by now can be taken at once.
+    let due = if expiry <= asked { 0 } else { expiry };
+    bell.announce(rt, due);
     Ok(element)
-}
-
-/// Makes one call like `Shared::call`, and after an offer rings the bell like `offer_ring`. It waits while
-/// another pass calls. A take or a timed poll is tried only once: it may end as `Later`.
-pub fn call_and_ring<T: Timer, R: Wait>(
-    rt: &R,
-    shared: &Shared<T>,
-    pass: &mut Pass<T>,
-    asked: u64,
-    ask: Ask,
-    bell: &Bell,
-) -> Result<Outcome, CallFault>
-    requires pass { pass.old.table ≡ shared.now }
-    ensures learns { Learns pass.old pass.new }
-    ensures answered { Answered pass.old pass.new (try_of pass.old asked ask) result }
-{
-    let answer = shared.call(rt, pass, asked, ask);
-    if answer.is_ok() {
-        ring_for(rt, bell, &ask, asked);
-    }
-    answer
-}
-
-// Rings for the element of an offer that was made at the moment `asked`. If the element has expired by then, it can
-// be taken at once.
-fn ring_for<R: Wait>(rt: &R, bell: &Bell, ask: &Ask, asked: u64) {
-    if let Ask::Offer(draft) = ask {
-        let due = if draft.expiry <= asked {
-            0
-        } else {
-            draft.expiry
-        };
-        bell.announce(rt, due);
-    }
 }
