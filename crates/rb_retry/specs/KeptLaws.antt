@@ -1,7 +1,7 @@
 -- An answered try of a kept queue is one more event with its reply, and a refused one is none. No
 -- public clause cites this module.
-use Rattle.std.proofs.Common.{◌≡◌, ℕ, ◌≤◌, List, [], ◌∷◌, ◌++◌, ap, ap₂, sym, subst}
-use Rattle.std.proofs.Common.{◌∙◌, Option, Some, Result, Ok, Err, length, take, drop}
+use Rattle.std.proofs.Common.{◌≡◌, ℕ, ◌≤◌, List, [], ◌∷◌, ◌++◌, ap, ap₂, subst}
+use Rattle.std.proofs.Common.{◌∙◌, Option, Result, Ok, Err, length, take, drop}
 use Rattle.std.proofs.lemmas.List.{take-append-drop, take-append-le, drop-append-le}
 use Rattle.rb_queue.specs.History.{IsLegal}
 use Rattle.rb_queue.specs.Replies.{reply_of}
@@ -12,12 +12,13 @@ use Rattle.rb_queue.specs.declared.opening.Opening.{Opening}
 use Rattle.rb_queue.specs.declared.reply.Reply.{Reply}
 use Rattle.rb_kept.specs.Log.{Log, with_event}
 use Rattle.rb_kept.specs.Tries.{StepsTo}
+use Rattle.rb_kept.specs.declared.tries.Try.{Try}
 use Rattle.rb_kept.specs.declared.outcome.Outcome.{Outcome}
 use Rattle.rb_kept.specs.declared.outcome.Outcome.TheVariants.{Done, Later}
 use Rattle.rb_kept.specs.declared.fault.CallFault.{CallFault}
 use Rattle.rb_kept.specs.declared.fault.CallFault.TheVariants as refusals
 use Rattle.rb_retry.specs.Made.{made_after, GivesOnce}
-use Rattle.rb_retry.specs.Asked.{MayGet, IsMomentOf, IsReplyTo, Makes}
+use Rattle.rb_retry.specs.Asked.{MayGet, IsMomentOf, Makes}
 use Rattle.rb_retry.specs.RecordLaws.{recorded_reply, may_wait, made_after-more}
 use Rattle.rb_retry.specs.GivenLaws.{later_gives_once}
 use Rattle.rb_retry.specs.KeptSteps.{KeptState, KeptSteps, SetsKept, made_at, asked_at, answer_of}
@@ -42,7 +43,18 @@ made_more opening count history event within =
     ∙ ap (λ (front : List Event). made_after opening (take count history) (drop count history)
     ++ (record { event = event; reply = reply_of opening (front ++ event ∷ []) }) ∷ []) (take-append-drop count history)
 
+-- a reply is that of a call that was made
+is_done : (answer : Reply) (outcome : Result Outcome CallFault) → Ok answer ≡ answer_of outcome → outcome ≡ Ok (Done answer)
+is_done answer (Ok (Done reply)) same = cc
+is_done answer (Ok (Later next)) same = absurd (cc)
+is_done answer (Err refusals.Full) same = absurd (cc)
+is_done answer (Err refusals.Memory) same = absurd (cc)
+
 module _ (old new : KeptState) (handed : ℕ) (ask : Ask) where
+  -- the try that a call makes
+  abbrev try_at : Try
+  try_at = record { seat = 0; asked = asked_at old.moment ask handed; ask = ask }
+
   -- the log says what was made
   made_of_log : (result : Result Reply DeskFault) → KeptSteps old handed ask result new → (log : Log) → new.log ≡ log
       → made_at new ≡ made_after log.opening (take old.before log.history) (drop old.before log.history)
@@ -50,57 +62,40 @@ module _ (old new : KeptState) (handed : ℕ) (ask : Ask) where
       ap made_at steps.stays
       ∙ ap (λ (l : Log). made_after l.opening (take old.before l.history) (drop old.before l.history)) same
 
+  -- an answered call is a try that was done
+  steps_done : (answer : Reply) → KeptSteps old handed ask (Ok answer) new → StepsTo old.log try_at (Ok (Done answer)) new.log
+  steps_done answer steps =
+      subst (λ outcome. StepsTo old.log try_at outcome new.log) (is_done answer steps.outcome steps.answers) steps.steps
+
   pub kept_makes : (answer : Reply) → KeptSteps old handed ask (Ok answer) new
       → Makes (λ moment. moment ≡ old.moment) handed ask answer (made_at old) (made_at new)
-  kept_makes answer steps = of_outcome steps.outcome steps.answers steps.steps
-    where
-      of_outcome : (outcome : Result Outcome CallFault) → Ok answer ≡ answer_of outcome
-          → StepsTo old.log (record { seat = 0; asked = asked_at old.moment ask handed; ask = ask }) outcome new.log
-          → Makes (λ moment. moment ≡ old.moment) handed ask answer (made_at old) (made_at new)
-      of_outcome (Ok (Done reply)) same (room, (event, is, records)) =
-          let named : reply_of old.log.opening (old.log.history ++ event ∷ []) ≡ Some answer =
-          records.reply ∙ ap Some (reply_is same) in record {
-            event = event;
-            grows =
-                made_of_log (Ok answer) steps (with_event old.log event) is
-                ∙ made_more old.log.opening old.before old.log.history event steps.earlier
-                ∙ ap (λ (r : Option Reply). made_at old ++ (record { event = event; reply = r }) ∷ []) named;
-            of_ask = records.act;
-            asked = is_moment ask old.moment handed event.asked records.asked;
-            answered = subst (IsReplyTo ask) (reply_is same)
-                (recorded_reply old.log (record { seat = 0; asked = asked_at old.moment ask handed; ask = ask })
-                reply event records);
-          }
-        where
-          reply_is : Ok answer ≡ answer_of (Ok (Done reply)) → reply ≡ answer
-          reply_is same = cc
-      of_outcome (Ok (Later next)) same step = absurd (cc)
-      of_outcome (Err refusals.Full) same step = absurd (cc)
-      of_outcome (Err refusals.Memory) same step = absurd (cc)
+  kept_makes answer steps =
+      let (room, (event, is, records)) = steps_done answer steps in record {
+        event = event;
+        grows =
+            made_of_log (Ok answer) steps (with_event old.log event) is
+            ∙ made_more old.log.opening old.before old.log.history event steps.earlier
+            ∙ ap (λ (r : Option Reply). made_at old ++ (record { event = event; reply = r }) ∷ []) records.reply;
+        of_ask = records.act;
+        asked = is_moment ask old.moment handed event.asked records.asked;
+        answered = recorded_reply old.log try_at answer event records;
+      }
 
   pub kept_gives_once : (answer : Reply) → KeptSteps old handed ask (Ok answer) new → GivesOnce (made_at new)
-  kept_gives_once answer steps = of_outcome steps.outcome steps.answers steps.steps
-    where
-      of_outcome : (outcome : Result Outcome CallFault) → Ok answer ≡ answer_of outcome
-          → StepsTo old.log (record { seat = 0; asked = asked_at old.moment ask handed; ask = ask }) outcome new.log
-          → GivesOnce (made_at new)
-      of_outcome (Ok (Done reply)) same (room, (event, is, records)) =
-          let history : List Event = old.log.history ++ event ∷ [] in
-          let legal : IsLegal old.log.opening (take old.before history ++ drop old.before history) =
-          subst (IsLegal old.log.opening) (sym (take-append-drop old.before history)) records.legal in
-          subst GivesOnce (sym (made_of_log (Ok answer) steps (with_event old.log event) is))
-          (later_gives_once old.log.opening (take old.before history) (drop old.before history) legal)
-      of_outcome (Ok (Later next)) same step = absurd (cc)
-      of_outcome (Err refusals.Full) same step = absurd (cc)
-      of_outcome (Err refusals.Memory) same step = absurd (cc)
+  kept_gives_once answer steps =
+      let (room, (event, is, records)) = steps_done answer steps in
+      let history : List Event = old.log.history ++ event ∷ [] in
+      let legal : IsLegal old.log.opening (take old.before history ++ drop old.before history) =
+      rw (take-append-drop old.before history) records.legal in
+      rw (made_of_log (Ok answer) steps (with_event old.log event) is)
+      (later_gives_once old.log.opening (take old.before history) (drop old.before history) legal)
 
   pub kept_refuses : (fault : DeskFault) → KeptSteps old handed ask (Err fault) new
       → MayGet ask fault × (made_at new ≡ made_at old)
   kept_refuses fault steps = of_outcome steps.outcome steps.answers steps.steps
     where
       of_outcome : (outcome : Result Outcome CallFault) → Err fault ≡ answer_of outcome
-          → StepsTo old.log (record { seat = 0; asked = asked_at old.moment ask handed; ask = ask }) outcome new.log
-          → MayGet ask fault × (made_at new ≡ made_at old)
+          → StepsTo old.log try_at outcome new.log → MayGet ask fault × (made_at new ≡ made_at old)
       of_outcome (Ok (Done reply)) same step = absurd (cc)
       of_outcome (Ok (Later next)) same (room, (waits, is)) =
           let stopped : Stopped ≡ fault = cc in
