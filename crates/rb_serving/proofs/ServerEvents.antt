@@ -15,7 +15,7 @@ use Rattle.rb_lock.specs.declared.pass_record.PassRecord.{PassRecord}
 use Rattle.rb_lock.proofs.Sums.{bit_apart}
 use Rattle.rb_retry.specs.Made.{Made, made_after, made_by}
 use Rattle.rb_retry.specs.declared.policy.Policy.{Policy}
-use Rattle.rb_shared_desk.specs.SharedLaws.{counted, length_own, made_by-none}
+use Rattle.rb_shared_desk.specs.SharedLaws.{length_own, made_by-same}
 use Rattle.rb_session.specs.Served.{Served}
 use Rattle.rb_session.proofs.RunEvents.{grows_so}
 use Rattle.rb_serving.specs.Terms.{Terms}
@@ -34,12 +34,7 @@ made_none pass unheard =
 pub seen_all : (begun : Opening) (history : List Event) (one : PassRecord) → IsRecord history one
     → made_by one.name begun history ≡ made_by one.name begun one.seen
 seen_all begun history one known =
-    let more : List Event = known.begins.0 in
-    let whole : length (events_of (one.seen ++ more) one.name) ≡ length one.mine =
-    ap (λ (events : List Event). length (events_of events one.name)) known.begins.1 ∙ ap length known.all in
-    let none : length (events_of more one.name) ≡ 0 =
-    omega (arith, counted one.name one.seen more, whole, ap length known.known) in
-    ap (made_by one.name begun) (sym known.begins.1) ∙ made_by-none one.name begun one.seen more none
+    made_by-same one.name begun one.seen history known.begins (known.all ∙ sym known.known)
 
 module _ {I O G C : Type 0} (terms : Terms I O G C) where
   -- the calls of a pass that served visits grow by theirs
