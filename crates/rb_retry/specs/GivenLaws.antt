@@ -25,7 +25,7 @@ use Rattle.rb_queue.proofs.Options.{same_or_not}
 use Rattle.rb_queue.proofs.Bags.{get_inserted_same, get_inserted_other}
 use Rattle.rb_queue.proofs.Leavings.{leaves_once}
 use Rattle.rb_retry.specs.Made.{Made, made_after, ids_given, ids_with, given_by, GivesOnce}
-use Rattle.rb_retry.specs.RecordLaws.{last_of, made_after-more}
+use Rattle.rb_retry.specs.RecordLaws.{last_of, of_found, made_after-more}
 
 -- each element of the bag is under its own id
 abbrev IsNamed : Bag → Type 0
@@ -74,43 +74,34 @@ ids_of_found bag (id ∷ ids) elements named found =
         ap ids_of (sym (same_Some (e ∷ es) elements whole))
         ∙ ap₂ (λ (one : ℕ) (others : List ℕ). one ∷ others) (is e refl) (step es refl)
 
-one_given : (here : Option Element) (id : ℕ) (reply : Reply) → ((e : Element) → here ≡ Some e → e.id ≡ id)
-    → option_map replies.Item here ≡ Some reply → ids_given reply ≡ id ∷ []
-one_given None id reply is found = absurd (cc)
-one_given (Some e) id reply is found =
-    ap ids_given (sym (same_Some (replies.Item e) reply found)) ∙ ap (λ (one : ℕ). one ∷ []) (is e refl)
+one_given : (bag : Bag) (id : ℕ) (reply : Reply) → IsNamed bag → option_map replies.Item (map.get bag id) ≡ Some reply
+    → ids_given reply ≡ id ∷ []
+one_given bag id reply named =
+    of_found (λ said. ids_given said ≡ id ∷ []) (map.get bag id) replies.Item reply
+    (λ element is. ap (λ (one : ℕ). one ∷ []) (named id element is))
 
--- an element that is shown is not given
-none_shown : (here : Option Element) (reply : Reply) → option_map replies.Head here ≡ Some reply → ids_given reply ≡ []
-none_shown None reply found = absurd (cc)
-none_shown (Some e) reply found = ap ids_given (sym (same_Some (replies.Head e) reply found))
-
-all_given : (here : Option (List Element)) (ids : List ℕ) (reply : Reply)
-    → ((es : List Element) → here ≡ Some es → ids_of es ≡ ids) → option_map replies.Drained here ≡ Some reply
-    → ids_given reply ≡ ids
-all_given None ids reply are found = absurd (cc)
-all_given (Some es) ids reply are found = ap ids_given (sym (same_Some (replies.Drained es) reply found)) ∙ are es refl
+-- a reply that is known gives what it names
+said_given : (said reply : Reply) → Some said ≡ Some reply → ids_given reply ≡ ids_given said
+said_given said reply found = ap ids_given (sym (same_Some said reply found))
 
 -- a reply gives what the act gives
 gives_named : (bag : Bag) (act : Act) (reply : Reply) → IsNamed bag → reply_in bag act ≡ Some reply
     → ids_given reply ≡ given (effect_of act)
-gives_named bag (acts.Offer element) reply named found =
-    ap ids_given (sym (same_Some (replies.Offered element) reply found))
-gives_named bag (acts.Poll None) reply named found = ap ids_given (sym (same_Some replies.Nothing reply found))
-gives_named bag (acts.Poll (Some id)) reply named found = one_given (map.get bag id) id reply (named id) found
-gives_named bag (acts.Take id) reply named found = one_given (map.get bag id) id reply (named id) found
-gives_named bag (acts.PollFor start timeout None) reply named found =
-    ap ids_given (sym (same_Some replies.Nothing reply found))
-gives_named bag (acts.PollFor start timeout (Some id)) reply named found =
-    one_given (map.get bag id) id reply (named id) found
-gives_named bag (acts.Peek None) reply named found = ap ids_given (sym (same_Some replies.Nothing reply found))
-gives_named bag (acts.Peek (Some id)) reply named found = none_shown (map.get bag id) reply found
-gives_named bag (acts.Remove id there) reply named found =
-    ap ids_given (sym (same_Some (replies.Removed there) reply found))
+gives_named bag (acts.Offer element) reply named found = said_given (replies.Offered element) reply found
+gives_named bag (acts.Poll None) reply named found = said_given replies.Nothing reply found
+gives_named bag (acts.Poll (Some id)) reply named found = one_given bag id reply named found
+gives_named bag (acts.Take id) reply named found = one_given bag id reply named found
+gives_named bag (acts.PollFor start timeout None) reply named found = said_given replies.Nothing reply found
+gives_named bag (acts.PollFor start timeout (Some id)) reply named found = one_given bag id reply named found
+gives_named bag (acts.Peek None) reply named found = said_given replies.Nothing reply found
+gives_named bag (acts.Peek (Some id)) reply named found =
+    of_found (λ said. ids_given said ≡ []) (map.get bag id) replies.Head reply (λ element is. refl) found
+gives_named bag (acts.Remove id there) reply named found = said_given (replies.Removed there) reply found
 gives_named bag (acts.Drain most ids) reply named found =
-    all_given (elements_in bag ids) ids reply (λ es. ids_of_found bag ids es named) found
-gives_named bag acts.Clear reply named found = ap ids_given (sym (same_Some replies.Cleared reply found))
-gives_named bag (acts.Size count) reply named found = ap ids_given (sym (same_Some (replies.Size count) reply found))
+    of_found (λ said. ids_given said ≡ ids) (elements_in bag ids) replies.Drained reply
+    (λ items is. ids_of_found bag ids items named is) found
+gives_named bag acts.Clear reply named found = said_given replies.Cleared reply found
+gives_named bag (acts.Size count) reply named found = said_given (replies.Size count) reply found
 
 pub times_append : (id : ℕ) (one two : List ℕ) → times id (one ++ two) ≡ times id one + times id two
 times_append id one two = sum_by-append (λ (other : ℕ). cond (nat_eq other id) 1 0) one two

@@ -1,7 +1,7 @@
 -- An answered try of a kept queue is one more event with its reply, and a refused one is none. No
 -- public clause cites this module.
-use Rattle.std.proofs.Common.{◌≡◌, ℕ, ◌≤◌, List, [], ◌∷◌, ◌++◌, ap, ap₂, subst}
-use Rattle.std.proofs.Common.{◌∙◌, Option, Result, Ok, Err, length, take, drop}
+use Rattle.std.proofs.Common.{◌≡◌, ℕ, ◌≤◌, List, [], ◌∷◌, ◌++◌, ap, subst}
+use Rattle.std.proofs.Common.{◌∙◌, refl, Option, Result, Ok, Err, length, take, drop}
 use Rattle.std.proofs.lemmas.List.{take-append-drop, take-append-le, drop-append-le}
 use Rattle.rb_queue.specs.History.{IsLegal}
 use Rattle.rb_queue.specs.Replies.{reply_of}
@@ -37,11 +37,12 @@ made_more : (opening : Opening) (count : ℕ) (history : List Event) (event : Ev
     ≡ made_after opening (take count history) (drop count history)
     ++ record { event = event; reply = reply_of opening (history ++ event ∷ []) } ∷ []
 made_more opening count history event within =
-    ap₂ (made_after opening) (take-append-le count history (event ∷ []) within)
-    (drop-append-le count history (event ∷ []) within)
-    ∙ made_after-more opening (take count history) (drop count history) (event ∷ [])
-    ∙ ap (λ (front : List Event). made_after opening (take count history) (drop count history)
-    ++ (record { event = event; reply = reply_of opening (front ++ event ∷ []) }) ∷ []) (take-append-drop count history)
+    rw (
+      take-append-le count history (event ∷ []) within,
+      drop-append-le count history (event ∷ []) within,
+      made_after-more opening (take count history) (drop count history) (event ∷ []),
+      take-append-drop count history,
+    ) refl
 
 -- a reply is that of a call that was made
 is_done : (answer : Reply) (outcome : Result Outcome CallFault) → Ok answer ≡ answer_of outcome → outcome ≡ Ok (Done answer)

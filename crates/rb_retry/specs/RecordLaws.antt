@@ -55,13 +55,11 @@ length_found bag (id ∷ ids) elements found = more (map.get bag id) (elements_i
     more (Some e) None step whole = absurd (cc)
     more (Some e) (Some es) step whole = sym (ap length (same_Some (e ∷ es) elements whole)) ∙ ap suc (step es refl)
 
--- the reply for an element, if there is one
-one_reply : (ask : Ask) (answer : Reply) (here : Option Element) (tag : Element → Reply)
-    → ((element : Element) → IsReplyTo ask (tag element))
-    → option_map tag here ≡ Some answer → IsReplyTo ask answer
-one_reply ask answer None tag fits named = absurd (cc)
-one_reply ask answer (Some element) tag fits named =
-    subst (IsReplyTo ask) (same_Some (tag element) answer named) (fits element)
+-- what holds of the reply for whatever may be found holds of the reply
+pub of_found : {X : Type 0} (P : Reply → Type 0) (here : Option X) (tag : X → Reply) (answer : Reply)
+    → ((found : X) → here ≡ Some found → P (tag found)) → option_map tag here ≡ Some answer → P answer
+of_found P None tag answer holds named = absurd (cc)
+of_found P (Some found) tag answer holds named = subst P (same_Some (tag found) answer named) (holds found refl)
 
 -- the reply that an act of the ask names is one that the ask may get
 is_reply : (bag : Bag) (queue : Queue) (now : ℕ) (ask : Ask) (act : Act) (answer : Reply) → IsActOf ask act
@@ -71,28 +69,22 @@ is_reply bag queue now (Offer draft) (acts.Offer element) answer of_ask permits 
 is_reply bag queue now Poll (acts.Poll None) answer of_ask permits named =
     subst (IsReplyTo Poll) (same_Some replies.Nothing answer named) tt
 is_reply bag queue now Poll (acts.Poll (Some id)) answer of_ask permits named =
-    one_reply Poll answer (map.get bag id) replies.Item (λ element. tt) named
+    of_found (IsReplyTo Poll) (map.get bag id) replies.Item answer (λ element is. tt) named
 is_reply bag queue now Take (acts.Take id) answer of_ask permits named =
-    one_reply Take answer (map.get bag id) replies.Item (λ element. tt) named
+    of_found (IsReplyTo Take) (map.get bag id) replies.Item answer (λ element is. tt) named
 is_reply bag queue now (PollFor start timeout) (acts.PollFor from within None) answer of_ask permits named =
     subst (IsReplyTo (PollFor start timeout)) (same_Some replies.Nothing answer named) tt
 is_reply bag queue now (PollFor start timeout) (acts.PollFor from within (Some id)) answer of_ask permits named =
-    one_reply (PollFor start timeout) answer (map.get bag id) replies.Item (λ element. tt) named
+    of_found (IsReplyTo (PollFor start timeout)) (map.get bag id) replies.Item answer (λ element is. tt) named
 is_reply bag queue now Peek (acts.Peek None) answer of_ask permits named =
     subst (IsReplyTo Peek) (same_Some replies.Nothing answer named) tt
 is_reply bag queue now Peek (acts.Peek (Some id)) answer of_ask permits named =
-    one_reply Peek answer (map.get bag id) replies.Head (λ element. tt) named
+    of_found (IsReplyTo Peek) (map.get bag id) replies.Head answer (λ element is. tt) named
 is_reply bag queue now (Remove id) (acts.Remove named_id found) answer of_ask permits named =
     subst (IsReplyTo (Remove id)) (same_Some (replies.Removed found) answer named) tt
 is_reply bag queue now (Drain most) (acts.Drain max_count ids) answer of_ask permits named =
-    drained (elements_in bag ids) (length_found bag ids) named
-  where
-    drained : (here : Option (List Element)) → ((es : List Element) → here ≡ Some es → length es ≡ length ids)
-        → option_map replies.Drained here ≡ Some answer → IsReplyTo (Drain most) answer
-    drained None counted whole = absurd (cc)
-    drained (Some es) counted whole =
-        subst (IsReplyTo (Drain most)) (same_Some (replies.Drained es) answer whole)
-        (omega (arith, counted es refl, permits.at_most, of_ask))
+    of_found (IsReplyTo (Drain most)) (elements_in bag ids) replies.Drained answer
+    (λ items is. omega (arith, length_found bag ids items is, permits.at_most, of_ask)) named
 is_reply bag queue now Clear acts.Clear answer of_ask permits named =
     subst (IsReplyTo Clear) (same_Some replies.Cleared answer named) tt
 is_reply bag queue now Size (acts.Size count) answer of_ask permits named =
