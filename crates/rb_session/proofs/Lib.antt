@@ -7,14 +7,12 @@ pub mod PlainCalls
 pub mod Closings
 pub mod ReplyTexts
 pub mod Turns
-pub mod StreamRuns
 pub mod Outlets
 pub mod Gatherings
 pub mod KnownDevices
 pub mod Ways
 pub mod Events
 pub mod KeptEvents
-pub mod JobMaps
 pub mod GivenJobs
 pub mod HandedOut
 pub mod RunEvents

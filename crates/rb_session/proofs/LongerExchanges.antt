@@ -29,3 +29,16 @@ module _ {P Q : List ℕ → List ℕ → Type 0} {left0 left1 left2 got0 got1 :
         (Appends-kept got0 got1 got2 so_far.sent so_far.appended kept) appended;
     holds = holds;
   }
+
+-- more was sent, and nothing more came
+pub exchanges_sent : {P Q : List ℕ → List ℕ → Type 0} {left0 left1 got0 got1 : Option (List ℕ)}
+    (so_far : Exchanges left0 left1 got0 got1 P) (got2 : Option (List ℕ)) (kept : Keeps got1 got2) (text : List ℕ)
+    (got3 : Option (List ℕ)) → Appends got2 got3 text → Q so_far.came (so_far.sent ++ text)
+    → Exchanges left0 left1 got0 got3 Q
+exchanges_sent so_far got2 kept text got3 appended holds = record {
+  came = so_far.came;
+  sent = so_far.sent ++ text;
+  consumed = so_far.consumed;
+  appended = Appends-trans _ got2 got3 so_far.sent text (Appends-kept _ _ got2 so_far.sent so_far.appended kept) appended;
+  holds = holds;
+}

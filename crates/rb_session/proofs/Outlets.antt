@@ -1,95 +1,123 @@
 -- Where serving stopped, and why; what was served, where what answers it could not be handed on.
-use Rattle.std.proofs.Common.{◌≡◌, ℕ, ◌≤◌, List, [], Some, Option, Result, Ok, Err, true, false, subst, inl, inr}
-use Rattle.std.specs.Prelude.{OnOk, OnErr, is_err}
+use Rattle.std.proofs.Common.{◌≡◌, ℕ, ◌<◌, ◌≤◌, List, [], ◌++◌, Option, Some, Result, Ok, Err, inl, inr, refl, sym, ap, subst, ◌∙◌, arith}
+use Rattle.std.proofs.lemmas.List.{append-nil}
+use Rattle.std.specs.Prelude.{IsErr}
+use Rattle.rb_protocol.specs.Line.{HasNoLineFeed}
 use Rattle.rb_protocol.specs.Reads.{HasNotFailed}
 use Rattle.rb_protocol.specs.declared.limited_reader.LimitedReader.{LimitedReader}
 use Rattle.rb_protocol.specs.declared.reader_state.ReaderState.{ReaderState}
-use Rattle.rb_protocol.specs.declared.reader_state.ReaderState.TheVariants.{AtEnd, Failed}
-use Rattle.rb_retry.specs.DeskRules.{DeskRules}
-use Rattle.rb_session.specs.Rules.{SessionRules, session_rules, IsGathered}
+use Rattle.rb_protocol.specs.declared.reader_state.ReaderState.TheVariants.{Failed}
+use Rattle.rb_protocol.specs.declared.writing.WriteFault.{WriteFault}
+use Rattle.rb_session.specs.Rules.{SessionRules, IsGathered, most_held_back}
 use Rattle.rb_session.specs.Turn.{Point}
+use Rattle.rb_session.specs.Session.{ServesFirst, ServesToEnd}
 use Rattle.rb_session.specs.Ran.{BreaksOff, FailsToSend}
 use Rattle.rb_session.specs.Reasons.{IsReason}
-use Rattle.rb_session.specs.Progress.{Stops, IsClearAt, IsReasonToStop, AnswersEnd, ServesLines, end_of}
+use Rattle.rb_session.specs.Progress.{Stops, FailsToRead, ReadsOn, end_of}
 use Rattle.rb_session.specs.declared.delivery.Delivery.{Delivery}
+use Rattle.rb_session.specs.declared.delivery.Delivery.TheVariants.{AtOnce, Gathered}
 use Rattle.rb_session.specs.declared.line_buffer.LineBuffer.{LineBuffer}
 use Rattle.rb_session.specs.declared.stop.Stop.{Stop}
 use Rattle.rb_session.specs.declared.stop.Stop.TheVariants as stops
+use Rattle.rb_session.proofs.Turns.{breaks_off, serves_to_end, fails_at_end}
 
--- what holds where something failed, or went
-pub failed : {T E : Type 0} (r : Result T E) (P : Type 0) → is_err r ≡ true → OnErr r P → P
-failed (Ok x) P is holds = absurd (cc)
-failed (Err e) P is holds = holds
+-- something is held back only if replies are gathered
+pub gathers : (delivery : Delivery) (held_back : ℕ) → 0 < held_back → held_back ≤ most_held_back delivery
+    → IsGathered delivery
+gathers AtOnce held_back some few = absurd (omega (arith, some, few))
+gathers (Gathered hands_on) held_back some few = tt
 
-pub went : {T E : Type 0} (r : Result T E) (P : Type 0) → is_err r ≡ false → OnOk r P → P
-went (Ok x) P is holds = holds
-went (Err e) P is holds = absurd (cc)
+module _ {R : Type 0} (old : ReaderState) (new : LimitedReader R) where
+  -- why the lines stopped is why the session ended, however many jobs are lost
+  pub reason_to_end : (stopped : Result Stop WriteFault) (lost : ℕ) → IsReason old new (end_of stopped 0)
+      → IsReason old new (end_of stopped lost)
+  reason_to_end (Ok stops.Quit) lost is = is
+  reason_to_end (Ok stops.EndOfInput) lost is = is
+  reason_to_end (Ok stops.Read) lost is = is
+  reason_to_end (Ok stops.ReadTurns) lost is = is
+  reason_to_end (Err fault) lost is = is
 
-module _ {R : Type 0} (old : ReaderState) (new : LimitedReader R) (clear : Type 0) where
-  -- why the lines stopped is why the session ended
-  pub reason_to_end : (stop : Stop) (lost : ℕ) → IsReasonToStop old new clear stop → IsReason old new (end_of stop lost)
-  reason_to_end stops.Quit lost is = is
-  reason_to_end stops.EndOfInput lost is = is
-  reason_to_end stops.Read lost is = is.0
-  reason_to_end stops.Write lost is = is
-  reason_to_end stops.ReadTurns lost is = is
+  -- a write failed, and no read had
+  pub reason_failed : (stopped : Result Stop WriteFault) → IsErr stopped → HasNotFailed old new.state
+      → IsReason old new (end_of stopped 0)
+  reason_failed (Ok stop) failed still = absurd (cc)
+  reason_failed (Err fault) failed still = still
 
-  -- nothing is held back now
-  pub clear_now : (earlier : Type 0) (stop : Stop) → clear → IsReasonToStop old new earlier stop
-      → IsReasonToStop old new clear stop × IsClearAt clear stop
-  clear_now earlier stops.Quit now is = (is, now)
-  clear_now earlier stops.EndOfInput now is = (is, now)
-  clear_now earlier stops.Read now is = ((is.0, now), now)
-  clear_now earlier stops.Write now is = (is, tt)
-  clear_now earlier stops.ReadTurns now is = (is, now)
+  -- nor had one if the reading stopped with something held back
+  pub reason_late : (stop : Stop) → (stop ≡ stops.Read → ⊥) → IsReason old new (end_of (Ok stop) 0)
+      → HasNotFailed old new.state
+  reason_late stops.Quit other is = is
+  reason_late stops.EndOfInput other is = λ failed. absurd (cc)
+  reason_late stops.Read other is = absurd (other refl)
+  reason_late stops.ReadTurns other is = is.0
 
-  -- the reader tells of the end of the input
-  pub reason_at_end : (stop : Stop) (bytes sent : List ℕ) → AnswersEnd stop bytes sent → new.state ≡ AtEnd
-      → IsReasonToStop old new clear stop
-  reason_at_end stops.Quit bytes sent ends at_end = absurd ends
-  reason_at_end stops.EndOfInput bytes sent ends at_end = at_end
-  reason_at_end stops.Read bytes sent ends at_end = absurd ends
-  reason_at_end stops.Write bytes sent ends at_end = λ failed. absurd (cc)
-  reason_at_end stops.ReadTurns bytes sent ends at_end = absurd ends
+-- nothing behind some bytes
+at_nil : (P : List ℕ → Type 0) (bytes more : List ℕ) → more ≡ [] → P bytes → P (bytes ++ more)
+at_nil P bytes more none holds = subst P (sym (ap (λ m. bytes ++ m) none ∙ append-nil bytes)) holds
 
-  -- no line stops a session for its reader
-  pub reason_at_line : {S : Type 0} (rules : SessionRules S) (from to : Point S) (bytes sent : List ℕ) (stop : Stop)
-      (buffer : LineBuffer) → ServesLines rules from bytes sent (Some stop) buffer to → HasNotFailed old new.state
-      → IsReasonToStop old new clear stop
-  reason_at_line rules from to bytes sent stops.Quit buffer served still = still
-  reason_at_line rules from to bytes sent stops.EndOfInput buffer served still = absurd served
-  reason_at_line rules from to bytes sent stops.Read buffer served still = absurd served
-  reason_at_line rules from to bytes sent stops.Write buffer served still = still
-  reason_at_line rules from to bytes sent stops.ReadTurns buffer served still = absurd served
+-- a read that could not be made, or not be answered
+pub reads_failed : (delivery : Delivery) (Over : Type 0) (bytes more sent : List ℕ)
+    (result : Result (Option Stop) WriteFault) (buffer : LineBuffer) → IsErr result
+    → FailsToRead delivery Over bytes more sent → ReadsOn delivery Over bytes more sent result buffer
+reads_failed delivery Over bytes more sent (Ok read) buffer failed fails = absurd (cc)
+reads_failed delivery Over bytes more sent (Err fault) buffer failed fails = fails
 
--- serving lines under one delivery is serving them under the same
-pub lines_by : {S : Type 0} (desk : DeskRules S) (HadGot : List ℕ → Type 0) (one other : Delivery) → one ≡ other
-    → (from to : Point S) (bytes sent : List ℕ) (stop : Option Stop) (buffer : LineBuffer)
-    → ServesLines (session_rules desk one HadGot) from bytes sent stop buffer to
-    → ServesLines (session_rules desk other HadGot) from bytes sent stop buffer to
-lines_by desk HadGot one other same from to bytes sent stop buffer serves =
-    subst (λ (d : Delivery). ServesLines (session_rules desk d HadGot) from bytes sent stop buffer to) same serves
+module _ {S : Type 0} (rules : SessionRules S) (Over : Type 0) {from : Point S} where
+  -- a write failed
+  pub stops_failed : (to : Point S) (came sent : List ℕ) (stopped : Result Stop WriteFault) → IsErr stopped
+      → FailsToSend rules Over from came sent to → Stops rules Over from came sent stopped to
+  stops_failed to came sent (Ok stop) failed fails = absurd (cc)
+  stops_failed to came sent (Err fault) failed fails = fails
 
-module _ {S : Type 0} (rules : SessionRules S) (Over : Type 0) (late : IsGathered rules.delivery) (from to : Point S)
-    (came sent : List ℕ) where
-  -- the lines before the input broke off
-  breaks_late : BreaksOff rules from came sent to → FailsToSend rules Over from came sent to
-  breaks_late breaks = inr (
-    late,
-    inr (inr (record {
-      turns = breaks.turns;
-      unserved = breaks.unserved;
-      split = breaks.split;
-      serves = breaks.serves;
-      waits = breaks.waits;
-      answers = breaks.answers;
-    })),
-  )
+  module _ (late : IsGathered rules.delivery) (to : Point S) (came sent : List ℕ) where
+    -- the lines before the input broke off
+    breaks_late : BreaksOff rules from came sent to → FailsToSend rules Over from came sent to
+    breaks_late breaks = inr (
+      late,
+      inr (inr (record {
+        turns = breaks.turns;
+        unserved = breaks.unserved;
+        split = breaks.split;
+        serves = breaks.serves;
+        waits = breaks.waits;
+        answers = breaks.answers;
+      })),
+    )
 
-  -- what was served, where it could not be handed on
-  pub stops_late : (stop : Stop) → Stops rules Over from came sent stop to → FailsToSend rules Over from came sent to
-  stops_late stops.Quit stopped = inr (late, inl stopped)
-  stops_late stops.EndOfInput stopped = inr (late, inr (inl stopped))
-  stops_late stops.Read stopped = breaks_late stopped
-  stops_late stops.ReadTurns stopped = breaks_late stopped
-  stops_late stops.Write stopped = stopped
+    -- what was served, where it could not be handed on
+    pub stops_late : (stop : Stop) → Stops rules Over from came sent (Ok stop) to
+        → FailsToSend rules Over from came sent to
+    stops_late stops.Quit stopped = inr (late, inl stopped)
+    stops_late stops.EndOfInput stopped = inr (late, inr (inl stopped))
+    stops_late stops.Read stopped = breaks_late stopped
+    stops_late stops.ReadTurns stopped = breaks_late stopped
+
+  module _ {here : Point S} {came sent : List ℕ} (first : ServesFirst rules from came sent here)
+      (no_feed : HasNoLineFeed first.unserved) (more text : List ℕ) where
+    -- what was served could not be handed on before a read, or the last bytes could not be answered
+    pub fails_to_read : (delivery : Delivery) → delivery ≡ rules.delivery → FailsToRead delivery Over first.unserved more text
+        → FailsToSend rules Over from (came ++ more) (sent ++ text) here
+    fails_to_read delivery same (none, inl (late, nothing)) =
+        at_nil (λ b. FailsToSend rules Over from b (sent ++ text) here) came more none
+        (at_nil (λ t. FailsToSend rules Over from came t here) sent text nothing
+        (inr (subst IsGathered same late, inr (inr first))))
+    fails_to_read delivery same (none, inr (over, some, unsent, parts)) =
+        at_nil (λ b. FailsToSend rules Over from b (sent ++ text) here) came more none
+        (inl (fails_at_end rules first Over over no_feed some text unsent parts))
+
+    broken : more ≡ [] → text ≡ [] → BreaksOff rules from (came ++ more) (sent ++ text) here
+    broken none nothing =
+        at_nil (λ b. BreaksOff rules from b (sent ++ text) here) came more none
+        (at_nil (λ t. BreaksOff rules from came t here) sent text nothing (breaks_off rules first no_feed))
+
+    -- a read stopped the session
+    pub stops_reading : (delivery : Delivery) (stop : Stop) (buffer : LineBuffer)
+        → ReadsOn delivery Over first.unserved more text (Ok (Some stop)) buffer
+        → Stops rules Over from (came ++ more) (sent ++ text) (Ok stop) here
+    stops_reading delivery stops.Quit buffer reads = absurd reads
+    stops_reading delivery stops.EndOfInput buffer (over, none, is) =
+        at_nil (λ b. ServesToEnd rules Over from b (sent ++ text) here) came more none
+        (subst (λ t. ServesToEnd rules Over from came (sent ++ t) here) (sym is)
+        (serves_to_end rules first Over over no_feed))
+    stops_reading delivery stops.Read buffer (none, nothing) = broken none nothing
+    stops_reading delivery stops.ReadTurns buffer (none, nothing) = broken none nothing

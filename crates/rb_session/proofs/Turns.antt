@@ -1,25 +1,26 @@
 -- Lines that are served one after the other, and the line at which that ends.
-use Rattle.std.proofs.Common.{◌≡◌, ◌≢◌, ℕ, ◌<◌, length, List, [], ◌∷◌, ◌++◌, Option, Result, Ok}
+use Rattle.std.proofs.Common.{◌≡◌, ◌≢◌, ℕ, ◌<◌, length, List, [], ◌∷◌, ◌++◌, Result, Ok, Err, inl, inr, arith}
 use Rattle.std.proofs.Common.{refl, sym, ap, subst, ◌∙◌, append_assoc}
 use Rattle.std.proofs.lemmas.List.{append-nil}
-use Rattle.std.proofs.KnownBytes.{Appends-trans}
-use Rattle.std.specs.Io.KnownBytes.{Appends}
 use Rattle.rb_retry.specs.DeskRules.{DeskRules}
+use Rattle.rb_protocol.specs.Line.{HasNoLineFeed}
 use Rattle.rb_protocol.specs.ReplyText.{text_of}
 use Rattle.rb_protocol.specs.declared.format.TheConstants.{LINE_FEED}
+use Rattle.rb_protocol.specs.declared.limits.TheConstants.{BUFFER_BYTES}
 use Rattle.rb_protocol.specs.declared.request.Request.{Request}
 use Rattle.rb_protocol.specs.declared.request.Request.TheVariants.{Quit}
 use Rattle.rb_protocol.specs.declared.line_fault.LineFault.{LineFault}
+use Rattle.rb_protocol.specs.declared.line_fault.LineFault.TheVariants.{Line}
 use Rattle.rb_protocol.specs.declared.line_reply.LineReply.{LineReply}
 use Rattle.rb_protocol.specs.declared.line_reply.LineReply.TheVariants as lines
+use Rattle.rb_protocol.specs.declared.err_word.ErrWord.TheVariants as words
 use Rattle.rb_session.specs.Buffer.{IsUnserved}
 use Rattle.rb_session.specs.Rules.{SessionRules}
 use Rattle.rb_session.specs.Turn.{Point, IsTurn, AsksToWait}
-use Rattle.rb_session.specs.Session.{Turn, IsLine, Serves, GotBeforeWaits, ServesFirst, ServesToQuit}
-use Rattle.rb_session.specs.Session.{bytes_of, answers_of, texts_of}
-use Rattle.rb_session.specs.Progress.{FailsAtLine}
+use Rattle.rb_session.specs.Session.{Turn, IsLine, Serves, GotBeforeWaits, ServesFirst, ServesToEnd, ServesToQuit}
+use Rattle.rb_session.specs.Session.{bytes_of, answers_of, texts_of, rest_text}
+use Rattle.rb_session.specs.Ran.{BreaksOff, FailsToWrite}
 use Rattle.rb_session.specs.declared.line_buffer.LineBuffer.{LineBuffer}
-use Rattle.rb_protocol.specs.declared.limits.TheConstants.{BUFFER_BYTES}
 
 -- the bytes of lines, one behind the other
 pub bytes_of-append : (one two : List Turn) → bytes_of (one ++ two) ≡ bytes_of one ++ bytes_of two
@@ -69,18 +70,10 @@ waits_on HadGot earlier (turn ∷ one) two (here, got) more =
           (subst (λ all. GotBeforeWaits HadGot all two) (sym (append_assoc earlier text (answers_of one))) more),
     )
 
--- the same of a writer that had got a text before
-pub waits_behind : (HadGot HadMore : List ℕ → Type 0) (before : List ℕ)
-    → ((text : List ℕ) → HadGot text → HadMore (before ++ text))
-    → (earlier : List ℕ) (turns : List Turn) → GotBeforeWaits HadGot earlier turns
-    → GotBeforeWaits HadMore (before ++ earlier) turns
-waits_behind HadGot HadMore before more earlier [] got = tt
-waits_behind HadGot HadMore before more earlier (turn ∷ turns) (here, got) =
-    let text = texts_of turn.replies in (
-      λ waits. more earlier (here waits),
-      subst (λ all. GotBeforeWaits HadMore all turns) (sym (append_assoc before earlier text))
-          (waits_behind HadGot HadMore before more (earlier ++ text) turns got),
-    )
+-- bytes behind the last line feed get one line
+pub rest_is : (rest : List ℕ) → 0 < length rest → texts_of (lines.Err words.Line ∷ []) ≡ rest_text rest
+rest_is [] some = absurd (omega arith)
+rest_is (byte ∷ rest) some = append-nil (text_of (lines.Err words.Line))
 
 module _ {S : Type 0} (rules : SessionRules S) where
   -- nothing was served yet
@@ -94,96 +87,132 @@ module _ {S : Type 0} (rules : SessionRules S) where
     answers = refl;
   }
 
-  -- the next line behind those that were served gets its turn, and the buffer has the rest
-  pub record IsNextTurn (from after : Point S) (bytes : List ℕ) (got got' : Option (List ℕ))
-      (reading : Result Request LineFault) (replies : List LineReply) (buffer : LineBuffer) : Type 0 where
-    pub sent : List ℕ
-    pub appended : Appends got got' sent
-    pub here : Point S
-    pub served : ServesFirst rules from bytes sent here
-    pub raw : List ℕ
-    pub rest : List ℕ
-    pub split : served.unserved ≡ raw ++ LINE_FEED ∷ rest
-    pub line : IsLine raw reading
-    pub waits : AsksToWait reading → rules.HadGot sent
-    pub is_turn : IsTurn rules.desk here reading replies after
-    pub unserved : IsUnserved buffer rest
-    pub few : length rest < BUFFER_BYTES
-
-  module _ {from after : Point S} {bytes : List ℕ} {got got' : Option (List ℕ)} {reading : Result Request LineFault}
-      {replies : List LineReply} {buffer : LineBuffer}
-      (next : IsNextTurn from after bytes got got' reading replies buffer) (got'' : Option (List ℕ)) where
-    abbrev served : ServesFirst rules from bytes next.sent next.here
-    served = next.served
-
-    -- before it may wait, the writer had got what answers those before it
-    had_answers : AsksToWait reading → rules.HadGot (answers_of served.turns)
-    had_answers waits = subst rules.HadGot served.answers (next.waits waits)
-
-    -- its whole reply was sent, and the session goes on
-    pub goes_on : Appends got' got'' (texts_of replies) → reading ≢ Ok Quit
-        → (sent : List ℕ) × Appends got got'' sent
-        × (first : ServesFirst rules from bytes sent after) × IsUnserved buffer first.unserved
-    goes_on all other =
-        let turn : Turn = record { raw = next.raw; reading = reading; replies = replies } in (
-          next.sent ++ texts_of replies,
-          Appends-trans got got' got'' next.sent (texts_of replies) next.appended all,
-          record {
-            turns = served.turns ++ turn ∷ [];
-            unserved = next.rest;
-            split = served.split ∙ ap (λ b. bytes_of served.turns ++ b) next.split
-                ∙ bytes_more served.turns turn next.rest;
-            serves = serves_on rules.desk from next.here after served.turns (turn ∷ []) served.serves
-                (after, next.line, other, next.is_turn, refl);
-            waits = waits_on rules.HadGot [] served.turns (turn ∷ []) served.waits (had_answers, tt);
-            answers = ap (λ t. t ++ texts_of replies) served.answers ∙ answers_more served.turns turn;
-          },
-          next.unserved,
-        )
-
-    -- it ends the session
-    pub quits : Appends got' got'' (texts_of replies) → reading ≡ Ok Quit
-        → (sent : List ℕ) × Appends got got'' sent × ServesToQuit rules from bytes sent after
-    quits all quit =
-        let bye = subst (λ r. IsTurn rules.desk next.here r replies after) quit next.is_turn in (
-          next.sent ++ texts_of replies,
-          Appends-trans got got' got'' next.sent (texts_of replies) next.appended all,
-          record {
-            turns = served.turns;
-            raw = next.raw;
-            unserved = next.rest;
-            split = served.split ∙ ap (λ b. bytes_of served.turns ++ b) next.split;
-            few = next.few;
-            quit = subst (IsLine next.raw) quit next.line;
-            serves = subst (λ p. Serves rules.desk from served.turns p) (sym bye.2.1) served.serves;
-            waits = served.waits;
-            answers = ap (λ t. t ++ texts_of replies) served.answers
-                ∙ ap (λ t. answers_of served.turns ++ t) (ap texts_of bye.2.0 ∙ append-nil (text_of lines.Bye));
-          },
-        )
-
-    -- its reply could not be sent whole
-    pub fails : (first : List ℕ) × (unsent : List ℕ) × (texts_of replies ≡ first ++ unsent) × Appends got' got'' first
-        → (sent : List ℕ) × Appends got got'' sent × FailsAtLine rules from bytes sent after
-    fails (first, unsent, parts, some) = (
-      next.sent ++ first,
-      Appends-trans got got' got'' next.sent first next.appended some,
+  module _ {from here : Point S} {came sent : List ℕ} (first : ServesFirst rules from came sent here) where
+    -- more came behind what is not served yet
+    pub reads_more : (more text : List ℕ) → text ≡ [] → (buffer : LineBuffer) → IsUnserved buffer (first.unserved ++ more)
+        → (later : ServesFirst rules from (came ++ more) (sent ++ text) here) × IsUnserved buffer later.unserved
+    reads_more more text nothing buffer unserved = (
       record {
-        turns = served.turns;
-        raw = next.raw;
-        rest = next.rest;
-        split = served.split ∙ ap (λ b. bytes_of served.turns ++ b) next.split;
-        before_last = next.here;
-        serves = served.serves;
-        waits = served.waits;
+        turns = first.turns;
+        unserved = first.unserved ++ more;
+        split = ap (λ b. b ++ more) first.split ∙ append_assoc (bytes_of first.turns) first.unserved more;
+        serves = first.serves;
+        waits = first.waits;
+        answers = ap (λ t. sent ++ t) nothing ∙ append-nil sent ∙ first.answers;
+      },
+      unserved,
+    )
+
+    -- the input breaks off
+    pub breaks_off : HasNoLineFeed first.unserved → BreaksOff rules from came sent here
+    breaks_off no_feed = record {
+      turns = first.turns;
+      unserved = first.unserved;
+      split = first.split;
+      no_line = no_feed;
+      serves = first.serves;
+      waits = first.waits;
+      answers = first.answers;
+    }
+
+    -- the input ends
+    pub serves_to_end : (Over : Type 0) → Over → HasNoLineFeed first.unserved
+        → ServesToEnd rules Over from came (sent ++ rest_text first.unserved) here
+    serves_to_end Over over no_feed = record {
+      over = over;
+      turns = first.turns;
+      rest = first.unserved;
+      split = first.split;
+      no_line = no_feed;
+      serves = first.serves;
+      waits = first.waits;
+      answers = ap (λ t. t ++ rest_text first.unserved) first.answers;
+    }
+
+    -- and its last bytes could not be answered
+    pub fails_at_end : (Over : Type 0) → Over → HasNoLineFeed first.unserved → 0 < length first.unserved
+        → (text unsent : List ℕ) → rest_text first.unserved ≡ text ++ unsent
+        → FailsToWrite rules Over from came (sent ++ text) here
+    fails_at_end Over over no_feed some text unsent parts = record {
+      turns = first.turns;
+      unserved = first.unserved;
+      split = first.split;
+      before_last = here;
+      serves = first.serves;
+      waits = first.waits;
+      reading = Err Line;
+      begins = inr (over, some, no_feed, refl);
+      last_waits = λ waits. absurd waits;
+      replies = lines.Err words.Line ∷ [];
+      turn = (refl, refl);
+      first = text;
+      unsent = unsent;
+      parts = rest_is first.unserved some ∙ parts;
+      answers = ap (λ t. t ++ text) first.answers;
+    }
+
+    -- the next line is answered
+    module _ (after : Point S) (raw rest : List ℕ) (reading : Result Request LineFault) (replies : List LineReply)
+        (split : first.unserved ≡ raw ++ LINE_FEED ∷ rest) (line : IsLine raw reading)
+        (waits : AsksToWait reading → rules.HadGot sent) (turn : IsTurn rules.desk here reading replies after) where
+      pub cut : came ≡ bytes_of first.turns ++ (raw ++ LINE_FEED ∷ rest)
+      cut = first.split ∙ ap (λ b. bytes_of first.turns ++ b) split
+
+      -- before it may wait, the writer had got what answers those before it
+      pub had_answers : AsksToWait reading → rules.HadGot (answers_of first.turns)
+      had_answers asks = subst rules.HadGot first.answers (waits asks)
+
+      -- its whole reply was sent, and the session goes on
+      pub goes_on : reading ≢ Ok Quit → (buffer : LineBuffer) → IsUnserved buffer rest
+          → (later : ServesFirst rules from came (sent ++ texts_of replies) after) × IsUnserved buffer later.unserved
+      goes_on other buffer unserved =
+          let one : Turn = record { raw = raw; reading = reading; replies = replies } in (
+            record {
+              turns = first.turns ++ one ∷ [];
+              unserved = rest;
+              split = cut ∙ bytes_more first.turns one rest;
+              serves = serves_on rules.desk from here after first.turns (one ∷ []) first.serves
+                  (after, line, other, turn, refl);
+              waits = waits_on rules.HadGot [] first.turns (one ∷ []) first.waits (had_answers, tt);
+              answers = ap (λ t. t ++ texts_of replies) first.answers ∙ answers_more first.turns one;
+            },
+            unserved,
+          )
+
+      -- it ends the session
+      pub quits : length rest < BUFFER_BYTES → reading ≡ Ok Quit
+          → ServesToQuit rules from came (sent ++ texts_of replies) after
+      quits few quit =
+          let bye = subst (λ r. IsTurn rules.desk here r replies after) quit turn in record {
+            turns = first.turns;
+            raw = raw;
+            unserved = rest;
+            split = cut;
+            few = few;
+            quit = subst (IsLine raw) quit line;
+            serves = subst (λ p. Serves rules.desk from first.turns p) (sym bye.2.1) first.serves;
+            waits = first.waits;
+            answers = ap (λ t. t ++ texts_of replies) first.answers
+                ∙ ap (λ t. answers_of first.turns ++ t) (ap texts_of bye.2.0 ∙ append-nil (text_of lines.Bye));
+          }
+
+      -- its reply could not be sent whole
+      pub fails : (Over : Type 0) (text unsent : List ℕ) → texts_of replies ≡ text ++ unsent
+          → FailsToWrite rules Over from came (sent ++ text) after
+      fails Over text unsent parts = record {
+        turns = first.turns;
+        unserved = raw ++ LINE_FEED ∷ rest;
+        split = cut;
+        before_last = here;
+        serves = first.serves;
+        waits = first.waits;
         reading = reading;
-        line = next.line;
+        begins = inl (raw, rest, refl, line);
         last_waits = had_answers;
         replies = replies;
-        turn = next.is_turn;
-        first = first;
+        turn = turn;
+        first = text;
         unsent = unsent;
         parts = parts;
-        answers = ap (λ t. t ++ first) served.answers;
-      },
-    )
+        answers = ap (λ t. t ++ text) first.answers;
+      }

@@ -1,58 +1,35 @@
 ghost use Rattle.std.specs.Prelude.{◌≡◌, ℕ, ◌<◌, ◌≤◌, ◌++◌, [], ◌∷◌, List, length, Option, Result};
 ghost use Rattle.rb_queue.specs.declared.reply.Reply.{Reply};
 ghost use Rattle.rb_retry.specs.DeskRules.{desk_rules};
-ghost use Rattle.rb_session.specs.Held.{AreGiven};
-ghost use Rattle.rb_session.specs.Rules.{WritesBeforeWaits};
-ghost use Rattle.rb_session.specs.Turn.{word_for, point, moment_line, AsksToWait, IsTurn, IsServed};
+ghost use Rattle.rb_session.specs.Turn.{word_for, point, moment_line, IsTurn};
 ghost use Rattle.rb_session.specs.Progress.{replies_of};
 
 use crate::calls::{call, offer, offer_at};
 use crate::fetches::{drain_jobs, poll_job, poll_job_for, take_job};
 use crate::held_job_ends::{fail_job, finish_job};
 use crate::held_jobs::HeldJobs;
-use crate::outlet::Outlet;
 use rb_protocol::{ErrWord, LineFault, LineReply, Request};
 use rb_queue::Ask;
 use rb_retry::{Desk, Policy};
-use std::io::Write;
 
 /// Answers one line with the first line of its reply. If that is a drain's, the elements that it
 /// took are the last that are held.
 ///
-/// The desk's clock is read once for each request. If the request may wait, all replies that the
-/// client may need meanwhile were handed on.
-pub(crate) fn answer<W: Write, D: Desk>(
-    _outlet: &Outlet<'_, W>,
+/// The desk's clock is read once for each request.
+pub(crate) fn answer<D: Desk>(
     desk: &mut D,
     held: &mut HeldJobs,
     policy: &Policy,
     reading: Result<Request, LineFault>,
 ) -> LineReply
-    requires clear { AsksToWait reading → WritesBeforeWaits _outlet.now.delivery → _outlet.now.gathered.items ≡ [] }
-    requires given { AreGiven (D.mine (D.state desk.old)) held.old }
     ensures { IsTurn (desk_rules D.Desk policy.now) (point (D.state desk.old) held.old)
         reading (replies_of result held.new) (point (D.state desk.new) held.new) }
 {
-    match reading {
-        Ok(request) => {
-            let now = desk.now();
-            serve(desk, held, policy, now, request)
-        }
-        Err(fault) => LineReply::Err(word_for(fault)),
-    }
-}
-
-fn serve<D: Desk>(
-    desk: &mut D,
-    held: &mut HeldJobs,
-    policy: &Policy,
-    now: u64,
-    request: Request,
-) -> LineReply
-    requires given { AreGiven (D.mine (D.state desk.old)) held.old }
-    ensures { IsServed (desk_rules D.Desk policy.now) (point (D.state desk.old) held.old) now
-        request (replies_of result held.new) (point (D.state desk.new) held.new) }
-{
+    let request = match reading {
+        Ok(request) => request,
+        Err(fault) => return LineReply::Err(word_for(fault)),
+    };
+    let now = desk.now();
     match request {
         Request::Offer { delay, payload } => offer(desk, now, delay, payload),
         Request::OfferAt { expiry, payload } => offer_at(desk, now, expiry, payload),

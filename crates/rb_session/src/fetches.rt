@@ -1,8 +1,7 @@
 ghost use Rattle.std.specs.Prelude.{◌≡◌, ℕ, ◌-◌, ◌<◌, min, length};
 ghost use Rattle.rb_queue.specs.declared.ask.Ask.TheVariants as asks;
 ghost use Rattle.rb_retry.specs.Jobs.{answer_with};
-ghost use Rattle.rb_session.specs.Held.{AreGiven, AreNew};
-ghost use Rattle.rb_session.specs.Turn.{point, fetched_by, IsCall, IsFetch};
+ghost use Rattle.rb_session.specs.Turn.{point, IsCall, IsFetch};
 ghost use Rattle.rb_session.specs.Progress.{replies_of, IsHolding};
 ghost use Rattle.rb_session.specs.declared.held_jobs.TheConstants.{MOST_HELD};
 
@@ -13,7 +12,6 @@ use rb_retry::{Desk, DeskFault, Job, poll, poll_for, take};
 
 /// Fetches the head, if there is one now and room for it.
 pub(crate) fn poll_job<D: Desk>(desk: &mut D, held: &mut HeldJobs, now: u64) -> LineReply
-    requires given { AreGiven (D.mine (D.state desk.old)) held.old }
     ensures { IsFetch D.Steps
         (point (D.state desk.old) held.old) now asks.Poll
         (replies_of result held.new) (point (D.state desk.new) held.new) }
@@ -32,7 +30,6 @@ pub(crate) fn poll_job_for<D: Desk>(
     now: u64,
     timeout: u64,
 ) -> LineReply
-    requires given { AreGiven (D.mine (D.state desk.old)) held.old }
     ensures { IsFetch D.Steps
         (point (D.state desk.old) held.old) now (asks.PollFor now timeout)
         (replies_of result held.new) (point (D.state desk.new) held.new) }
@@ -46,7 +43,6 @@ pub(crate) fn poll_job_for<D: Desk>(
 
 /// Fetches the head, waiting for it, if there is room for it.
 pub(crate) fn take_job<D: Desk>(desk: &mut D, held: &mut HeldJobs) -> LineReply
-    requires given { AreGiven (D.mine (D.state desk.old)) held.old }
     ensures { IsFetch D.Steps
         (point (D.state desk.old) held.old) 0 asks.Take
         (replies_of result held.new) (point (D.state desk.new) held.new) }
@@ -65,14 +61,12 @@ pub(crate) fn drain_jobs<D: Desk>(
     now: u64,
     most: u64,
 ) -> LineReply
-    requires given { AreGiven (D.mine (D.state desk.old)) held.old }
     ensures { IsCall D.Steps
         (point (D.state desk.old) held.old) now (asks.Drain (min most (MOST_HELD - length held.old)))
         (replies_of result held.new) (point (D.state desk.new) held.new) }
 {
     let free = held.free();
-    let max = most.min(free as u64) as usize;
-    match held.drain(desk, now, max) {
+    match held.drain(desk, now, most.min(free as u64)) {
         Ok(()) => LineReply::Drained((free - held.free()) as u64),
         Err(fault) => fault_line(fault),
     }
@@ -81,8 +75,7 @@ pub(crate) fn drain_jobs<D: Desk>(
 // Holds what was fetched, and gives its line.
 #[inline(always)]
 fn hold(held: &mut HeldJobs, fetched: Result<Option<Job>, DeskFault>) -> LineReply
-    requires few { length held.old < MOST_HELD }
-    requires fresh { AreNew held.old (fetched_by (answer_with fetched)) }
+    requires { length held.old < MOST_HELD }
     ensures { IsHolding held.old (answer_with fetched) result held.new }
 {
     match fetched {

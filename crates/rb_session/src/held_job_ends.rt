@@ -18,13 +18,11 @@ pub(crate) fn finish_job(held: &mut HeldJobs, id: u64) -> LineReply
         ((result ≡ lines.Err words.NotHeld) × (held.new ≡ held.old))
         (λ place. (result ≡ lines.Done id) × (held.new ≡ remove held.old place)) }
 {
-    match held.take_out(id) {
-        Some(job) => {
-            done(job);
-            LineReply::Done(id)
-        }
-        None => LineReply::Err(ErrWord::NotHeld),
-    }
+    let Some(place) = held.place_of(id) else {
+        return LineReply::Err(ErrWord::NotHeld);
+    };
+    done(held.take_out(place));
+    LineReply::Done(id)
 }
 
 /// Lets the job of this id fail now, if it is held. If its next attempt is refused, it stays held,
@@ -42,16 +40,19 @@ pub(crate) fn fail_job<D: Desk>(
         (λ place. IsFailure (desk_rules D.Desk policy.now) (point (D.state desk.old) held.old) now place
         (replies_of result held.new) (point (D.state desk.new) held.new)) }
 {
-    let Some(failed) = held.fail(desk, policy, now, id) else {
+    let Some(place) = held.place_of(id) else {
         return LineReply::Err(ErrWord::NotHeld);
     };
-    match failed {
+    match fail(desk, policy, held.take_out(place), now) {
         Ok(Verdict::Again(again)) => LineReply::Again {
             id: again.id,
             expiry: again.expiry,
         },
         Ok(Verdict::Dead(dead)) => LineReply::Dead(dead.id),
-        Err(fault) => LineReply::Err(refusal_word(fault)),
+        Err((job, fault)) => {
+            held.put_back(place, job);
+            LineReply::Err(refusal_word(fault))
+        }
     }
 }
 

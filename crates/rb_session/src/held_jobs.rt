@@ -1,52 +1,40 @@
-ghost use Rattle.std.specs.Prelude.{◌≡◌, ◌+◌, ◌-◌, ◌<◌, ◌≤◌, ◌∷◌, ◌++◌, [], List, Option, Some, None, Ok, Err};
-ghost use Rattle.std.specs.Prelude.{length, drop, remove, slice_get, MatchOption, IfOk, MatchResult};
+ghost use Rattle.std.specs.Prelude.{◌≡◌, ℕ, ◌+◌, ◌-◌, ◌<◌, ◌≤◌, ◌∷◌, ◌++◌, [], List, Ok, Err};
+ghost use Rattle.std.specs.Prelude.{length, drop, insert, remove, slice_get, IfOk, MatchResult, Some};
 ghost use Rattle.rb_delayed.specs.declared.element.Element.{Element};
 ghost use Rattle.rb_queue.specs.declared.ask.Ask.TheVariants as asks;
 ghost use Rattle.rb_queue.specs.declared.reply.Reply.TheVariants as replies;
-ghost use Rattle.rb_retry.specs.DeskRules.{desk_rules};
-ghost use Rattle.rb_session.specs.Held.{place_of, AreGiven, AreNew};
-ghost use Rattle.rb_session.specs.JobMap.{present};
-ghost use Rattle.rb_session.specs.Progress.{FailsAt};
+ghost use Rattle.rb_session.specs.Held.{place_of};
 
-use crate::job_map::JobMap;
-use rb_kept::CallFault;
-use rb_retry::{Desk, DeskFault, Job, Policy, Verdict, drain, fail};
+use rb_retry::{Desk, DeskFault, Job, drain};
 use std::alloc::{AllocError, Global};
 use std::marker::Model;
 
 /// The greatest number of jobs that a session holds.
 pub const MOST_HELD: usize = 64;
 
-/// The jobs that a session holds, by id, in the order of their fetches, at most 64.
+/// The jobs that a session holds, in the order of their fetches, at most 64. Contracts see the elements.
 ///
-/// The room for all of them is taken at once, so no fetch can want memory for its job. Contracts
-/// see the elements.
+/// The room for all of them is taken at once, so no fetch can want memory for its job. A job is found by
+/// a walk over those before it, and when it ends, those behind it move up.
 #[derive(Drop)]
 pub(crate) struct HeldJobs {
-    jobs: JobMap,
-    // How many there are. There are empty entries too.
-    count: usize,
-    // Empty between calls, with room for all jobs.
-    aside: Vec<Job>,
+    jobs: Vec<Job>,
 }
 
 impl Model for HeldJobs {
-    ghost use Rattle.std.specs.Prelude.{◌≡◌, ◌≤◌, List, [], length, vec_capacity};
+    ghost use Rattle.std.specs.Prelude.{◌≤◌, List, length, vec_capacity};
     ghost use Rattle.rb_delayed.specs.declared.element.Element.{Element};
     ghost use Rattle.std.specs.Coded.{coded_list};
     ghost use Rattle.rb_delayed.specs.contracts.element.Element.{the_row};
-    ghost use Rattle.rb_session.specs.JobMap.{held_in, IsRoomy};
     ghost use Rattle.rb_session.specs.declared.held_jobs.TheConstants.{MOST_HELD};
 
     ghost Value = { List Element };
 
     ghost coded = { coded_list the_row.coded };
 
-    ghost view = { λ held. held_in held.jobs };
+    ghost view = { λ held. held.jobs.items };
 
-    ghost invariant = { λ held. IsRoomy held.jobs
-        × (held.count ≡ length (held_in held.jobs)) × (held.count ≤ MOST_HELD)
-        × (held.aside.items ≡ []) × (MOST_HELD ≤ vec_capacity held.aside) };
+    ghost invariant = { λ held. (length held.jobs.items ≤ MOST_HELD) × (MOST_HELD ≤ vec_capacity held.jobs) };
 }
 
 impl HeldJobs {
@@ -54,13 +42,8 @@ impl HeldJobs {
     pub(crate) fn new(alloc: Global) -> Result<Self, AllocError>
         ensures { IfOk result (λ held. held ≡ []) }
     {
-        let jobs = JobMap::new(alloc)?;
-        let aside = Vec::with_capacity(alloc, MOST_HELD)?;
-        Ok(HeldJobs {
-            jobs,
-            count: 0,
-            aside,
-        })
+        let jobs = Vec::with_capacity(alloc, MOST_HELD)?;
+        Ok(HeldJobs { jobs })
     }
 
     /// How many more may be held.
@@ -68,68 +51,50 @@ impl HeldJobs {
         ensures free { result ≡ MOST_HELD - length self.now }
         ensures few { length self.now ≤ MOST_HELD }
     {
-        MOST_HELD - self.count
+        MOST_HELD - self.jobs.len()
     }
 
-    /// The entries of the last `count` jobs that were fetched, in their order, or of all if there
-    /// are fewer. Empty ones may lie between.
-    pub(crate) fn last(&self, count: usize) -> &[Option<Job>]
-        ensures { present result.now ≡ drop (length self.now - count) self.now }
+    /// The last `count` jobs that were fetched, in their order, or all if there are fewer.
+    pub(crate) fn last(&self, count: usize) -> &[Job]
+        ensures { result.now ≡ drop (length self.now - count) self.now }
     {
-        self.jobs.last(count)
+        &self.jobs[self.jobs.len().saturating_sub(count)..]
     }
 
-    /// Holds a job after the others. Its id is not held.
+    /// The place of the job of this id, if it is held.
+    pub(crate) fn place_of(&self, id: u64) -> Option<usize>
+        ensures { result ≡ place_of self.now id }
+    {
+        self.jobs.iter().position(|job| job.element().id == id)
+    }
+
+    /// Holds a job after the others.
     #[inline(always)]
     pub(crate) fn hold(&mut self, job: Job)
-        requires few { length self.old < MOST_HELD }
-        requires fresh { AreNew self.old (job ∷ []) }
+        requires { length self.old < MOST_HELD }
         ensures { self.new ≡ self.old ++ job ∷ [] }
     {
-        self.jobs.make_room(&mut self.aside, 1);
-        self.jobs.hold(job);
-        self.count += 1;
+        self.jobs.push_reserved(job);
     }
 
-    /// Takes out the job of this id, if it is held.
+    /// Takes out the job at this place.
     #[inline(always)]
-    pub(crate) fn take_out(&mut self, id: u64) -> Option<Job>
-        ensures { MatchOption (place_of self.old id)
-            ((result ≡ None) × (self.new ≡ self.old))
-            (λ place. (element : Element) × (result ≡ Some element) × (slice_get self.old place ≡ Some element)
-            × (self.new ≡ remove self.old place)) }
+    pub(crate) fn take_out(&mut self, place: usize) -> Job
+        requires { place < length self.old }
+        ensures job { slice_get self.old place ≡ Some result }
+        ensures rest { self.new ≡ remove self.old place }
+        ensures few { length self.new < MOST_HELD }
     {
-        let job = self.jobs.entries.get_mut(&id)?.take()?;
-        self.count -= 1;
-        Some(job)
+        self.jobs.remove(place)
     }
 
-    /// Lets the job of this id fail, if it is held. If its next attempt is refused, it stays held,
-    /// in its place.
-    pub(crate) fn fail<D: Desk>(
-        &mut self,
-        desk: &mut D,
-        policy: &Policy,
-        now: u64,
-        id: u64,
-    ) -> Option<Result<Verdict, CallFault>>
-        ensures { MatchOption (place_of self.old id)
-            ((result ≡ None) × (self.new ≡ self.old) × (D.state desk.new ≡ D.state desk.old))
-            (λ place. FailsAt (desk_rules D.Desk policy.now)
-            self.old place now (D.state desk.old) result self.new (D.state desk.new)) }
+    /// Puts a job back to the place from which it was taken out.
+    pub(crate) fn put_back(&mut self, place: usize, job: Job)
+        requires within { place ≤ length self.old }
+        requires few { length self.old < MOST_HELD }
+        ensures { self.new ≡ insert self.old place job }
     {
-        let entry = self.jobs.entries.get_mut(&id)?;
-        let job = entry.take()?;
-        match fail(desk, policy, job, now) {
-            Ok(verdict) => {
-                self.count -= 1;
-                Some(Ok(verdict))
-            }
-            Err((job, fault)) => {
-                *entry = Some(job);
-                Some(Err(fault))
-            }
-        }
+        self.jobs.insert(place, job).unwrap();
     }
 
     /// Fetches at most `max` expired elements, and holds them after the others.
@@ -137,21 +102,16 @@ impl HeldJobs {
         &mut self,
         desk: &mut D,
         asked: u64,
-        max: usize,
+        max: u64,
     ) -> Result<(), DeskFault>
         requires few { length self.old + max ≤ MOST_HELD }
-        requires given { AreGiven (D.mine (D.state desk.old)) self.old }
         ensures { MatchResult result
             (λ _. (items : List Element) × (self.new ≡ self.old ++ items)
             × D.Steps (D.state desk.old) asked (asks.Drain max) (Ok (replies.Drained items)) (D.state desk.new))
             (λ fault. (self.new ≡ self.old)
             × D.Steps (D.state desk.old) asked (asks.Drain max) (Err fault) (D.state desk.new)) }
     {
-        self.jobs.make_room(&mut self.aside, max);
-        drain(desk, asked, max as u64, &mut self.aside)?;
-        self.count += self.aside.len();
-        self.jobs.hold_all(&mut self.aside);
-        Ok(())
+        drain(desk, asked, max, &mut self.jobs)
     }
 
     /// The jobs as a vector, in the order of their fetches.
@@ -159,12 +119,6 @@ impl HeldJobs {
         ensures jobs { result.items ≡ self }
         ensures few { length self ≤ MOST_HELD }
     {
-        let HeldJobs {
-            mut jobs,
-            mut aside,
-            ..
-        } = self;
-        jobs.take_all(&mut aside);
-        aside
+        self.jobs
     }
 }

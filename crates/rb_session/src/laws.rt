@@ -5,7 +5,6 @@ ghost use Rattle.rb_session.specs.Events.{MakesByLines, MakesByClosing, HoldsOnc
 ghost use Rattle.rb_session.specs.Events.{RecordsByLines, RecordsByClosing};
 ghost use Rattle.rb_session.specs.declared.delivery.TheConstants.{GATHERED_BYTES};
 ghost use Rattle.rb_session.specs.declared.held_jobs.TheConstants.{MOST_HELD};
-ghost use Rattle.rb_session.specs.declared.job_map.TheConstants.{MOST_ENTRIES};
 
 use rb_retry::{Desk, KeptDesk};
 use rb_timer::Timer;
@@ -43,10 +42,9 @@ pub fn history_of_session<'a, T: Timer + 'a>()
     ensures closing { RecordsByClosing (desk_rules ⟦<KeptDesk<'a, T> as Desk>⟧) }
 {}
 
-/// How many jobs a session holds at most, for how many it has entries, and how many bytes of
-/// replies it gathers. All other clauses name the constants.
+/// How many jobs a session holds at most, and how many bytes of replies it gathers. All other clauses name
+/// the constants.
 pub fn session_limits_have_their_values()
     ensures held { MOST_HELD ≡ 64 }
-    ensures entries { MOST_ENTRIES ≡ 128 }
     ensures gathered { GATHERED_BYTES ≡ 65536 }
 {}

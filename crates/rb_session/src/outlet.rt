@@ -1,11 +1,14 @@
-ghost use Rattle.std.specs.Prelude.{◌≡◌, ◌≤◌, ◌+◌, [], OnOk, OnErr, drop, vec_len, vec_capacity};
+ghost use Rattle.std.specs.Prelude.{◌≡◌, ◌<◌, ◌≤◌, ◌+◌, [], OnOk, OnErr, drop, vec_len, vec_capacity};
 ghost use Rattle.std.specs.Io.KnownBytes.{Keeps};
+ghost use Rattle.rb_protocol.specs.ReplyText.{text_of};
 ghost use Rattle.rb_protocol.specs.Sending.{Sends};
 ghost use Rattle.rb_session.specs.Rules.{most_held_back, IsGathered, WritesBeforeWaits};
+ghost use Rattle.rb_session.specs.Turn.{AsksToWait};
 
 use crate::delivery::Delivery;
 use crate::hands_on::HandsOn;
-use rb_protocol::{WriteFault, flush, send_at_once, send_line, write_out};
+use rb_protocol::{LineFault, LineReply, ReplyLine, Request, WriteFault};
+use rb_protocol::{flush, send_line, write_out};
 use std::io::Write;
 
 /// Where the replies of a session go: to a writer, each when its request is served or, if they are
@@ -48,17 +51,25 @@ impl<'a, W: Write> Outlet<'a, W> {
         writer
     }
 
-    /// Sends a line, in one piece.
+    /// Sends a reply's line in one piece: gathers it or, if there is no room for it behind what is handed on
+    /// then, writes it.
     ///
     /// After an `Err` the first bytes of the line were sent, perhaps none.
-    pub(crate) fn send(&mut self, line: &[u8]) -> Result<(), WriteFault>
-        ensures sent { Sends result (sent_to W.Write self.old) line.now (sent_to W.Write self.new) }
+    pub(crate) fn send(&mut self, reply: &LineReply) -> Result<(), WriteFault>
+        ensures sent { Sends result (sent_to W.Write self.old) (text_of reply.now) (sent_to W.Write self.new) }
         ensures becomes { Becomes W.Write self.old self.new }
     {
-        match self.delivery {
-            Delivery::AtOnce => send_line(self.writer, line),
-            Delivery::Gathered(_) => self.gather(line),
+        let mut text = ReplyLine::new();
+        reply.write_to(&mut text);
+        let line = text.as_bytes();
+        if line.len() > self.room() {
+            self.hand_on()?;
+            if line.len() > self.room() {
+                return send_line(self.writer, line);
+            }
         }
+        self.gathered.extend_from_slice(line).unwrap();
+        Ok(())
     }
 
     /// The replies to a request have been sent: what is not gathered is flushed.
@@ -72,16 +83,22 @@ impl<'a, W: Write> Outlet<'a, W> {
         }
     }
 
-    /// A request that may wait is served next: hands on what is held back, unless that is for reads alone.
-    pub(crate) fn before_wait(&mut self) -> Result<(), WriteFault>
+    /// A line is served next: hands on what is held back if its request may wait, unless that is for reads
+    /// alone.
+    pub(crate) fn before_line(
+        &mut self,
+        reading: &Result<Request, LineFault>,
+    ) -> Result<(), WriteFault>
         ensures kept { Keeps (sent_to W.Write self.old) (sent_to W.Write self.new) }
-        ensures clear { OnOk result (WritesBeforeWaits self.old.delivery → self.new.gathered.items ≡ []) }
+        ensures clear { OnOk result
+            (AsksToWait reading.now → WritesBeforeWaits self.old.delivery → self.new.gathered.items ≡ []) }
         ensures late { OnErr result (IsGathered self.old.delivery) }
         ensures becomes { Becomes W.Write self.old self.new }
     {
-        match self.delivery {
-            Delivery::Gathered(HandsOn::BeforeReads) => Ok(()),
-            _ => self.hand_on(),
+        match (self.delivery, reading) {
+            (Delivery::Gathered(HandsOn::BeforeReads), _) => Ok(()),
+            (_, Ok(Request::Take | Request::PollFor(_))) => self.hand_on(),
+            _ => Ok(()),
         }
     }
 
@@ -89,7 +106,7 @@ impl<'a, W: Write> Outlet<'a, W> {
     pub(crate) fn hand_on(&mut self) -> Result<(), WriteFault>
         ensures kept { Keeps (sent_to W.Write self.old) (sent_to W.Write self.new) }
         ensures clear { OnOk result (self.new.gathered.items ≡ []) }
-        ensures late { OnErr result (IsGathered self.old.delivery) }
+        ensures late { OnErr result (0 < vec_len self.old.gathered) }
         ensures becomes { Becomes W.Write self.old self.new }
     {
         if self.gathered.is_empty() {
@@ -101,21 +118,6 @@ impl<'a, W: Write> Outlet<'a, W> {
             return Err(WriteFault);
         }
         flush(self.writer)
-    }
-
-    // Gathers a line, or sends it at once where there is no room for it behind what is handed on then.
-    fn gather(&mut self, line: &[u8]) -> Result<(), WriteFault>
-        ensures sent { Sends result (sent_to W.Write self.old) line.now (sent_to W.Write self.new) }
-        ensures becomes { Becomes W.Write self.old self.new }
-    {
-        if line.len() > self.room() {
-            self.hand_on()?;
-            if line.len() > self.room() {
-                return send_at_once(self.writer, line);
-            }
-        }
-        self.gathered.extend_from_slice(line).unwrap();
-        Ok(())
     }
 
     // How many bytes can still be gathered.

@@ -15,7 +15,7 @@ use crate::outlet::Outlet;
 use crate::session::Session;
 use crate::session_fault::SessionFault;
 use crate::stop::Stop;
-use rb_protocol::LimitedReader;
+use rb_protocol::{LimitedReader, WriteFault};
 use rb_retry::{Desk, Policy};
 use std::alloc::Global;
 use std::io::{Read, Write};
@@ -85,22 +85,22 @@ pub fn run_limited<R: Read, W: Write, D: Desk>(
         return Err(SessionFault::Memory);
     };
     let mut outlet = Outlet::new(writer, room, delivery);
-    let stop = session.serve(reader, &mut outlet, desk, policy);
+    let stopped = session.serve(reader, &mut outlet, desk, policy);
     let lost = fail_all(desk, policy, session.held);
     // For the proof: what the writer has got.
     let _ = &*outlet.into_writer();
-    end_of(stop, lost)
+    end_of(stopped, lost)
 }
 
 // How the session ended, with the number of jobs that were lost at its end.
-fn end_of(stop: Stop, lost: u64) -> Result<Ended, SessionFault>
-    ensures { result ≡ end_of stop lost }
+fn end_of(stopped: Result<Stop, WriteFault>, lost: u64) -> Result<Ended, SessionFault>
+    ensures { result ≡ end_of stopped lost }
 {
-    match stop {
-        Stop::Quit => Ok(Ended::Quit { lost }),
-        Stop::EndOfInput => Ok(Ended::EndOfInput { lost }),
-        Stop::Read => Err(SessionFault::Read { lost }),
-        Stop::Write => Err(SessionFault::Write { lost }),
-        Stop::ReadTurns => Err(SessionFault::ReadTurns { lost }),
+    match stopped {
+        Ok(Stop::Quit) => Ok(Ended::Quit { lost }),
+        Ok(Stop::EndOfInput) => Ok(Ended::EndOfInput { lost }),
+        Ok(Stop::Read) => Err(SessionFault::Read { lost }),
+        Ok(Stop::ReadTurns) => Err(SessionFault::ReadTurns { lost }),
+        Err(WriteFault) => Err(SessionFault::Write { lost }),
     }
 }

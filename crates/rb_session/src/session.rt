@@ -1,14 +1,16 @@
-ghost use Rattle.std.specs.Prelude.{◌≡◌, ◌≤◌, ◌↔◌, ℕ, List, [], Ok, IfOk, IfNone, OnOk, OnErr, IsTrue};
-ghost use Rattle.std.specs.Io.KnownBytes.{Appends, IsAtEnd, Keeps};
+ghost use Rattle.std.specs.Prelude.{◌≡◌, ◌≤◌, ◌+◌, ◌↔◌, ℕ, List, [], Ok, Some, None, IfOk, OnOk};
+ghost use Rattle.std.specs.Prelude.{IsTrue, MatchOption, MatchResult};
+ghost use Rattle.std.specs.Io.KnownBytes.{IsAtEnd};
 ghost use Rattle.rb_retry.specs.DeskRules.{desk_rules};
-ghost use Rattle.rb_protocol.specs.declared.request.Request.TheVariants.{Quit};
+ghost use Rattle.rb_protocol.specs.Line.{HasNoLineFeed};
+ghost use Rattle.rb_protocol.specs.Reads.{HasNotFailed};
 ghost use Rattle.rb_session.specs.Buffer.{IsUnserved};
-ghost use Rattle.rb_session.specs.Held.{AreGiven};
 ghost use Rattle.rb_session.specs.Outlet.{sent_to, rules_at, Becomes};
-ghost use Rattle.rb_session.specs.Rules.{IsGathered, WritesBeforeWaits};
-ghost use Rattle.rb_session.specs.Turn.{point, AsksToWait};
+ghost use Rattle.rb_protocol.specs.declared.request.Request.TheVariants.{Quit};
+ghost use Rattle.rb_session.specs.Turn.{point};
 ghost use Rattle.rb_session.specs.Exchange.{Exchanges};
-ghost use Rattle.rb_session.specs.Progress.{ServesLines, AnswersEnd, Stops, IsClearAt, IsReasonToStop};
+ghost use Rattle.rb_session.specs.Reasons.{IsReason};
+ghost use Rattle.rb_session.specs.Progress.{ReadsOn, Stops, end_of};
 
 use crate::answer::answer;
 use crate::held_jobs::HeldJobs;
@@ -41,123 +43,88 @@ impl Session {
         })
     }
 
-    /// Serves what is read until something stops it, and then hands on what is held back. A read is
-    /// made with nothing held back, and a write that failed is not tried again.
+    /// Serves line after line, and reads more when no whole line is left, until something stops it. Then
+    /// nothing is held back.
+    ///
+    /// `Err` means that a reply could not be sent, or that what is held back could not be handed on.
     pub(crate) fn serve<R: Read, W: Write, D: Desk>(
         &mut self,
         reader: &mut LimitedReader<'_, R>,
         outlet: &mut Outlet<'_, W>,
         desk: &mut D,
         policy: &Policy,
-    ) -> Stop
+    ) -> Result<Stop, WriteFault>
         requires fresh { IsUnserved self.old.buffer [] }
-        requires given { AreGiven (D.mine (D.state desk.old)) self.old.held }
         ensures stops { Exchanges
             (R.remaining reader.old.inner.now) (R.remaining reader.new.inner.now)
             (sent_to W.Write outlet.old) (sent_to W.Write outlet.new)
             (λ came sent. Stops (rules_at (desk_rules D.Desk policy.now) W.Write outlet.old)
             (IsAtEnd (R.remaining reader.new.inner.now)) (point (D.state desk.old) self.old.held)
             came sent result (point (D.state desk.new) self.new.held)) }
-        ensures reason { IsReasonToStop reader.old.state reader.new (outlet.new.gathered.items ≡ []) result }
+        ensures reason { IsReason reader.old.state reader.new (end_of result 0) }
         ensures counted { reader.new.left ≤ reader.old.left }
         ensures same_reference { reader.new.inner.ghost_name ≡ reader.old.inner.ghost_name }
-        ensures clear { IsClearAt (outlet.new.gathered.items ≡ []) result }
+        ensures clear { OnOk result (outlet.new.gathered.items ≡ []) }
         ensures becomes { Becomes W.Write outlet.old outlet.new }
     {
-        let stop = self.serve_reads(reader, outlet, desk, policy);
-        match stop {
-            Stop::Read | Stop::Write => stop,
-            _ => match outlet.hand_on() {
-                Ok(()) => stop,
-                Err(WriteFault) => Stop::Write,
-            },
-        }
-    }
-
-    // Serves what is read until something stops it. Nothing is held back while a read is made.
-    fn serve_reads<R: Read, W: Write, D: Desk>(
-        &mut self,
-        reader: &mut LimitedReader<'_, R>,
-        outlet: &mut Outlet<'_, W>,
-        desk: &mut D,
-        policy: &Policy,
-    ) -> Stop
-        requires fresh { IsUnserved self.old.buffer [] }
-        requires given { AreGiven (D.mine (D.state desk.old)) self.old.held }
-        ensures stops { Exchanges
-            (R.remaining reader.old.inner.now) (R.remaining reader.new.inner.now)
-            (sent_to W.Write outlet.old) (sent_to W.Write outlet.new)
-            (λ came sent. Stops (rules_at (desk_rules D.Desk policy.now) W.Write outlet.old)
-            (IsAtEnd (R.remaining reader.new.inner.now)) (point (D.state desk.old) self.old.held)
-            came sent result (point (D.state desk.new) self.new.held)) }
-        ensures reason { IsReasonToStop reader.old.state reader.new (outlet.new.gathered.items ≡ []) result }
-        ensures counted { reader.new.left ≤ reader.old.left }
-        ensures same_reference { reader.new.inner.ghost_name ≡ reader.old.inner.ghost_name }
-        ensures becomes { Becomes W.Write outlet.old outlet.new }
-    {
-        while reader.may_read() {
-            if outlet.hand_on().is_err() {
-                return Stop::Write;
-            }
-            match self.buffer.read_from(reader, outlet) {
-                Ok(0) => return finish(&self.buffer, outlet, &self.held),
-                Ok(_) => {}
-                Err(error) if error.kind() == ErrorKind::Interrupted => continue,
-                Err(_) => return Stop::Read,
-            }
-            if let Some(stop) = self.serve_lines(outlet, desk, policy) {
-                return stop;
-            }
-        }
-        Stop::ReadTurns
-    }
-
-    // Serves each whole line of the buffer, until one stops the session.
-    fn serve_lines<W: Write, D: Desk>(
-        &mut self,
-        outlet: &mut Outlet<'_, W>,
-        desk: &mut D,
-        policy: &Policy,
-    ) -> Option<Stop>
-        requires given { AreGiven (D.mine (D.state desk.old)) self.old.held }
-        ensures served { (bytes : List ℕ) → IsUnserved self.old.buffer bytes
-            → (sent : List ℕ) × Appends (sent_to W.Write outlet.old) (sent_to W.Write outlet.new) sent
-            × ServesLines (rules_at (desk_rules D.Desk policy.now) W.Write outlet.old)
-            (point (D.state desk.old) self.old.held) bytes sent result
-            self.new.buffer (point (D.state desk.new) self.new.held) }
-        ensures given { IfNone result (AreGiven (D.mine (D.state desk.new)) self.new.held) }
-        ensures becomes { Becomes W.Write outlet.old outlet.new }
-    {
-        while let Some(reading) = self.buffer.next_request() {
-            if clear_for_wait(outlet, &reading).is_err() {
-                return Some(Stop::Write);
-            }
+        loop {
+            let Some(reading) = self.buffer.next_request() else {
+                match read_more(&mut self.buffer, reader, outlet)? {
+                    Some(stop) => {
+                        outlet.hand_on()?;
+                        return Ok(stop);
+                    }
+                    None => continue,
+                }
+            };
+            outlet.before_line(&reading)?;
             let quits = is_quit(&reading);
-            let reply = answer(outlet, desk, &mut self.held, policy, reading);
-            if send_replies(outlet, &reply, &self.held).is_err() {
-                return Some(Stop::Write);
-            }
+            let reply = answer(desk, &mut self.held, policy, reading);
+            send_replies(outlet, &reply, &self.held)?;
             if quits {
-                return Some(Stop::Quit);
+                outlet.hand_on()?;
+                return Ok(Stop::Quit);
             }
         }
-        None
     }
 }
 
-// Tells the outlet if the line's request may wait.
-fn clear_for_wait<W: Write>(
+// Reads once, with nothing held back. At the end of the input, bytes that no line feed ends are answered.
+fn read_more<R: Read, W: Write>(
+    buffer: &mut LineBuffer,
+    reader: &mut LimitedReader<'_, R>,
     outlet: &mut Outlet<'_, W>,
-    reading: &Result<Request, LineFault>,
-) -> Result<(), WriteFault>
-    ensures kept { Keeps (sent_to W.Write outlet.old) (sent_to W.Write outlet.new) }
-    ensures clear { OnOk result (AsksToWait reading.now → WritesBeforeWaits outlet.old.delivery → outlet.new.gathered.items ≡ []) }
-    ensures late { OnErr result (IsGathered outlet.old.delivery) }
+) -> Result<Option<Stop>, WriteFault>
+    ensures came { (bytes : List ℕ) → IsUnserved buffer.old bytes → HasNoLineFeed bytes → Exchanges
+        (R.remaining reader.old.inner.now) (R.remaining reader.new.inner.now)
+        (sent_to W.Write outlet.old) (sent_to W.Write outlet.new)
+        (λ more sent. ReadsOn outlet.old.delivery (IsAtEnd (R.remaining reader.new.inner.now))
+        bytes more sent result buffer.new) }
+    ensures reason { MatchResult result
+        (λ read. MatchOption read (HasNotFailed reader.old.state reader.new.state)
+        (λ stop. IsReason reader.old.state reader.new (end_of (Ok stop) 0)))
+        (λ _. HasNotFailed reader.old.state reader.new.state) }
+    ensures counted { reader.new.left ≤ reader.old.left }
+    ensures fewer { (result ≡ Ok None) → reader.new.left + 1 ≡ reader.old.left }
+    ensures same_reference { reader.new.inner.ghost_name ≡ reader.old.inner.ghost_name }
+    ensures clear { (result ≡ Ok (Some Stop.Read)) → outlet.new.gathered.items ≡ [] }
     ensures becomes { Becomes W.Write outlet.old outlet.new }
 {
-    match reading {
-        Ok(Request::Take | Request::PollFor(_)) => outlet.before_wait(),
-        _ => Ok(()),
+    if !reader.may_read() {
+        return Ok(Some(Stop::ReadTurns));
+    }
+    outlet.hand_on()?;
+    match buffer.read_from(reader, outlet) {
+        Ok(0) => {
+            if buffer.has_rest() {
+                outlet.send(&LineReply::Err(ErrWord::Line))?;
+                outlet.after_replies()?;
+            }
+            Ok(Some(Stop::EndOfInput))
+        }
+        Ok(_) => Ok(None),
+        Err(error) if error.kind() == ErrorKind::Interrupted => Ok(None),
+        Err(_) => Ok(Some(Stop::Read)),
     }
 }
 
@@ -166,20 +133,4 @@ fn is_quit(reading: &Result<Request, LineFault>) -> bool
     ensures { IsTrue result ↔ (reading.now ≡ Ok Quit) }
 {
     matches!(reading, Ok(Request::Quit))
-}
-
-// The input is over: bytes that no line feed ends are answered once.
-fn finish<W: Write>(buffer: &LineBuffer, outlet: &mut Outlet<'_, W>, held: &HeldJobs) -> Stop
-    ensures ends { (bytes : List ℕ) → IsUnserved buffer.now bytes
-        → (sent : List ℕ) × Appends (sent_to W.Write outlet.old) (sent_to W.Write outlet.new) sent
-        × AnswersEnd result bytes sent }
-    ensures becomes { Becomes W.Write outlet.old outlet.new }
-{
-    if buffer.has_rest() {
-        let error = LineReply::Err(ErrWord::Line);
-        if send_replies(outlet, &error, held).is_err() {
-            return Stop::Write;
-        }
-    }
-    Stop::EndOfInput
 }

@@ -7,8 +7,6 @@ pub(crate) enum Stop {
     EndOfInput,
     /// A read failed.
     Read,
-    /// A write or a flush failed, or a write took no byte.
-    Write,
     /// The input had no end within the session's greatest number of reads.
     ReadTurns,
 }

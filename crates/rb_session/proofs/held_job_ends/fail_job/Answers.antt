@@ -1,67 +1,78 @@
--- The job of the id fails where it is held, and its line tells the verdict.
-use Rattle.std.proofs.Common.{◌≡◌, ℕ, List, [], ◌∷◌, Option, Some, None, Result, Ok, Err, refl, sym, ap, ◌∙◌}
+-- The job of the id fails at its place, and its line tells the verdict.
+use Rattle.std.proofs.Common.{◌≡◌, ℕ, List, [], ◌∷◌, ◌++◌, Option, Some, None, Result, Ok, Err, refl, sym, ap, subst, ◌∙◌, zero, suc}
+use Rattle.std.proofs.Common.{insert, remove, slice_get}
 use Rattle.std.specs.Prelude.{MatchOption}
 use Rattle.rb_delayed.specs.declared.element.Element.{Element}
 use Rattle.rb_kept.specs.declared.fault.CallFault.{CallFault}
 use Rattle.rb_protocol.specs.declared.err_word.ErrWord.{ErrWord}
 use Rattle.rb_protocol.specs.declared.line_reply.LineReply.{LineReply}
 use Rattle.rb_protocol.specs.declared.line_reply.LineReply.TheVariants as lines
-use Rattle.rb_retry.specs.DeskRules.{DeskRules, desk_rules}
+use Rattle.rb_retry.specs.DeskRules.{desk_rules}
+use Rattle.rb_retry.specs.Jobs.{FailsTo}
 use Rattle.rb_retry.specs.declared.verdict.Verdict.{Verdict}
 use Rattle.rb_retry.specs.declared.verdict.Verdict.TheVariants.{Again, Dead}
-use Rattle.rb_session.specs.Turn.{point, refusal_word, verdict_line, IsFailure}
-use Rattle.rb_session.specs.Progress.{replies_of, told, FailsAt}
+use Rattle.rb_session.specs.Progress.{replies_of}
+use Rattle.rb_session.proofs.held_job_ends.fail_job.Given.{Over}
 use Rattle.rb_session.proofs.held_job_ends.fail_job.Goals as goal
+use Rattle.rb_session.proofs.held_job_ends.fail_job.Goals.{After-fail}
 
--- the line for what is told of a failure
-abbrev told_line : Result Verdict CallFault → LineReply
-told_line (Ok (Again again)) = lines.Again again.id again.expiry
-told_line (Ok (Dead dead)) = lines.Dead dead.id
-told_line (Err fault) = lines.Err (refusal_word fault)
+-- what holds at the place that there is
+at_place : (place : Option ℕ) (at : ℕ) → place ≡ Some at → (None' : Type 0) (There : ℕ → Type 0) → There at
+    → MatchOption place None' There
+at_place place at is None' There holds = subst (λ (p : Option ℕ). MatchOption p None' There) (sym is) holds
 
-line_told : (result : Result Verdict (Element × CallFault)) → told_line (told result) ≡ verdict_line result
-line_told (Ok (Again again)) = refl
-line_told (Ok (Dead dead)) = refl
-line_told (Err (back, fault)) = refl
+-- an element that is put back to its place
+put_back : (held : List Element) (place : ℕ) (element : Element) → slice_get held place ≡ Some element
+    → insert (remove held place) place element ≡ held
+put_back [] place element there = absurd (cc)
+put_back (first ∷ held) zero element there =
+    let same : element ≡ first = cc in
+    ap (λ (e : Element). e ∷ held) same
+put_back (first ∷ held) (suc place) element there =
+    ap (λ (es : List Element). first ∷ es) (put_back held place element there)
 
-same_told : (one other : Result Verdict CallFault) → Some one ≡ Some other → one ≡ other
-same_told one other same = cc
-
-module _ {S : Type 0} (rules : DeskRules S) (held left : List Element) (now : ℕ) (old new : S) where
-  -- what failed at its place was told so
-  failed_at : (place : Option ℕ) (None' : Type 0) (verdict : Result Verdict CallFault) (replies : List LineReply)
-      → replies ≡ told_line verdict ∷ []
-      → MatchOption place ((Some verdict ≡ None) × (left ≡ held) × (new ≡ old))
-      (λ p. FailsAt rules held p now old (Some verdict) left new)
-      → MatchOption place None' (λ p. IsFailure rules (point old held) now p replies (point new left))
-  failed_at None None' verdict replies are (clash, same, still) = absurd (cc)
-  failed_at (Some p) None' verdict replies are fails = (
-    fails.element,
-    fails.there,
-    fails.result,
-    fails.fails,
-    are ∙ ap (λ (line : LineReply). line ∷ [])
-        (ap told_line (same_told _ _ fails.is_told) ∙ line_told fails.result),
-    fails.held_on,
-  )
+-- how the job failed, by the result
+failed : (g : Over) (c : After-fail g) (result : Result Verdict (Element × CallFault)) → c.fail.result ≡ result
+    → FailsTo (desk_rules g.D.Desk c.args.policy.now) c.take_out.result c.args.now (g.D.Desk.state c.args.desk.now)
+    result (g.D.Desk.state c.fail.new.desk)
+failed g c result is =
+    subst (λ (r : Result Verdict (Element × CallFault)). FailsTo (desk_rules g.D.Desk c.args.policy.now)
+    c.take_out.result c.args.now (g.D.Desk.state c.args.desk.now) r (g.D.Desk.state c.fail.new.desk)) is
+    c.fail.ensures.fails
 
 pub returns-in-Ok-Again : goal.returns-in-Ok-Again
 returns-in-Ok-Again g c =
-    failed_at (desk_rules g.D.Desk c.args.policy.now) c.args.held.now c.fail.new.self c.args.now
-    (g.D.Desk.state c.args.desk.now) (g.D.Desk.state c.fail.new.desk) _ _ c.in-Some.failed _
-    (sym (ap (λ (v : Result Verdict CallFault). told_line v ∷ [])
-    (c.in-Ok-Again.is ∙ ap Ok c.in-Ok-Again.field-0-is))) c.in-Some.ensures
+    at_place _ c.in-Some.place (sym c.place_of.ensures ∙ c.in-Some.is) _ _ (
+      c.take_out.result,
+      c.take_out.ensures.job,
+      Ok (Again c.in-Ok-Again.again),
+      failed g (goal.at.returns-in-Ok-Again g c).After-fail _ (c.in-Ok-Again.is ∙ ap Ok c.in-Ok-Again.field-0-is),
+      refl,
+      c.take_out.ensures.rest,
+    )
 
 pub returns-in-Ok-Dead : goal.returns-in-Ok-Dead
 returns-in-Ok-Dead g c =
-    failed_at (desk_rules g.D.Desk c.args.policy.now) c.args.held.now c.fail.new.self c.args.now
-    (g.D.Desk.state c.args.desk.now) (g.D.Desk.state c.fail.new.desk) _ _ c.in-Some.failed _
-    (sym (ap (λ (v : Result Verdict CallFault). told_line v ∷ [])
-    (c.in-Ok-Dead.is ∙ ap Ok c.in-Ok-Dead.field-0-is))) c.in-Some.ensures
+    at_place _ c.in-Some.place (sym c.place_of.ensures ∙ c.in-Some.is) _ _ (
+      c.take_out.result,
+      c.take_out.ensures.job,
+      Ok (Dead c.in-Ok-Dead.dead),
+      failed g (goal.at.returns-in-Ok-Dead g c).After-fail _ (c.in-Ok-Dead.is ∙ ap Ok c.in-Ok-Dead.field-0-is),
+      refl,
+      c.take_out.ensures.rest,
+    )
 
 pub returns-in-Err : goal.returns-in-Err
 returns-in-Err g c =
-    failed_at (desk_rules g.D.Desk c.args.policy.now) c.args.held.now c.fail.new.self c.args.now
-    (g.D.Desk.state c.args.desk.now) (g.D.Desk.state c.fail.new.desk) _ _ c.in-Some.failed _
-    (ap (λ (word : ErrWord). replies_of (lines.Err word) c.fail.new.self) c.refusal_word.ensures
-    ∙ sym (ap (λ (v : Result Verdict CallFault). told_line v ∷ []) c.in-Err.is)) c.in-Some.ensures
+    let fails = failed g (goal.at.returns-in-Err g c).After-fail _ c.in-Err.is in
+    at_place _ c.in-Some.place (sym c.place_of.ensures ∙ c.in-Some.is) _ _ (
+      c.take_out.result,
+      c.take_out.ensures.job,
+      Err (c.in-Err.job, c.in-Err.fault),
+      fails,
+      ap (λ (word : ErrWord). replies_of (lines.Err word) c.put_back.new.self) c.refusal_word.ensures,
+      c.put_back.ensures
+          ∙ ap (λ (held : List Element). insert held c.in-Some.place c.in-Err.job) c.take_out.ensures.rest
+          ∙ put_back c.args.held.now c.in-Some.place c.in-Err.job
+          (c.take_out.ensures.job ∙ ap Some (sym fails.3)),
+    )

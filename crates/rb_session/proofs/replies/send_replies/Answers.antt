@@ -1,12 +1,144 @@
--- All lines were sent, and the flush keeps what was sent, whether it succeeds or not.
-use Rattle.rb_protocol.proofs.Sending.{sends_all}
+-- The reply's first line is sent, and only behind a drain's come others: the last jobs held.
+use Rattle.std.proofs.Common.{rules, ◌≡◌, ℕ, ◌+◌, ◌-◌, ◌<◌, ◌≤◌, List, [], ◌∷◌, ◌++◌, refl, sym, ap, subst, ◌∙◌, map, take, drop, length}
+use Rattle.std.proofs.Common.{get_or, append_assoc, arith}
+use Rattle.std.proofs.lemmas.List.{take_more, take_all, take-append-drop, map-append, append-nil}
+use Rattle.std.proofs.KnownBytes.{Appends-trans}
+use Rattle.std.specs.Io.KnownBytes.{Appends}
+use Rattle.rb_delayed.specs.declared.element.Element.{Element}
+use Rattle.rb_protocol.specs.ReplyText.{text_of}
+use Rattle.rb_protocol.specs.Sending.{Sends}
+use Rattle.rb_protocol.specs.declared.line_reply.LineReply.{LineReply}
+use Rattle.rb_protocol.specs.declared.line_reply.LineReply.TheVariants as lines
+use Rattle.rb_protocol.proofs.Sending.{sends_all, sends_then, sends_part}
+use Rattle.rb_session.specs.Outlet.{sent_to}
+use Rattle.rb_session.specs.Progress.{replies_of}
+use Rattle.rb_session.specs.Session.{texts_of}
 use Rattle.rb_session.proofs.Gatherings.{goes_on}
+use Rattle.rb_session.proofs.ReplyTexts.{texts_of-append}
 use Rattle.rb_session.proofs.replies.send_replies.Goals as goal
+use Rattle.rb_session.proofs.replies.send_replies.Goals.{in-Drained+else-loop-job-test, in_default}
+
+-- what comes behind the first line of a reply: nothing, if it is not a drain's
+rest_of : (reply : LineReply) (held : List Element) → (rest : List ℕ)
+    × (texts_of (replies_of reply held) ≡ text_of reply ++ rest)
+    × (((count : ℕ) → reply ≡ lines.Drained count → ⊥) → rest ≡ [])
+rest_of (lines.Drained count) held =
+    (texts_of (map lines.Item (drop (length held - count) held)), refl, λ other. absurd (other count refl))
+rest_of (lines.Offered id expiry) held = ([], refl, λ other. refl)
+rest_of (lines.Item element) held = ([], refl, λ other. refl)
+rest_of (lines.Head element) held = ([], refl, λ other. refl)
+rest_of lines.Nothing held = ([], refl, λ other. refl)
+rest_of (lines.Removed found) held = ([], refl, λ other. refl)
+rest_of lines.Cleared held = ([], refl, λ other. refl)
+rest_of (lines.Size count) held = ([], refl, λ other. refl)
+rest_of (lines.Done id) held = ([], refl, λ other. refl)
+rest_of (lines.Again id expiry) held = ([], refl, λ other. refl)
+rest_of (lines.Dead id) held = ([], refl, λ other. refl)
+rest_of (lines.Now moment) held = ([], refl, λ other. refl)
+rest_of lines.Stopped held = ([], refl, λ other. refl)
+rest_of lines.Bye held = ([], refl, λ other. refl)
+rest_of (lines.Err word) held = ([], refl, λ other. refl)
+
+abbrev items_text : List Element → List ℕ
+items_text items = texts_of (map lines.Item items)
+
+-- behind a drain's first line come those of the items
+drained : (reply : LineReply) (held items : List Element) (count : ℕ) → reply ≡ lines.Drained count
+    → items ≡ drop (length held - count) held
+    → texts_of (replies_of reply held) ≡ text_of reply ++ items_text items
+drained reply held items count is last =
+    subst (λ (r : LineReply). texts_of (replies_of r held) ≡ text_of r ++ items_text items) (sym is)
+    (ap (λ (elements : List Element). text_of (lines.Drained count) ++ items_text elements) (sym last))
+
+items_text-append : (one two : List Element) → items_text (one ++ two) ≡ items_text one ++ items_text two
+items_text-append one two =
+    ap texts_of (map-append lines.Item one two) ∙ texts_of-append (map lines.Item one) (map lines.Item two)
+
+module _ (items : List Element) (place : ℕ) (item : Element) (within : place < length items)
+    (is : item ≡ get_or items place item) where
+  -- the text of the first items, and of one more
+  text_more : items_text (take (place + 1) items) ≡ items_text (take place items) ++ text_of (lines.Item item)
+  text_more =
+      ap items_text (take_more items place item within
+      ∙ ap (λ (e : Element). take place items ++ e ∷ []) (sym is))
+      ∙ items_text-append (take place items) (item ∷ [])
+      ∙ ap (λ (t : List ℕ). items_text (take place items) ++ t) (append-nil (text_of (lines.Item item)))
+
+  -- all text is that of the first items, the next one's, and what follows
+  text_split : items_text items ≡ items_text (take place items) ++ (text_of (lines.Item item) ++ items_text
+      (drop (place + 1) items))
+  text_split =
+      sym (ap items_text (take-append-drop (place + 1) items))
+      ∙ items_text-append (take (place + 1) items) (drop (place + 1) items)
+      ∙ ap (λ (t : List ℕ). t ++ items_text (drop (place + 1) items)) text_more
+      ∙ append_assoc (items_text (take place items)) (text_of (lines.Item item))
+      (items_text (drop (place + 1) items))
+
+pub returns-in_err-send-clause-sent : goal.returns-in_err-send-clause-sent
+returns-in_err-send-clause-sent g c =
+    let rest = rest_of c.args.reply.now c.args.held.now in
+    rw rest.1 (sends_part c.from_residual.result _ _ (text_of c.args.reply.now) rest.0 c.from_residual.ensures.0
+    c.in_err-send.ensures.sent)
+
+pub returns-in_err-send-2-clause-sent : goal.returns-in_err-send-2-clause-sent
+returns-in_err-send-2-clause-sent g c =
+    let items = c.last-job-items.result.now in
+    let first = text_of c.args.reply.now in
+    let at = c.loop-job.job-index in
+    let failed = subst (λ (e : Element). (some : List ℕ) × (unsent : List ℕ) × (text_of (lines.Item e) ≡ some ++ unsent)
+    × Appends (sent_to g.W.Write c.loop-job.outlet) (sent_to g.W.Write c.send-in-loop-job.new.self) some)
+    c.element.ensures c.in_err-send-2.ensures.sent in
+    rw (drained c.args.reply.now c.args.held.now items c.in-Drained.count c.in-Drained.is c.last-job-items.ensures
+    ∙ ap (λ (t : List ℕ). first ++ t) (text_split items at c.job-item.result c.loop-job-test.true c.job-item.is)
+    ∙ sym (append_assoc first (items_text (take at items)) _))
+    (sends_then c.from_residual-in_err-send-2.result _ _ _ (first ++ items_text (take at items)) _
+    c.loop-job.invariant.sent
+    (sends_part c.from_residual-in_err-send-2.result _ _ (text_of (lines.Item c.job-item.result)) _
+    c.from_residual-in_err-send-2.ensures.0 failed))
+
+pub returns-in_err-send-2-clause-becomes : goal.returns-in_err-send-2-clause-becomes
+returns-in_err-send-2-clause-becomes g c =
+    goes_on g.W.Write _ _ _ c.loop-job.invariant.becomes c.send-in-loop-job.ensures.becomes
+
+pub loop-job-preserved : goal.loop-job-preserved
+loop-job-preserved g c =
+    let items = c.last-job-items.result.now in
+    let first = text_of c.args.reply.now in
+    let at = c.loop-job.job-index in
+    let more = subst (λ (e : Element). Appends (sent_to g.W.Write c.loop-job.outlet)
+    (sent_to g.W.Write c.send-in-loop-job.new.self) (text_of (lines.Item e))) c.element.ensures
+    c.in_ok-send-2.ensures.sent in record {
+      sent = subst (Appends _ _)
+          (append_assoc first (items_text (take at items)) (text_of (lines.Item c.job-item.result))
+          ∙ ap (λ (t : List ℕ). first ++ t)
+          (sym (text_more items at c.job-item.result c.loop-job-test.true c.job-item.is)))
+          (Appends-trans _ _ _ _ _ c.loop-job.invariant.sent more);
+      becomes = goes_on g.W.Write _ _ _ c.loop-job.invariant.becomes c.send-in-loop-job.ensures.becomes;
+    }
 
 pub returns-clause-sent : goal.returns-clause-sent
-returns-clause-sent g c = sends_all c.after_replies.result _ _ _ _ c.in_ok-send_lines.ensures.sent
-    c.after_replies.ensures.kept
+returns-clause-sent g c = elim c.match-reply.branch [
+  | in-Drained+else-loop-job-test w ↦
+      let items = w.last-job-items.result.now in
+      let first = text_of c.args.reply.now in
+      let all : take w.loop-job.job-index items ≡ items =
+      take_all w.loop-job.job-index items (omega (arith, w.loop-job-test.false)) in
+      let sent = subst (λ (es : List Element). Appends (sent_to g.W.Write c.args.outlet.now)
+      (sent_to g.W.Write w.loop-job.outlet) (first ++ items_text es)) all w.loop-job.invariant.sent in
+      rw (drained c.args.reply.now c.args.held.now items w.in-Drained.count w.in-Drained.is w.last-job-items.ensures)
+      (sends_all c.after_replies.result _ _ _ _ (rw w.outlet-is sent) c.after_replies.ensures.kept)
+  | in_default w ↦
+      let rest = rest_of c.args.reply.now c.args.held.now in
+      let alone = rest.1 ∙ ap (λ (t : List ℕ). text_of c.args.reply.now ++ t) (rest.2 w.in_default.not-Drained)
+      ∙ append-nil (text_of c.args.reply.now) in
+      rw alone (sends_all c.after_replies.result _ _ _ _ (rw w.outlet-is c.in_ok-send.ensures.sent)
+      c.after_replies.ensures.kept)
+]
 
 pub returns-clause-becomes : goal.returns-clause-becomes
-returns-clause-becomes g c =
-    goes_on g.W.Write _ _ _ c.send_lines.ensures.becomes c.after_replies.ensures.becomes
+returns-clause-becomes g c = elim c.match-reply.branch [
+  | in-Drained+else-loop-job-test w ↦
+      goes_on g.W.Write _ _ _ (rw w.outlet-is w.loop-job.invariant.becomes) c.after_replies.ensures.becomes
+  | in_default w ↦
+      goes_on g.W.Write _ _ _ (rw w.outlet-is c.send.ensures.becomes) c.after_replies.ensures.becomes
+]

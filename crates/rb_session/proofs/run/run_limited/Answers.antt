@@ -1,6 +1,8 @@
 -- Wherever the lines stopped, what was held then failed, and what the writer has got and what is held back are the
 -- session's replies, one behind the other.
-use Rattle.std.proofs.Common.{rules, ◌≡◌, ◌≤◌, ℕ, List, [], ◌++◌, Option, Result, Err, refl, sym, ap, subst, ◌∙◌, arith, length}
+use Rattle.std.proofs.Common.{rules, ◌≡◌, ◌≤◌, ℕ, List, [], ◌++◌, Option, Result, Ok, Err, refl, sym, ap, subst, ◌∙◌, arith, length}
+use Rattle.std.specs.Prelude.{OnOk}
+use Rattle.rb_protocol.specs.declared.writing.WriteFault.{WriteFault}
 use Rattle.std.specs.Io.KnownBytes.{Appends, Consumes, IsAtEnd, append_known}
 use Rattle.rb_delayed.specs.declared.element.Element.{Element}
 use Rattle.rb_retry.specs.DeskRules.{DeskRules, desk_rules}
@@ -11,10 +13,12 @@ use Rattle.rb_session.specs.Ran.{RanUntil}
 use Rattle.rb_session.specs.Reasons.{IsReason}
 use Rattle.rb_session.specs.Rules.{SessionRules, session_rules, HadGotBehind, most_held_back}
 use Rattle.rb_session.specs.Turn.{Point, point}
-use Rattle.rb_session.specs.Progress.{Stops, IsClearAt, end_of}
+use Rattle.rb_session.specs.Progress.{Stops, end_of}
 use Rattle.rb_session.specs.declared.delivery.Delivery.{Delivery}
 use Rattle.rb_session.specs.declared.ended.Ended.{Ended}
 use Rattle.rb_session.specs.declared.session_fault.SessionFault.{SessionFault}
+use Rattle.rb_session.specs.declared.ended.Ended.TheVariants as ends
+use Rattle.rb_session.specs.declared.session_fault.SessionFault.TheVariants as faults
 use Rattle.rb_session.specs.declared.stop.Stop.{Stop}
 use Rattle.rb_session.specs.declared.stop.Stop.TheVariants as stops
 use Rattle.rb_session.proofs.Gatherings.{known_at_first, all_sent, is_shared}
@@ -30,40 +34,28 @@ module _ {S : Type 0} (rules : SessionRules S) (Over : Type 0) (from last to : S
     (few : length gathered ≤ most_held_back rules.delivery) (grows : KeepsFront old new)
     (all : Appends (append_known old before) (append_known new gathered) passed) where
   -- where the lines stopped, what was held failed
-  ran : (stop : Stop) → IsClearAt (gathered ≡ []) stop
-      → Stops rules Over (point from []) came passed stop (point last held)
+  all_came : (ended : Result Ended SessionFault) → gathered ≡ []
+      → RanUntil rules Over from (record { came = came; sent = passed; ended = ended }) ended to
       → Exchanges left left' old new
-      (λ came sent. RanUntil rules Over from (record { came = came; sent = sent; ended = end_of stop lost })
-      (end_of stop lost) to)
-  ran stops.Quit clear stopped = record {
+      (λ came sent. RanUntil rules Over from (record { came = came; sent = sent; ended = ended }) ended to)
+  all_came ended clear ran = record {
     came = came;
     sent = passed;
     consumed = read;
     appended = all_sent old new before gathered passed empty clear all;
-    holds = (point last held, stopped, closes);
+    holds = ran;
   }
-  ran stops.EndOfInput clear stopped = record {
-    came = came;
-    sent = passed;
-    consumed = read;
-    appended = all_sent old new before gathered passed empty clear all;
-    holds = (point last held, stopped, closes);
-  }
-  ran stops.Read clear stopped = record {
-    came = came;
-    sent = passed;
-    consumed = read;
-    appended = all_sent old new before gathered passed empty clear all;
-    holds = (point last held, stopped, closes);
-  }
-  ran stops.ReadTurns clear stopped = record {
-    came = came;
-    sent = passed;
-    consumed = read;
-    appended = all_sent old new before gathered passed empty clear all;
-    holds = (point last held, stopped, closes);
-  }
-  ran stops.Write clear stopped =
+
+  ran : (stopped : Result Stop WriteFault) → OnOk stopped (gathered ≡ [])
+      → Stops rules Over (point from []) came passed stopped (point last held)
+      → Exchanges left left' old new
+      (λ came sent. RanUntil rules Over from (record { came = came; sent = sent; ended = end_of stopped lost })
+      (end_of stopped lost) to)
+  ran (Ok stops.Quit) clear stopped = all_came (Ok (ends.Quit lost)) clear (point last held, stopped, closes)
+  ran (Ok stops.EndOfInput) clear stopped = all_came (Ok (ends.EndOfInput lost)) clear (point last held, stopped, closes)
+  ran (Ok stops.Read) clear stopped = all_came (Err (faults.Read lost)) clear (point last held, stopped, closes)
+  ran (Ok stops.ReadTurns) clear stopped = all_came (Err (faults.ReadTurns lost)) clear (point last held, stopped, closes)
+  ran (Err fault) clear stopped =
       let shared = is_shared old new (most_held_back rules.delivery) before gathered passed empty few grows all in record {
         came = came;
         sent = shared.sent;
@@ -84,7 +76,7 @@ module _ {S : Type 0} (rules : SessionRules S) (Over : Type 0) (from last to : S
 
 -- an outlet that was just made has its caller's delivery, was sent what its writer had got, and nothing is held yet
 stops_by : {S W : Type 0} (desk : DeskRules S) (contents : W → Option (List ℕ)) (Over : Type 0) (from : S)
-    (to : Point S) (came sent : List ℕ) (stop : Stop) (one other : Delivery) → one ≡ other
+    (to : Point S) (came sent : List ℕ) (stop : Result Stop WriteFault) (one other : Delivery) → one ≡ other
     → (got got' : Option (List ℕ)) → got ≡ got' → (held : List Element) → held ≡ []
     → Stops (session_rules desk one (HadGotBehind contents got)) Over (point from held) came sent stop to
     → Stops (session_rules desk other (HadGotBehind contents got')) Over (point from []) came sent stop to
@@ -99,16 +91,16 @@ stops_by desk contents Over from to came sent stop one other same got got' same_
 -- the session from the caller's reader to the caller's writer
 whole : (g : Over) (c : After-end_of g)
     → Exchanges (g.R.Read.remaining c.args.reader.now.inner.now)
-    (g.R.Read.remaining c.serve-stop.new.reader.inner.now) (g.W.Write.contents c.args.writer.now)
-    (g.W.Write.contents c.serve-stop.new.outlet.writer.now) (λ came sent. RanUntil
+    (g.R.Read.remaining c.serve-stopped.new.reader.inner.now) (g.W.Write.contents c.args.writer.now)
+    (g.W.Write.contents c.serve-stopped.new.outlet.writer.now) (λ came sent. RanUntil
     (session_rules (desk_rules g.D.Desk c.args.policy.now) c.args.delivery
     (HadGotBehind g.W.Write.contents (g.W.Write.contents c.args.writer.now)))
-    (IsAtEnd (g.R.Read.remaining c.serve-stop.new.reader.inner.now)) (g.D.Desk.state c.args.desk.now)
+    (IsAtEnd (g.R.Read.remaining c.serve-stopped.new.reader.inner.now)) (g.D.Desk.state c.args.desk.now)
     (record { came = came; sent = sent; ended = c.end_of.result }) c.end_of.result
     (g.D.Desk.state c.fail_all-lost.new.desk))
 whole g c =
     let made = c.new-outlet.ensures in
-    let stop = c.serve-stop in
+    let stop = c.serve-stopped in
     let last = stop.new.outlet in
     let did = stop.ensures.stops in
     let old = g.W.Write.contents c.args.writer.now in
@@ -142,7 +134,7 @@ pub returns-clause-ran : goal.returns-clause-ran
 returns-clause-ran g c =
     let ran = whole g (goal.at.returns-clause-ran g c).After-end_of in
     let back = sym (ap g.W.Write.contents c.into_writer.ensures.same) in
-    let name = sym (c.into_writer.ensures.same_reference ∙ c.serve-stop.ensures.becomes.same_reference ∙ c.new-outlet.ensures.same_reference) in
+    let name = sym (c.into_writer.ensures.same_reference ∙ c.serve-stopped.ensures.becomes.same_reference ∙ c.new-outlet.ensures.same_reference) in
     search rules
 
 -- no call changed what names the desk
@@ -152,12 +144,12 @@ returns-clause-name g c =
     run_keeps (desk_rules g.D.Desk c.args.policy.now) g.D.Desk.name g.met.D.Desk.keeps_name g.met.D.Desk.sets_no_name
     (ends_of (session_rules (desk_rules g.D.Desk c.args.policy.now) c.args.delivery
     (HadGotBehind g.W.Write.contents (g.W.Write.contents c.args.writer.now)))
-    (IsAtEnd (g.R.Read.remaining c.serve-stop.new.reader.inner.now)) (g.D.Desk.state c.args.desk.now)
+    (IsAtEnd (g.R.Read.remaining c.serve-stopped.new.reader.inner.now)) (g.D.Desk.state c.args.desk.now)
     (g.D.Desk.state c.fail_all-lost.new.desk)
     (record { came = ran.came; sent = ran.sent; ended = c.end_of.result }) c.end_of.result ran.holds)
 
 pub returns-clause-reason : goal.returns-clause-reason
 returns-clause-reason g c =
-    subst (λ (r : Result Ended SessionFault). IsReason c.args.reader.now.state c.serve-stop.new.reader r)
+    subst (λ (r : Result Ended SessionFault). IsReason c.args.reader.now.state c.serve-stopped.new.reader r)
     (sym c.end_of.ensures)
-    (reason_to_end c.args.reader.now.state c.serve-stop.new.reader _ c.serve-stop.result c.fail_all-lost.result c.serve-stop.ensures.reason)
+    (reason_to_end c.args.reader.now.state c.serve-stopped.new.reader c.serve-stopped.result c.fail_all-lost.result c.serve-stopped.ensures.reason)

@@ -1,51 +1,227 @@
--- What was served could not be handed on, so the stop is that of a failed write.
+-- Each line adds its turn to those before it, each read adds bytes behind them, and each way out is an end.
+use Rattle.std.proofs.Common.{◌≡◌, ◌<◌, ◌≤◌, ◌+◌, ◌*◌, ◌-◌, refl, [], Ok, inl, inr, sym, subst, ◌∙◌, true, false, arith}
+use Rattle.std.proofs.KnownBytes.{Appends-nil, Appends-kept, Consumes-nil, Keeps-refl}
 use Rattle.std.specs.Io.KnownBytes.{IsAtEnd}
-use Rattle.std.proofs.Common.{sym, subst}
-use Rattle.std.proofs.KnownBytes.{Appends-kept}
 use Rattle.rb_retry.specs.DeskRules.{desk_rules}
-use Rattle.rb_session.specs.Outlet.{rules_at}
-use Rattle.rb_session.specs.Rules.{IsGathered}
-use Rattle.rb_session.specs.Turn.{point}
+use Rattle.rb_session.specs.Outlet.{sent_to, rules_at}
+use Rattle.rb_session.specs.Exchange.{Exchanges}
+use Rattle.rb_session.specs.Progress.{replies_of, Stops}
+use Rattle.rb_session.specs.Rules.{SessionRules, IsGathered, WritesBeforeWaits}
+use Rattle.rb_session.specs.Session.{ServesToQuit, texts_of}
+use Rattle.rb_session.specs.Turn.{Point, point, AsksToWait}
 use Rattle.rb_session.specs.declared.delivery.Delivery.{Delivery}
-use Rattle.rb_session.proofs.Outlets.{clear_now, stops_late}
-use Rattle.rb_session.proofs.Gatherings.{goes_on}
+use Rattle.rb_session.proofs.Gatherings.{goes_on as becomes_on, gets, stays}
+use Rattle.rb_session.proofs.LongerExchanges.{exchanges_same, exchanges_more, exchanges_sent}
+use Rattle.rb_session.proofs.Outlets.{gathers, stops_failed, stops_late, fails_to_read, stops_reading, reason_late}
+use Rattle.rb_session.proofs.Turns.{serves_none, reads_more, goes_on, quits, fails}
+use Rattle.rb_session.proofs.session.Session.serve.Given.{Over}
 use Rattle.rb_session.proofs.session.Session.serve.Goals as goal
+use Rattle.rb_session.proofs.session.Session.serve.Goals.{After-next_request, After-answer-reply, In-Some-2, Then-quits}
 
-pub returns-in-Err-clause-stops : goal.returns-in-Err-clause-stops
-returns-in-Err-clause-stops g c =
-    let served = c.serve_reads-stop in
-    let rules = rules_at (desk_rules g.D.Desk c.args.policy.now) g.W.Write c.args.outlet.now in
-    let late = subst (λ (d : Delivery). IsGathered d) served.ensures.becomes.delivery c.in-Err.ensures.late in
-    let ran = served.ensures.stops in record {
-      came = ran.came;
-      sent = ran.sent;
-      consumed = ran.consumed;
-      appended = Appends-kept _ _ _ _ ran.appended c.hand_on.ensures.kept;
-      holds = stops_late rules (IsAtEnd (g.R.Read.remaining served.new.reader.inner.now)) late _
-          (point (g.D.Desk.state served.new.desk) served.new.self.held) ran.came ran.sent served.result ran.holds;
-    }
+abbrev own : (g : Over) → After-next_request g → SessionRules g.D.Desk.State
+own g c = rules_at (desk_rules g.D.Desk c.args.policy.now) g.W.Write c.args.outlet.now
 
--- what was served is handed on, and nothing is held back
-pub returns-in-Ok : goal.returns-in-Ok
-returns-in-Ok g c =
-    let served = c.serve_reads-stop.ensures in
-    let ran = served.stops in
-    let now = clear_now c.args.reader.now.state c.serve_reads-stop.new.reader _ _ _ c.in-Ok.ensures.clear served.reason in
+abbrev after : (g : Over) → After-answer-reply g → Point g.D.Desk.State
+after g c = point (g.D.Desk.state c.answer-reply.new.desk) c.answer-reply.new.held
+
+-- before the line, if it may wait, the writer had got what answers those before it
+waits : (g : Over) (c : After-answer-reply g) → AsksToWait c.in-Some.reading
+    → (own g (goal.at.After-answer-reply g c).After-next_request).HadGot c.loop-reading.invariant.served.sent
+waits g c asks writes =
+    let s = c.loop-reading.invariant in
+    gets g.W.Write c.args.outlet.now c.before_line.new.self s.served.sent
+    (c.in_ok-before_line.ensures.clear asks
+    (subst (λ (d : Delivery). WritesBeforeWaits d) (sym s.becomes.delivery) writes))
+    (Appends-kept _ _ _ _ s.served.appended c.before_line.ensures.kept)
+
+pub loop-reading-init : goal.loop-reading-init
+unfolding serves_none
+loop-reading-init g c = record {
+  served = record {
+    came = [];
+    sent = [];
+    consumed = Consumes-nil _;
+    appended = Appends-nil _;
+    holds = (
+      serves_none (rules_at (desk_rules g.D.Desk c.args.policy.now) g.W.Write c.args.outlet.now)
+          (point (g.D.Desk.state c.args.desk.now) c.args.self.now.held) [],
+      c.requires.fresh,
+    );
+  };
+  counted = omega arith;
+  still = λ failed. failed;
+  same_reference = refl;
+  becomes = stays g.W.Write c.args.outlet.now;
+}
+
+-- what was served could not be handed on before a read, or the end of the input not be answered
+pub returns-in_err-stop-clause-stops : goal.returns-in_err-stop-clause-stops
+returns-in_err-stop-clause-stops g c =
+    let s = c.loop-reading.invariant.served in
+    let rest = c.in_default.ensures.line s.holds.0.unserved s.holds.1 in
+    let read = c.in_err-stop.ensures.came s.holds.0.unserved rest.1 rest.0 in
+    exchanges_more s _ (Keeps-refl _) read.came read.sent _ read.consumed read.appended
+    (stops_failed _ _ _ _ _ c.from_residual.result c.from_residual.ensures.0
+    (fails_to_read _ _ s.holds.0 rest.0 read.came read.sent c.loop-reading.outlet.delivery
+    c.loop-reading.invariant.becomes.delivery read.holds))
+
+pub returns-in_err-stop-clause-becomes : goal.returns-in_err-stop-clause-becomes
+returns-in_err-stop-clause-becomes g c =
+    becomes_on g.W.Write _ _ _ c.loop-reading.invariant.becomes c.read_more.ensures.becomes
+
+-- a read, or that there may be none, stopped the session
+pub loop-reading-preserved-in-None : goal.loop-reading-preserved-in-None
+loop-reading-preserved-in-None g c =
+    let s = c.loop-reading.invariant.served in
+    let rest = c.in_default.ensures.line s.holds.0.unserved s.holds.1 in
+    let read = rw c.in-None.is at (c.in_ok-stop.ensures.came s.holds.0.unserved rest.1 rest.0) in
     record {
-      stops = record {
-        came = ran.came;
-        sent = ran.sent;
-        consumed = ran.consumed;
-        appended = Appends-kept _ _ _ _ ran.appended c.hand_on.ensures.kept;
-        holds = ran.holds;
-      };
-      reason = now.0;
-      counted = served.counted;
-      same_reference = served.same_reference;
-      clear = now.1;
-      becomes = goes_on g.W.Write _ _ _ served.becomes c.hand_on.ensures.becomes;
+      served = exchanges_more s _ (Keeps-refl _) read.came read.sent _ read.consumed read.appended
+          (reads_more _ s.holds.0 read.came read.sent read.holds.0 c.read_more.new.buffer read.holds.1);
+      counted = omega (arith, c.loop-reading.invariant.counted, c.read_more.ensures.counted);
+      still = λ failed. c.loop-reading.invariant.still ((rw c.in-None.is at c.in_ok-stop.ensures.reason) failed);
+      same_reference = c.read_more.ensures.same_reference ∙ c.loop-reading.invariant.same_reference;
+      becomes = becomes_on g.W.Write _ _ _ c.loop-reading.invariant.becomes c.read_more.ensures.becomes;
     }
 
-pub returns-in-Err-clause-becomes : goal.returns-in-Err-clause-becomes
-returns-in-Err-clause-becomes g c =
-    goes_on g.W.Write _ _ _ c.serve_reads-stop.ensures.becomes c.hand_on.ensures.becomes
+stopped : (g : Over) (c : In-Some-2 g) → Exchanges
+    (g.R.Read.remaining c.args.reader.now.inner.now) (g.R.Read.remaining c.read_more.new.reader.inner.now)
+    (sent_to g.W.Write c.args.outlet.now) (sent_to g.W.Write c.read_more.new.outlet)
+    (λ came sent. Stops (own g (goal.at.In-Some-2 g c).After-next_request)
+    (IsAtEnd (g.R.Read.remaining c.read_more.new.reader.inner.now))
+    (point (g.D.Desk.state c.args.desk.now) c.args.self.now.held) came sent (Ok c.in-Some-2.stop)
+    (point (g.D.Desk.state c.loop-reading.desk) c.loop-reading.self.held))
+stopped g c =
+    let s = c.loop-reading.invariant.served in
+    let rest = c.in_default.ensures.line s.holds.0.unserved s.holds.1 in
+    let read = rw c.in-Some-2.is at (c.in_ok-stop.ensures.came s.holds.0.unserved rest.1 rest.0) in
+    exchanges_more s _ (Keeps-refl _) read.came read.sent _ read.consumed read.appended
+    (stops_reading _ _ s.holds.0 rest.0 read.came read.sent c.loop-reading.outlet.delivery c.in-Some-2.stop
+    c.read_more.new.buffer read.holds)
+
+pub returns-in-Some-2-clause-stops : goal.returns-in-Some-2-clause-stops
+returns-in-Some-2-clause-stops g c =
+    let s = stopped g (goal.at.returns-in-Some-2-clause-stops g c).In-Some-2 in
+    exchanges_same s _ c.hand_on.ensures.kept (Keeps-refl _) s.holds
+
+pub returns-in-Some-2-clause-becomes : goal.returns-in-Some-2-clause-becomes
+returns-in-Some-2-clause-becomes g c =
+    becomes_on g.W.Write _ _ _
+    (becomes_on g.W.Write _ _ _ c.loop-reading.invariant.becomes c.read_more.ensures.becomes)
+    c.hand_on.ensures.becomes
+
+-- and then a reply could not be handed on
+pub returns-in_err-hand_on-in-Some-2-clause-stops : goal.returns-in_err-hand_on-in-Some-2-clause-stops
+returns-in_err-hand_on-in-Some-2-clause-stops g c =
+    let s = stopped g (goal.at.returns-in_err-hand_on-in-Some-2-clause-stops g c).In-Some-2 in
+    let late = subst (λ (d : Delivery). IsGathered d)
+    (c.read_more.ensures.becomes.delivery ∙ c.loop-reading.invariant.becomes.delivery)
+    (gathers _ _ c.in_err-hand_on-in-Some-2.ensures.late c.read_more.new.outlet.few) in
+    exchanges_same s _ c.hand_on.ensures.kept (Keeps-refl _)
+    (stops_failed _ _ _ _ _ c.from_residual-in_err-hand_on-in-Some-2.result
+    c.from_residual-in_err-hand_on-in-Some-2.ensures.0 (stops_late _ _ late _ _ _ c.in-Some-2.stop s.holds))
+
+pub returns-in_err-hand_on-in-Some-2-clause-becomes : goal.returns-in_err-hand_on-in-Some-2-clause-becomes
+returns-in_err-hand_on-in-Some-2-clause-becomes g c =
+    becomes_on g.W.Write _ _ _
+    (becomes_on g.W.Write _ _ _ c.loop-reading.invariant.becomes c.read_more.ensures.becomes)
+    c.hand_on.ensures.becomes
+
+-- what answers the lines so far could not be handed on
+pub returns-in_err-before_line-clause-stops : goal.returns-in_err-before_line-clause-stops
+returns-in_err-before_line-clause-stops g c =
+    let s = c.loop-reading.invariant.served in
+    let late = subst (λ (d : Delivery). IsGathered d) c.loop-reading.invariant.becomes.delivery
+    c.in_err-before_line.ensures.late in
+    exchanges_same s _ c.before_line.ensures.kept (Keeps-refl _)
+    (stops_failed _ _ _ _ _ c.from_residual-in_err-before_line.result c.from_residual-in_err-before_line.ensures.0
+    (inr (late, inr (inr s.holds.0))))
+
+pub returns-in_err-before_line-clause-becomes : goal.returns-in_err-before_line-clause-becomes
+returns-in_err-before_line-clause-becomes g c =
+    becomes_on g.W.Write _ _ _ c.loop-reading.invariant.becomes c.before_line.ensures.becomes
+
+-- a reply could not be sent
+pub returns-in_err-send_replies-clause-stops : goal.returns-in_err-send_replies-clause-stops
+returns-in_err-send_replies-clause-stops g c =
+    let s = c.loop-reading.invariant.served in
+    let line = c.in-Some.ensures.line s.holds.0.unserved s.holds.1 in
+    let on = (goal.at.returns-in_err-send_replies-clause-stops g c).After-answer-reply in
+    let sent = c.in_err-send_replies.ensures.sent in
+    exchanges_sent s _ c.before_line.ensures.kept sent.0 _ sent.3
+    (stops_failed _ _ _ _ _ c.from_residual-in_err-send_replies.result c.from_residual-in_err-send_replies.ensures.0
+    (inl (fails _ s.holds.0 (after g on) line.0 line.1 c.in-Some.reading _ line.2 (line.3, line.4) (waits g on)
+    c.answer-reply.ensures _ sent.0 sent.1 sent.2)))
+
+pub returns-in_err-send_replies-clause-becomes : goal.returns-in_err-send_replies-clause-becomes
+returns-in_err-send_replies-clause-becomes g c =
+    becomes_on g.W.Write _ _ _
+    (becomes_on g.W.Write _ _ _ c.loop-reading.invariant.becomes c.before_line.ensures.becomes)
+    c.send_replies.ensures.becomes
+
+pub loop-reading-preserved : goal.loop-reading-preserved
+loop-reading-preserved g c =
+    let s = c.loop-reading.invariant.served in
+    let line = c.in-Some.ensures.line s.holds.0.unserved s.holds.1 in
+    let on = (goal.at.loop-reading-preserved g c).After-answer-reply in
+    record {
+      served = exchanges_sent s _ c.before_line.ensures.kept
+          (texts_of (replies_of c.answer-reply.result c.answer-reply.new.held)) _ c.in_ok-send_replies.ensures.sent
+          (goes_on _ s.holds.0 (after g on) line.0 line.1 c.in-Some.reading _ line.2 (line.3, line.4) (waits g on)
+          c.answer-reply.ensures
+          (λ quit. let clash : true ≡ false = sym (c.is_quit-quits.ensures.1 quit) ∙ c.if-quits.false in absurd (cc))
+          c.next_request.new.self line.5);
+      counted = c.loop-reading.invariant.counted;
+      still = c.loop-reading.invariant.still;
+      same_reference = c.loop-reading.invariant.same_reference;
+      becomes = becomes_on g.W.Write _ _ _
+          (becomes_on g.W.Write _ _ _ c.loop-reading.invariant.becomes c.before_line.ensures.becomes)
+          c.send_replies.ensures.becomes;
+    }
+
+-- a line ended the session
+ended : (g : Over) (c : Then-quits g) → Exchanges
+    (g.R.Read.remaining c.args.reader.now.inner.now) (g.R.Read.remaining c.loop-reading.reader.inner.now)
+    (sent_to g.W.Write c.args.outlet.now) (sent_to g.W.Write c.send_replies.new.outlet)
+    (λ came sent. ServesToQuit (own g (goal.at.Then-quits g c).After-next_request)
+    (point (g.D.Desk.state c.args.desk.now) c.args.self.now.held) came sent
+    (after g (goal.at.Then-quits g c).After-answer-reply))
+ended g c =
+    let s = c.loop-reading.invariant.served in
+    let line = c.in-Some.ensures.line s.holds.0.unserved s.holds.1 in
+    let on = (goal.at.Then-quits g c).After-answer-reply in
+    exchanges_sent s _ c.before_line.ensures.kept
+    (texts_of (replies_of c.answer-reply.result c.answer-reply.new.held)) _ c.in_ok-send_replies.ensures.sent
+    (quits _ s.holds.0 (after g on) line.0 line.1 c.in-Some.reading _ line.2 (line.3, line.4) (waits g on)
+    c.answer-reply.ensures line.6 (c.is_quit-quits.ensures.0 c.if-quits.true))
+
+pub returns-then-quits-clause-stops : goal.returns-then-quits-clause-stops
+returns-then-quits-clause-stops g c =
+    let s = ended g (goal.at.returns-then-quits-clause-stops g c).Then-quits in
+    exchanges_same s _ c.hand_on-then-quits.ensures.kept (Keeps-refl _) s.holds
+
+pub returns-then-quits-clause-becomes : goal.returns-then-quits-clause-becomes
+returns-then-quits-clause-becomes g c =
+    becomes_on g.W.Write _ _ _
+    (becomes_on g.W.Write _ _ _
+    (becomes_on g.W.Write _ _ _ c.loop-reading.invariant.becomes c.before_line.ensures.becomes)
+    c.send_replies.ensures.becomes) c.hand_on-then-quits.ensures.becomes
+
+-- and then a reply could not be handed on
+pub returns-in_err-hand_on-clause-stops : goal.returns-in_err-hand_on-clause-stops
+returns-in_err-hand_on-clause-stops g c =
+    let s = ended g (goal.at.returns-in_err-hand_on-clause-stops g c).Then-quits in
+    let late = subst (λ (d : Delivery). IsGathered d)
+    (c.send_replies.ensures.becomes.delivery ∙ c.before_line.ensures.becomes.delivery
+    ∙ c.loop-reading.invariant.becomes.delivery)
+    (gathers _ _ c.in_err-hand_on.ensures.late c.send_replies.new.outlet.few) in
+    exchanges_same s _ c.hand_on-then-quits.ensures.kept (Keeps-refl _)
+    (stops_failed _ _ _ _ _ c.from_residual-in_err-hand_on.result c.from_residual-in_err-hand_on.ensures.0
+    (inr (late, inl s.holds)))
+
+pub returns-in_err-hand_on-clause-becomes : goal.returns-in_err-hand_on-clause-becomes
+returns-in_err-hand_on-clause-becomes g c =
+    becomes_on g.W.Write _ _ _
+    (becomes_on g.W.Write _ _ _
+    (becomes_on g.W.Write _ _ _ c.loop-reading.invariant.becomes c.before_line.ensures.becomes)
+    c.send_replies.ensures.becomes) c.hand_on-then-quits.ensures.becomes
