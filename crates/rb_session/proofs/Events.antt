@@ -13,10 +13,9 @@ use Rattle.rb_queue.specs.declared.draft.Draft.{Draft}
 use Rattle.rb_queue.specs.declared.reply.Reply.{Reply}
 use Rattle.rb_queue.specs.declared.reply.Reply.TheVariants.{Offered, Item, Nothing, Head, Removed, Drained, Cleared, Size}
 use Rattle.rb_kept.specs.declared.fault.CallFault.{CallFault}
-use Rattle.rb_kept.specs.declared.fault.CallFault.TheVariants as refusals
 use Rattle.rb_retry.specs.Made.{Made}
 use Rattle.rb_retry.specs.Asked.{Makes, MayGet}
-use Rattle.rb_retry.specs.Retry.{IsNextAttempt, IsRetry}
+use Rattle.rb_retry.specs.Retry.{IsNextAttempt}
 use Rattle.rb_retry.specs.DeskRules.{DeskRules}
 use Rattle.rb_retry.specs.Jobs.{FailsTo, offer_answer}
 use Rattle.rb_retry.specs.KeptSteps.{fault_of}
@@ -34,7 +33,7 @@ use Rattle.rb_session.specs.Closing.{Closes, lost_by}
 use Rattle.rb_session.specs.JobEnds.{AreSpent, AreUnspent, done_by, dead_by, handed_by}
 use Rattle.rb_session.specs.Session.{Turn, Serves}
 use Rattle.rb_session.specs.Turn.{Point, fault_line, fetched_by, lines_for, moment_line, refusal_word}
-use Rattle.rb_session.specs.Events.{BeginsOne, IsNextOf, TellsOf, TellsOfNone, AreOfLine, AreOfLines, AreOfClosing}
+use Rattle.rb_session.specs.Events.{IsNextOf, TellsOf, TellsOfNone, AreOfLine, AreOfLines, AreOfClosing}
 use Rattle.rb_session.proofs.Ways.{Calls, Retries, Retried, Way, WaysAlong, IsIdle, EndsJob, did_nothing, did_end, did_call, did_retry, did_set, ways_of}
 
 -- an element that is taken out

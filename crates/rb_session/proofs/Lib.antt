@@ -3,7 +3,6 @@
 pub mod LongerExchanges
 pub mod Buffers
 pub mod LineFeeds
-pub mod PlainCalls
 pub mod Closings
 pub mod ReplyTexts
 pub mod Turns

@@ -6,7 +6,6 @@ use Rattle.rb_protocol.specs.Line.{HasNoLineFeed}
 use Rattle.rb_protocol.specs.Reads.{HasNotFailed}
 use Rattle.rb_protocol.specs.declared.limited_reader.LimitedReader.{LimitedReader}
 use Rattle.rb_protocol.specs.declared.reader_state.ReaderState.{ReaderState}
-use Rattle.rb_protocol.specs.declared.reader_state.ReaderState.TheVariants.{Failed}
 use Rattle.rb_protocol.specs.declared.writing.WriteFault.{WriteFault}
 use Rattle.rb_session.specs.Rules.{SessionRules, IsGathered, most_held_back}
 use Rattle.rb_session.specs.Turn.{Point}

@@ -1,12 +1,11 @@
 -- What a whole run of a session makes: what its lines made, and then what the jobs made that were still held.
-use Rattle.std.proofs.Common.{◌≡◌, ℕ, ◌<◌, List, [], ◌∷◌, ◌++◌, length, Option, Result, Ok, Err, inl, inr}
+use Rattle.std.proofs.Common.{◌≡◌, ℕ, List, [], ◌∷◌, ◌++◌, Option, Result, Ok, Err, inl, inr}
 use Rattle.std.proofs.Common.{refl, sym, ap, subst, ◌∙◌, append-nil, append_assoc, arith}
 use Rattle.std.specs.Io.KnownBytes.{IsAtEnd}
 use Rattle.rb_delayed.specs.declared.element.Element.{Element}
 use Rattle.rb_queue.specs.declared.ask.Ask.{Ask}
 use Rattle.rb_queue.specs.declared.ask.Ask.TheVariants as asks
 use Rattle.rb_queue.specs.declared.reply.Reply.{Reply}
-use Rattle.rb_queue.specs.declared.reply.Reply.TheVariants.{Offered}
 use Rattle.rb_kept.specs.Log.{Log}
 use Rattle.rb_kept.specs.Tries.{StepsTo}
 use Rattle.rb_kept.specs.declared.fault.CallFault.{CallFault}
@@ -17,7 +16,7 @@ use Rattle.rb_kept.specs.declared.tries.Try.{Try}
 use Rattle.rb_retry.specs.Asked.{Makes, MayGet}
 use Rattle.rb_retry.specs.DeskRules.{DeskRules, kept_rules}
 use Rattle.rb_retry.specs.Jobs.{FailsTo, offer_answer}
-use Rattle.rb_retry.specs.KeptSteps.{KeptState, KeptSteps, fault_of}
+use Rattle.rb_retry.specs.KeptSteps.{KeptState, KeptSteps}
 use Rattle.rb_retry.specs.Made.{Made}
 use Rattle.rb_retry.specs.declared.desk_fault.DeskFault.{DeskFault}
 use Rattle.rb_retry.specs.declared.policy.Policy.{Policy}

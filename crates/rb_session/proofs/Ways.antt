@@ -1,20 +1,19 @@
 -- What a line does at the desk and with the jobs that are held: it leaves both alone, ends a job, makes one call, offers
 -- the next attempt of a job, or sets the clock.
-use Rattle.std.proofs.Common.{◌≡◌, ℕ, ◌+◌, Bool, true, false, List, [], ◌∷◌, ◌++◌, Option, Some, None, Result, Ok, Err, inl, inr}
+use Rattle.std.proofs.Common.{◌≡◌, ℕ, ◌+◌, Bool, true, false, List, [], ◌∷◌, ◌++◌, Option, Some, None, Result, Ok, Err}
 use Rattle.std.proofs.Common.{refl, sym, ap, subst, ◌∙◌, arith, remove, get_or}
 use Rattle.std.proofs.Math.Nat.{min-le_left}
 use Rattle.std.proofs.lemmas.Bool.Decides.{nat_tests}
 use Rattle.std.proofs.lemmas.List.Quantifiers.{position-Some}
 use Rattle.std.proofs.lemmas.Option.{same_Some, slice_get-get_or}
-use Rattle.std.specs.Prelude.{◌⊎◌, ◌≤◌, MatchBool, MatchOption, nat_le, nat_lt, length, min, ◌-◌, slice_get, unwrap_or, ◌==◌}
+use Rattle.std.specs.Prelude.{◌≤◌, MatchBool, MatchOption, nat_le, nat_lt, length, min, ◌-◌, slice_get, unwrap_or, ◌==◌}
 use Rattle.rb_delayed.specs.declared.element.Element.{Element}
 use Rattle.rb_delayed.specs.declared.moment.TheConstants.{GREATEST_MOMENT}
-use Rattle.rb_queue.specs.Draft.{IsDrafted}
 use Rattle.rb_queue.specs.declared.ask.Ask.{Ask}
 use Rattle.rb_queue.specs.declared.ask.Ask.TheVariants as asks
 use Rattle.rb_queue.specs.declared.draft.Draft.{Draft}
 use Rattle.rb_queue.specs.declared.reply.Reply.{Reply}
-use Rattle.rb_queue.specs.declared.reply.Reply.TheVariants.{Offered, Item, Nothing, Head, Removed, Drained, Cleared, Size}
+use Rattle.rb_queue.specs.declared.reply.Reply.TheVariants.{Offered}
 use Rattle.rb_kept.specs.declared.fault.CallFault.{CallFault}
 use Rattle.rb_retry.specs.Asked.{IsReplyTo}
 use Rattle.rb_retry.specs.DeskRules.{DeskRules}

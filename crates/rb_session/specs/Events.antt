@@ -1,5 +1,5 @@
 -- Which events a session makes at its desk: at most one for each line, and each has the reply that the line got.
-use Rattle.std.specs.Prelude.{◌≡◌, ℕ, ◌+◌, ◌<◌, ◌≤◌, ◌⊎◌, max, sum_by, List, [], ◌∷◌, ◌++◌, length, Option, Some, Result, Ok}
+use Rattle.std.specs.Prelude.{◌≡◌, ℕ, ◌+◌, ◌<◌, ◌≤◌, ◌⊎◌, max, sum_by, List, [], ◌∷◌, ◌++◌, length, Some, Result, Ok}
 use Rattle.rb_delayed.specs.declared.element.Element.{Element}
 use Rattle.rb_queue.specs.Opening.{ids_of}
 use Rattle.rb_queue.specs.declared.ask.Ask.{Ask}

@@ -2,14 +2,19 @@
 use Rattle.std.specs.Prelude.{◌≡◌, ℕ, ◌-◌, ◌<◌, ◌⊎◌, Option, Some, None, Result, Ok, Err}
 use Rattle.std.specs.Prelude.{List, [], ◌∷◌, ◌++◌, length, map, drop}
 use Rattle.rb_delayed.specs.declared.element.Element.{Element}
+use Rattle.rb_queue.specs.declared.ask.Ask.{Ask}
+use Rattle.rb_queue.specs.declared.ask.Ask.TheVariants.{Offer}
+use Rattle.rb_queue.specs.declared.draft.Draft.{Draft}
 use Rattle.rb_queue.specs.declared.reply.Reply.{Reply}
+use Rattle.rb_kept.specs.declared.fault.CallFault.{CallFault}
+use Rattle.rb_retry.specs.Asked.{offer_answer}
 use Rattle.rb_retry.specs.declared.desk_fault.DeskFault.{DeskFault}
 use Rattle.rb_protocol.specs.declared.line_reply.LineReply.{LineReply}
 use Rattle.rb_protocol.specs.declared.line_reply.LineReply.TheVariants as lines
 use Rattle.rb_protocol.specs.declared.writing.WriteFault.{WriteFault}
 use Rattle.rb_session.specs.Buffer.{IsUnserved}
 use Rattle.rb_session.specs.Rules.{SessionRules, IsGathered}
-use Rattle.rb_session.specs.Turn.{Point, fault_line, reply_line, lines_for, fetched_by}
+use Rattle.rb_session.specs.Turn.{Point, IsFirstDraft, fault_line, refusal_word, reply_line, lines_for, fetched_by}
 use Rattle.rb_session.specs.Session.{ServesToEnd, ServesToQuit, rest_text}
 use Rattle.rb_session.specs.Ran.{BreaksOff, FailsToSend}
 use Rattle.rb_session.specs.declared.delivery.Delivery.{Delivery}
@@ -25,6 +30,20 @@ use Rattle.rb_session.specs.declared.stop.Stop.TheVariants.{Quit, EndOfInput, Re
 abbrev pub answer_line : Result Reply DeskFault → LineReply
 answer_line (Ok reply) = reply_line reply
 answer_line (Err fault) = fault_line fault
+
+-- the line for an offer
+abbrev pub offered_line : Result Element CallFault → LineReply
+offered_line (Ok element) = lines.Offered element.id element.expiry
+offered_line (Err fault) = lines.Err (refusal_word fault)
+
+-- an element is offered for the first time, and this is the line for what the desk answers
+pub record OffersAt {S : Type 0} (Steps : S → ℕ → Ask → Result Reply DeskFault → S → Type 0) (old : S)
+    (now expires : ℕ) (bytes : List ℕ) (reply : LineReply) (new : S) : Type 0 where
+  pub draft : Draft
+  pub is_first : IsFirstDraft draft expires bytes
+  pub offered : Result Element CallFault
+  pub steps : Steps old now (Offer draft) (offer_answer offered) new
+  pub line : reply ≡ offered_line offered
 
 -- all lines of a reply: behind a drain's come the last elements that are held
 abbrev pub replies_of : LineReply → List Element → List LineReply

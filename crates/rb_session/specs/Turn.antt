@@ -69,7 +69,7 @@ abbrev pub moment_line : Option ℕ → LineReply
 moment_line (Some moment) = lines.Now moment
 moment_line None = lines.Err words.Syntax
 
--- the word for a next attempt that was refused
+-- the word for an offer that was refused
 abbrev pub refusal_word : CallFault → ErrWord
 refusal_word refusals.Full = words.Full
 refusal_word refusals.Memory = words.Memory

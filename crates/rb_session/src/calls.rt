@@ -1,15 +1,14 @@
 ghost use Rattle.std.specs.Prelude.{◌≡◌, ℕ, ◌+◌, List, [], ◌∷◌, Result, MatchBool, nat_le};
 ghost use Rattle.rb_delayed.specs.declared.moment.TheConstants.{GREATEST_MOMENT};
-ghost use Rattle.rb_queue.specs.declared.ask.Ask.TheVariants as asks;
-ghost use Rattle.rb_queue.specs.declared.draft.Draft.{Draft};
 ghost use Rattle.rb_queue.specs.declared.reply.Reply.{Reply};
 ghost use Rattle.rb_retry.specs.declared.desk_fault.DeskFault.{DeskFault};
 ghost use Rattle.rb_protocol.specs.declared.line_reply.LineReply.TheVariants as lines;
 ghost use Rattle.rb_protocol.specs.declared.err_word.ErrWord.TheVariants as words;
-ghost use Rattle.rb_session.specs.Turn.{IsFirstDraft, fault_line, reply_line};
-ghost use Rattle.rb_session.specs.Progress.{answer_line};
+ghost use Rattle.rb_session.specs.Turn.{fault_line, refusal_word, reply_line};
+ghost use Rattle.rb_session.specs.Progress.{answer_line, OffersAt};
 
 use rb_delayed::{Payload, add_delay};
+use rb_kept::CallFault;
 use rb_protocol::{ErrWord, LineReply};
 use rb_queue::{Ask, Draft, Reply};
 use rb_retry::{Desk, DeskFault};
@@ -28,10 +27,7 @@ pub(crate) fn call<D: Desk>(desk: &mut D, now: u64, ask: Ask) -> LineReply
 /// An offer that expires `delay` nanoseconds from now, unless that passes the greatest moment.
 pub(crate) fn offer<D: Desk>(desk: &mut D, now: u64, delay: u64, payload: Payload) -> LineReply
     ensures { MatchBool (nat_le (now + delay) GREATEST_MOMENT)
-        ((draft : Draft) × IsFirstDraft draft (now + delay) payload
-        × (answer : Result Reply DeskFault)
-        × D.Steps (D.state desk.old) now (asks.Offer draft) answer (D.state desk.new)
-        × (result ≡ answer_line answer))
+        (OffersAt D.Steps (D.state desk.old) now (now + delay) payload result (D.state desk.new))
         ((result ≡ lines.Err words.Range) × (D.state desk.new ≡ D.state desk.old)) }
 {
     match add_delay(now, delay) {
@@ -42,12 +38,25 @@ pub(crate) fn offer<D: Desk>(desk: &mut D, now: u64, delay: u64, payload: Payloa
 
 /// An offer that expires at this moment.
 pub(crate) fn offer_at<D: Desk>(desk: &mut D, now: u64, expiry: u64, payload: Payload) -> LineReply
-    ensures { (draft : Draft) × IsFirstDraft draft expiry payload
-        × (answer : Result Reply DeskFault)
-        × D.Steps (D.state desk.old) now (asks.Offer draft) answer (D.state desk.new)
-        × (result ≡ answer_line answer) }
+    ensures { OffersAt D.Steps (D.state desk.old) now expiry payload result (D.state desk.new) }
 {
-    call(desk, now, Ask::Offer(Draft::first(expiry, payload)))
+    match desk.offer(now, Draft::first(expiry, payload)) {
+        Ok(element) => LineReply::Offered {
+            id: element.id,
+            expiry: element.expiry,
+        },
+        Err(fault) => LineReply::Err(refusal_word(fault)),
+    }
+}
+
+/// The word for an offer that was refused.
+pub(crate) fn refusal_word(fault: CallFault) -> ErrWord
+    ensures { result ≡ refusal_word fault }
+{
+    match fault {
+        CallFault::Full => ErrWord::Full,
+        CallFault::Memory => ErrWord::Memory,
+    }
 }
 
 /// The line for a fault of the desk.

@@ -3,12 +3,12 @@ ghost use Rattle.rb_retry.specs.DeskRules.{desk_rules};
 ghost use Rattle.rb_protocol.specs.declared.line_reply.LineReply.TheVariants as lines;
 ghost use Rattle.rb_protocol.specs.declared.err_word.ErrWord.TheVariants as words;
 ghost use Rattle.rb_session.specs.Held.{place_of};
-ghost use Rattle.rb_session.specs.Turn.{point, refusal_word, AnswersAlone, IsFailure};
+ghost use Rattle.rb_session.specs.Turn.{point, AnswersAlone, IsFailure};
 ghost use Rattle.rb_session.specs.Closing.{Closes};
 ghost use Rattle.rb_session.specs.Progress.{replies_of};
 
+use crate::calls::refusal_word;
 use crate::held_jobs::HeldJobs;
-use rb_kept::CallFault;
 use rb_protocol::{ErrWord, LineReply};
 use rb_retry::{Desk, Policy, Verdict, done, fail};
 
@@ -53,16 +53,6 @@ pub(crate) fn fail_job<D: Desk>(
             held.put_back(place, job);
             LineReply::Err(refusal_word(fault))
         }
-    }
-}
-
-// The word for a next attempt that was refused.
-fn refusal_word(fault: CallFault) -> ErrWord
-    ensures { result ≡ refusal_word fault }
-{
-    match fault {
-        CallFault::Full => ErrWord::Full,
-        CallFault::Memory => ErrWord::Memory,
     }
 }
 

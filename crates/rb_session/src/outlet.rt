@@ -7,8 +7,9 @@ ghost use Rattle.rb_session.specs.Turn.{AsksToWait};
 
 use crate::delivery::Delivery;
 use crate::hands_on::HandsOn;
-use rb_protocol::{LineFault, LineReply, ReplyLine, Request, WriteFault};
-use rb_protocol::{flush, send_line, write_out};
+use rb_protocol::{
+    LineFault, LineReply, ReplyLine, Request, WriteFault, flush, send_line, write_out,
+};
 use std::io::Write;
 
 /// Where the replies of a session go: to a writer, each when its request is served or, if they are

@@ -1,14 +1,9 @@
 -- A sum that was made is within the greatest moment, and the offer's expiry is that sum.
 use Rattle.std.proofs.Common.{◌≡◌, ℕ, ◌+◌, ◌≤◌, sym, subst, arith, true}
 use Rattle.std.proofs.lemmas.Bool.Decides.{nat_tests}
-use Rattle.std.specs.Prelude.{MatchBool, nat_le, Result}
+use Rattle.std.specs.Prelude.{MatchBool, nat_le}
 use Rattle.rb_delayed.specs.declared.moment.TheConstants.{GREATEST_MOMENT}
-use Rattle.rb_queue.specs.declared.draft.Draft.{Draft}
-use Rattle.rb_queue.specs.declared.ask.Ask.TheVariants as asks
-use Rattle.rb_queue.specs.declared.reply.Reply.{Reply}
-use Rattle.rb_retry.specs.declared.desk_fault.DeskFault.{DeskFault}
-use Rattle.rb_session.specs.Turn.{IsFirstDraft}
-use Rattle.rb_session.specs.Progress.{answer_line}
+use Rattle.rb_session.specs.Progress.{OffersAt}
 use Rattle.rb_session.proofs.calls.offer.Goals as goal
 
 -- a test that is passed leaves its first case
@@ -22,7 +17,6 @@ pub returns-in-Some : goal.returns-in-Some
 returns-in-Some g c =
     within_range (c.args.now + c.args.delay) _ _ c.in-Some.ensures.0
     (subst
-    (λ expiry. (draft : Draft) × IsFirstDraft draft expiry c.args.payload
-    × (answer : Result Reply DeskFault) × g.D.Desk.Steps (g.D.Desk.state c.args.desk.now) c.args.now
-    (asks.Offer draft) answer (g.D.Desk.state c.offer_at.new.desk) × (c.offer_at.result ≡ answer_line answer))
+    (λ expiry. OffersAt g.D.Desk.Steps (g.D.Desk.state c.args.desk.now) c.args.now expiry c.args.payload
+    c.offer_at.result (g.D.Desk.state c.offer_at.new.desk))
     c.in-Some.ensures.1 c.offer_at.ensures)

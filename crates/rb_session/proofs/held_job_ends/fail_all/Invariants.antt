@@ -1,5 +1,5 @@
 -- The jobs that were taken out so far have failed, and the lost among them are counted.
-use Rattle.std.proofs.Common.{◌≡◌, ◌≤◌, length}
+use Rattle.std.proofs.Common.{◌≤◌, length}
 use Rattle.rb_retry.specs.DeskRules.{desk_rules}
 use Rattle.rb_session.specs.Closing.{Closes}
 use Rattle.rb_session.proofs.held_job_ends.fail_all.Given as goal

@@ -1,12 +1,11 @@
 -- The reply's first line is sent, and only behind a drain's come others: the last jobs held.
-use Rattle.std.proofs.Common.{rules, ◌≡◌, ℕ, ◌+◌, ◌-◌, ◌<◌, ◌≤◌, List, [], ◌∷◌, ◌++◌, refl, sym, ap, subst, ◌∙◌, map, take, drop, length}
+use Rattle.std.proofs.Common.{◌≡◌, ℕ, ◌+◌, ◌-◌, ◌<◌, List, [], ◌∷◌, ◌++◌, refl, sym, ap, subst, ◌∙◌, map, take, drop, length}
 use Rattle.std.proofs.Common.{get_or, append_assoc, arith}
 use Rattle.std.proofs.lemmas.List.{take_more, take_all, take-append-drop, map-append, append-nil}
 use Rattle.std.proofs.KnownBytes.{Appends-trans}
 use Rattle.std.specs.Io.KnownBytes.{Appends}
 use Rattle.rb_delayed.specs.declared.element.Element.{Element}
 use Rattle.rb_protocol.specs.ReplyText.{text_of}
-use Rattle.rb_protocol.specs.Sending.{Sends}
 use Rattle.rb_protocol.specs.declared.line_reply.LineReply.{LineReply}
 use Rattle.rb_protocol.specs.declared.line_reply.LineReply.TheVariants as lines
 use Rattle.rb_protocol.proofs.Sending.{sends_all, sends_then, sends_part}

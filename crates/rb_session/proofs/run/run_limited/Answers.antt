@@ -1,6 +1,6 @@
 -- Wherever the lines stopped, what was held then failed, and what the writer has got and what is held back are the
 -- session's replies, one behind the other.
-use Rattle.std.proofs.Common.{rules, ◌≡◌, ◌≤◌, ℕ, List, [], ◌++◌, Option, Result, Ok, Err, refl, sym, ap, subst, ◌∙◌, arith, length}
+use Rattle.std.proofs.Common.{rules, ◌≡◌, ◌≤◌, ℕ, List, [], Option, Result, Ok, Err, sym, ap, subst, ◌∙◌, arith, length}
 use Rattle.std.specs.Prelude.{OnOk}
 use Rattle.rb_protocol.specs.declared.writing.WriteFault.{WriteFault}
 use Rattle.std.specs.Io.KnownBytes.{Appends, Consumes, IsAtEnd, append_known}

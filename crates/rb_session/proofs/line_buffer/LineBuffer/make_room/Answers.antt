@@ -1,5 +1,5 @@
 -- Bytes that are too long for a request are dropped, all of them.
-use Rattle.std.proofs.Common.{◌≡◌, ◌<◌, ◌-◌, ℕ, true, false, drop, length, length-take, length-drop, sym, ◌∙◌, arith}
+use Rattle.std.proofs.Common.{◌≡◌, ◌<◌, ◌-◌, true, false, drop, length, length-take, length-drop, sym, ◌∙◌, arith}
 use Rattle.std.proofs.Common.{⊎_elim}
 use Rattle.std.proofs.lemmas.List.{append-nil}
 use Rattle.rb_session.specs.Buffer.{held_by}

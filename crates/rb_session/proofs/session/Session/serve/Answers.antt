@@ -1,5 +1,5 @@
 -- Each line adds its turn to those before it, each read adds bytes behind them, and each way out is an end.
-use Rattle.std.proofs.Common.{◌≡◌, ◌<◌, ◌≤◌, ◌+◌, ◌*◌, ◌-◌, refl, [], Ok, inl, inr, sym, subst, ◌∙◌, true, false, arith}
+use Rattle.std.proofs.Common.{◌≡◌, refl, [], Ok, inl, inr, sym, subst, ◌∙◌, true, false, arith}
 use Rattle.std.proofs.KnownBytes.{Appends-nil, Appends-kept, Consumes-nil, Keeps-refl}
 use Rattle.std.specs.Io.KnownBytes.{IsAtEnd}
 use Rattle.rb_retry.specs.DeskRules.{desk_rules}
@@ -12,7 +12,7 @@ use Rattle.rb_session.specs.Turn.{Point, point, AsksToWait}
 use Rattle.rb_session.specs.declared.delivery.Delivery.{Delivery}
 use Rattle.rb_session.proofs.Gatherings.{goes_on as becomes_on, gets, stays}
 use Rattle.rb_session.proofs.LongerExchanges.{exchanges_same, exchanges_more, exchanges_sent}
-use Rattle.rb_session.proofs.Outlets.{gathers, stops_failed, stops_late, fails_to_read, stops_reading, reason_late}
+use Rattle.rb_session.proofs.Outlets.{gathers, stops_failed, stops_late, fails_to_read, stops_reading}
 use Rattle.rb_session.proofs.Turns.{serves_none, reads_more, goes_on, quits, fails}
 use Rattle.rb_session.proofs.session.Session.serve.Given.{Over}
 use Rattle.rb_session.proofs.session.Session.serve.Goals as goal
