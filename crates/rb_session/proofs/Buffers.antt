@@ -11,10 +11,7 @@ use Rattle.rb_protocol.specs.Line.{HasNoLineFeed}
 use Rattle.rb_protocol.specs.declared.format.TheConstants.{LINE_FEED, CARRIAGE_RETURN}
 use Rattle.rb_session.specs.Lines.{line_of}
 
--- where there is no byte there is no line feed, and two parts with none have none together
-pub no_feed-nil : HasNoLineFeed []
-no_feed-nil = All-nil (λ byte. byte ≢ LINE_FEED)
-
+-- two parts with no line feed have none together
 no_feed-append : (front back : List ℕ) → HasNoLineFeed front → HasNoLineFeed back → HasNoLineFeed (front ++ back)
 no_feed-append front back = All-append (λ byte. byte ≢ LINE_FEED) front back
 

@@ -18,24 +18,6 @@ pub sends_grow : {T : Type 0} (result : Result T WriteFault) (old new : Option (
 sends_grow (Ok done) old new text all = (text, all)
 sends_grow (Err fault) old new text (sent, unsent, parts, some) = (sent, some)
 
--- what is sent past an empty gathering goes behind what was sent before
-passed : (old mid new : Option (List ℕ)) (before gathered bytes : List ℕ)
-    → Keeps (append_known old before) (append_known mid gathered) → gathered ≡ [] → Appends mid new bytes
-    → Appends (append_known old before) (append_known new gathered) bytes
-passed old mid new before gathered bytes kept none more =
-    subst (Appends (append_known old before) (append_known new gathered)) (append-nil bytes)
-    (append_known-passed (append_known old before) mid new gathered gathered bytes [] kept none more
-    (sym (append-nil gathered)))
-
--- a send to the writer, where nothing was gathered
-pub sends_past : {T : Type 0} (result : Result T WriteFault) (old mid new : Option (List ℕ))
-    (before gathered line : List ℕ) → Keeps (append_known old before) (append_known mid gathered) → gathered ≡ []
-    → Sends result mid line new → Sends result (append_known old before) line (append_known new gathered)
-sends_past (Ok done) old mid new before gathered line kept none all =
-    passed old mid new before gathered line kept none all
-sends_past (Err fault) old mid new before gathered line kept none (sent, unsent, parts, some) =
-    (sent, unsent, parts, passed old mid new before gathered sent kept none some)
-
 -- what is sent to an outlet that holds nothing back at first and at last goes to its writer
 nothing_before : (old got : Option (List ℕ)) (before sent : List ℕ) → before ≡ []
     → Appends (append_known old before) got sent → Appends old got sent

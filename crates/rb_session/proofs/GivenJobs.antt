@@ -55,21 +55,6 @@ given_one id mades event reply =
     times_given-append id mades (record { event = event; reply = Some reply } ∷ [])
     ∙ ap (λ (ids : List ℕ). times id (given_by mades) + times id ids) (append-nil (ids_given reply))
 
--- of elements that are new the first is new, and the others are new behind it
-pub first_new : (held : List Element) (element : Element) (others : List Element) → AreNew held (element ∷ others)
-    → AreNew held (element ∷ [])
-first_new held element others new id some =
-    let one = times_cons id element.id [] in
-    let all = times_cons id element.id (ids_of others) in
-    omega (arith, new id (omega (arith, some, one, all)), one, all)
-
-pub others_new : (held : List Element) (element : Element) (others : List Element) → AreNew held (element ∷ others)
-    → AreNew (held ++ element ∷ []) others
-others_new held element others new id some =
-    let one = times_cons id element.id [] in
-    let all = times_cons id element.id (ids_of others) in
-    omega (arith, new id (omega (arith, some, all)), one, all, times_held-append id held (element ∷ []))
-
 -- nothing is held that was not given
 pub none_given : (mades : List Made) → AreGiven mades []
 none_given mades id = omega arith
@@ -200,14 +185,7 @@ module _ {S : Type 0} (rules : DeskRules S) (mine : S → List Made)
   set_given old new moment result held set given =
       subst (λ (mades : List Made). AreGiven mades held) (sym (stays old new moment result set)) given
 
-  -- a line leaves held only what was given
-  pub still_given : (reading : Result Request LineFault) (old new : Point S) (replies : List LineReply)
-      → IsTurn rules old reading replies new → AreGiven (mine old.desk) old.held → AreGiven (mine new.desk) new.held
-  still_given =
-      of_turn rules Given (call_given rules.gives rules.Steps mine makes gives_once refuses)
-      (λ desk held place given. given_removed (mine desk) held place given) set_given
-
-  -- and no id twice
+  -- what is held was given, and no id of it twice
   abbrev GivenOnce : S → List Element → Type 0
   GivenOnce desk held = AreGiven (mine desk) held × AreHeldOnce held
 

@@ -48,16 +48,10 @@ use Rattle.rb_session.specs.declared.session_fault.SessionFault.{SessionFault}
 use Rattle.rb_session.specs.declared.session_fault.SessionFault.TheVariants as faults
 use Rattle.rb_session.proofs.HandedOut.{ways_hold}
 use Rattle.rb_session.proofs.Events.{makes_by_closing, ways_make}
+use Rattle.rb_session.proofs.Turns.{answers_of-append}
 use Rattle.rb_session.proofs.Ways.{Way, WaysAlong, alone, way_of, ways_append, ways_of, did_nothing, did_end, did_call, did_retry, did_set}
 use Rattle.rb_session.proofs.KeptEvents.{whole_mine, makes_whole, refuses_whole, stays_whole}
 use Rattle.rb_session.proofs.KeptEvents.{moment_of, closing_moment}
-
--- the answers to some lines and to more
-answers_append : (turns more : List Turn) → answers_of (turns ++ more) ≡ answers_of turns ++ answers_of more
-answers_append [] more = refl
-answers_append (turn ∷ turns) more =
-    ap (λ (text : List ℕ). texts_of turn.replies ++ text) (answers_append turns more)
-    ∙ sym (append_assoc (texts_of turn.replies) (answers_of turns) (answers_of more))
 
 -- the answer to one line
 answers_one : (turn : Turn) → answers_of (turn ∷ []) ≡ texts_of turn.replies
@@ -106,7 +100,7 @@ module _ {S : Type 0} (rules : DeskRules S) where
       lines = turns ++ more;
       stand = subst (λ all. StandFirst Over all (turns ++ more)) (sym split)
           (stands (point from []) to turns more bytes serves stand);
-      answers = answers_append turns more ∙ ap (λ (rest : List ℕ). answers_of turns ++ rest) answers;
+      answers = answers_of-append turns more ∙ ap (λ (rest : List ℕ). answers_of turns ++ rest) answers;
       ways = ways_append rules (point from []) to last turns more (ways_of rules (point from []) to turns serves) ways;
     }
 

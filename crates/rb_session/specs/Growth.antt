@@ -17,12 +17,6 @@ grows_same known = ([], Appends-nil known)
 pub grows_on : (one two three : Option (List ℕ)) → KeepsFront one two → KeepsFront two three → KeepsFront one three
 grows_on one two three (some, first) (more, second) = (some ++ more, Appends-trans one two three some more first second)
 
--- what a writer had got behind these known bytes, it had got behind earlier ones, after what lies between
-pub had_more : {W : Type 0} (contents : W → Option (List ℕ)) (old new : Option (List ℕ)) (before text : List ℕ)
-    → Appends old new before → HadGotBehind contents new text → HadGotBehind contents old (before ++ text)
-had_more contents old new before text sent (writer, got) =
-    (writer, Appends-trans old new (contents writer) before text sent got)
-
 -- a writer has got all that was sent, if nothing of it is gathered
 pub all_got : (old got : Option (List ℕ)) (gathered text : List ℕ) → gathered ≡ []
     → Appends old (append_known got gathered) text → Appends old got text
