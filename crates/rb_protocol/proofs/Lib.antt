@@ -8,4 +8,3 @@ pub mod Texts
 pub mod Attempts
 pub mod WrittenBytes
 pub mod Sending
-pub mod ReaderStates

@@ -1,7 +1,7 @@
 -- What a writer has got of texts that are sent piece by piece.
 use Rattle.std.proofs.Common.{◌≡◌, ℕ, List, [], ◌++◌, Option, Result, Ok, Err, refl, ap, sym, ◌∙◌, append_assoc}
 use Rattle.std.proofs.lemmas.List.{append-nil}
-use Rattle.std.specs.Prelude.{IsErr, true, false, is_err}
+use Rattle.std.specs.Prelude.{IsErr, true, is_err}
 use Rattle.std.specs.Io.KnownBytes.{Appends, Keeps}
 use Rattle.std.proofs.KnownBytes.{Appends-nil, Appends-trans, Appends-kept}
 use Rattle.rb_protocol.specs.Sending.{Sends}
@@ -31,12 +31,8 @@ sends_nothing (Ok done) old new text failed kept = absurd (cc)
 sends_nothing (Err other) old new text failed kept = ([], text, refl, Appends-kept old old new [] (Appends-nil old) kept)
 
 -- a text that was not sent whole
-pub sends_failed : {T : Type 0} (result : Result T WriteFault) (old new : Option (List ℕ)) (text : List ℕ) → is_err result ≡ true → Sends result old text new
+pub sends_failed : {T : Type 0} (result : Result T WriteFault) (old new : Option (List ℕ)) (text : List ℕ)
+    → is_err result ≡ true → Sends result old text new
     → (sent : List ℕ) × (unsent : List ℕ) × (text ≡ sent ++ unsent) × Appends old new sent
 sends_failed (Ok done) old new text failed all = absurd (cc)
 sends_failed (Err fault) old new text failed sends = sends
-
--- a text that was
-pub sends_done : {T : Type 0} (result : Result T WriteFault) (old new : Option (List ℕ)) (text : List ℕ) → is_err result ≡ false → Sends result old text new → Appends old new text
-sends_done (Ok done) old new text went all = all
-sends_done (Err fault) old new text went sends = absurd (cc)

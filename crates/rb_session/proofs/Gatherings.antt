@@ -1,10 +1,9 @@
 -- What a writer has got of what was sent to an outlet, and what is held back.
 use Rattle.std.proofs.Common.{◌≡◌, ◌≤◌, ℕ, List, [], ◌++◌, Option, Some, None, Result, Ok, Err}
-use Rattle.std.proofs.Common.{refl, sym, ap, subst, ◌∙◌, append_assoc, length, arith}
+use Rattle.std.proofs.Common.{refl, sym, ap, ◌∙◌, append_assoc, length, arith}
 use Rattle.std.proofs.lemmas.List.{append-nil, append_cancel_left}
 use Rattle.std.specs.declared.io.Write as Write
-use Rattle.std.specs.Io.KnownBytes.{Appends, append_known, Keeps}
-use Rattle.std.proofs.KnownBytes.{append_known-passed}
+use Rattle.std.specs.Io.KnownBytes.{Appends, append_known}
 use Rattle.rb_protocol.specs.Sending.{Sends}
 use Rattle.rb_protocol.specs.declared.writing.WriteFault.{WriteFault}
 use Rattle.rb_session.specs.Growth.{KeepsFront, grows_same, grows_on, all_got}

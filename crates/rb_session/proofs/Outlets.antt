@@ -1,9 +1,8 @@
 -- Where serving stopped, and why; what was served, where what answers it could not be handed on.
-use Rattle.std.proofs.Common.{◌≡◌, ℕ, ◌<◌, ◌≤◌, List, [], ◌++◌, Option, Some, Result, Ok, Err, inl, inr, refl, sym, ap, subst, ◌∙◌, arith}
+use Rattle.std.proofs.Common.{◌≡◌, ℕ, ◌<◌, ◌≤◌, List, [], ◌++◌, Option, Some, Result, Ok, Err, inl, inr, sym, ap, subst, ◌∙◌, arith}
 use Rattle.std.proofs.lemmas.List.{append-nil}
 use Rattle.std.specs.Prelude.{IsErr}
 use Rattle.rb_protocol.specs.Line.{HasNoLineFeed}
-use Rattle.rb_protocol.specs.Reads.{HasNotFailed}
 use Rattle.rb_protocol.specs.declared.limited_reader.LimitedReader.{LimitedReader}
 use Rattle.rb_protocol.specs.declared.reader_state.ReaderState.{ReaderState}
 use Rattle.rb_protocol.specs.declared.writing.WriteFault.{WriteFault}
@@ -35,20 +34,6 @@ module _ {R : Type 0} (old : ReaderState) (new : LimitedReader R) where
   reason_to_end (Ok stops.Read) lost is = is
   reason_to_end (Ok stops.ReadTurns) lost is = is
   reason_to_end (Err fault) lost is = is
-
-  -- a write failed, and no read had
-  pub reason_failed : (stopped : Result Stop WriteFault) → IsErr stopped → HasNotFailed old new.state
-      → IsReason old new (end_of stopped 0)
-  reason_failed (Ok stop) failed still = absurd (cc)
-  reason_failed (Err fault) failed still = still
-
-  -- nor had one if the reading stopped with something held back
-  pub reason_late : (stop : Stop) → (stop ≡ stops.Read → ⊥) → IsReason old new (end_of (Ok stop) 0)
-      → HasNotFailed old new.state
-  reason_late stops.Quit other is = is
-  reason_late stops.EndOfInput other is = λ failed. absurd (cc)
-  reason_late stops.Read other is = absurd (other refl)
-  reason_late stops.ReadTurns other is = is.0
 
 -- nothing behind some bytes
 at_nil : (P : List ℕ → Type 0) (bytes more : List ℕ) → more ≡ [] → P bytes → P (bytes ++ more)

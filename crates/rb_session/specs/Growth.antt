@@ -3,7 +3,6 @@ use Rattle.std.specs.Prelude.{◌≡◌, ℕ, List, [], ◌++◌, Option, Some, 
 use Rattle.std.specs.Io.KnownBytes.{Appends, append_known}
 use Rattle.std.proofs.Common.{sym, ap, ◌∙◌, append-nil}
 use Rattle.std.proofs.KnownBytes.{Appends-nil, Appends-trans}
-use Rattle.rb_session.specs.Rules.{HadGotBehind}
 
 -- known bytes stay at the front
 abbrev pub KeepsFront : Option (List ℕ) → Option (List ℕ) → Type 0
