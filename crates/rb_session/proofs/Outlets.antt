@@ -17,7 +17,7 @@ use Rattle.rb_session.specs.declared.delivery.Delivery.TheVariants.{AtOnce, Gath
 use Rattle.rb_session.specs.declared.line_buffer.LineBuffer.{LineBuffer}
 use Rattle.rb_session.specs.declared.stop.Stop.{Stop}
 use Rattle.rb_session.specs.declared.stop.Stop.TheVariants as stops
-use Rattle.rb_session.proofs.Turns.{breaks_off, serves_to_end, fails_at_end}
+use Rattle.rb_session.proofs.Turns.{fails_at_end}
 
 -- something is held back only if replies are gathered
 pub gathers : (delivery : Delivery) (held_back : ℕ) → 0 < held_back → held_back ≤ most_held_back delivery
@@ -53,28 +53,13 @@ module _ {S : Type 0} (rules : SessionRules S) (Over : Type 0) {from : Point S} 
   stops_failed to came sent (Ok stop) failed fails = absurd (cc)
   stops_failed to came sent (Err fault) failed fails = fails
 
-  module _ (late : IsGathered rules.delivery) (to : Point S) (came sent : List ℕ) where
-    -- the lines before the input broke off
-    breaks_late : BreaksOff rules from came sent to → FailsToSend rules Over from came sent to
-    breaks_late breaks = inr (
-      late,
-      inr (inr (record {
-        turns = breaks.turns;
-        unserved = breaks.unserved;
-        split = breaks.split;
-        serves = breaks.serves;
-        waits = breaks.waits;
-        answers = breaks.answers;
-      })),
-    )
-
-    -- what was served, where it could not be handed on
-    pub stops_late : (stop : Stop) → Stops rules Over from came sent (Ok stop) to
-        → FailsToSend rules Over from came sent to
-    stops_late stops.Quit stopped = inr (late, inl stopped)
-    stops_late stops.EndOfInput stopped = inr (late, inr (inl stopped))
-    stops_late stops.Read stopped = breaks_late stopped
-    stops_late stops.ReadTurns stopped = breaks_late stopped
+  -- what was served could not be handed on
+  pub stops_late : IsGathered rules.delivery → (to : Point S) (came sent : List ℕ) (stop : Stop)
+      → Stops rules Over from came sent (Ok stop) to → FailsToSend rules Over from came sent to
+  stops_late late to came sent stops.Quit stopped = inr (late, inl stopped)
+  stops_late late to came sent stops.EndOfInput stopped = inr (late, inr (inl stopped))
+  stops_late late to came sent stops.Read stopped = inr (late, inr (inr stopped.0))
+  stops_late late to came sent stops.ReadTurns stopped = inr (late, inr (inr stopped.0))
 
   module _ {here : Point S} {came sent : List ℕ} (first : ServesFirst rules from came sent here)
       (no_feed : HasNoLineFeed first.unserved) (more text : List ℕ) where
@@ -92,7 +77,7 @@ module _ {S : Type 0} (rules : SessionRules S) (Over : Type 0) {from : Point S} 
     broken : more ≡ [] → text ≡ [] → BreaksOff rules from (came ++ more) (sent ++ text) here
     broken none nothing =
         at_nil (λ b. BreaksOff rules from b (sent ++ text) here) came more none
-        (at_nil (λ t. BreaksOff rules from came t here) sent text nothing (breaks_off rules first no_feed))
+        (at_nil (λ t. BreaksOff rules from came t here) sent text nothing (first, no_feed))
 
     -- a read stopped the session
     pub stops_reading : (delivery : Delivery) (stop : Stop) (buffer : LineBuffer)
@@ -101,7 +86,12 @@ module _ {S : Type 0} (rules : SessionRules S) (Over : Type 0) {from : Point S} 
     stops_reading delivery stops.Quit buffer reads = absurd reads
     stops_reading delivery stops.EndOfInput buffer (over, none, is) =
         at_nil (λ b. ServesToEnd rules Over from b (sent ++ text) here) came more none
-        (subst (λ t. ServesToEnd rules Over from came (sent ++ t) here) (sym is)
-        (serves_to_end rules first Over over no_feed))
+        (record {
+          over = over;
+          text = sent;
+          first = first;
+          no_line = no_feed;
+          answers = ap (λ t. sent ++ t) is;
+        })
     stops_reading delivery stops.Read buffer (none, nothing) = broken none nothing
     stops_reading delivery stops.ReadTurns buffer (none, nothing) = broken none nothing

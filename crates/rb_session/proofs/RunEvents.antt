@@ -34,12 +34,12 @@ use Rattle.rb_protocol.specs.declared.request.Request.TheVariants as requests
 use Rattle.rb_protocol.specs.Line.{HasNoLineFeed}
 use Rattle.rb_session.specs.Rules.{SessionRules, session_rules, HadGotBehind}
 use Rattle.rb_session.specs.Served.{Served}
-use Rattle.rb_session.specs.Turn.{Point, point, IsTurn}
+use Rattle.rb_session.specs.Turn.{Point, point}
 use Rattle.rb_session.specs.Session.{Turn, Serves, ServesFirst, ServesToEnd, ServesToQuit}
 use Rattle.rb_session.specs.Session.{bytes_of, answers_of, texts_of, rest_text}
 use Rattle.rb_session.specs.Closing.{Closes}
 use Rattle.rb_session.specs.JobEnds.{lost_in}
-use Rattle.rb_session.specs.Ran.{BeginsWith, BreaksOff, FailsToWrite, FailsToSend, LosesReplies, RanUntil, ServesSome}
+use Rattle.rb_session.specs.Ran.{BeginsWith, FailsToWrite, FailsToSend, LosesReplies, RanUntil, ServesSome}
 use Rattle.rb_session.specs.Events.{latest}
 use Rattle.rb_session.specs.RunEvents.{StandFirst, SendsAll, MadeByRun, RecordsByRun}
 use Rattle.rb_session.specs.declared.ended.Ended.{Ended}
@@ -81,68 +81,6 @@ module _ {S : Type 0} (rules : DeskRules S) where
     pub closes : Closes rules last.desk last.held lost to
 
   module _ (Over : Type 0) where
-    -- lines that are served stand before the bytes behind them
-    stands : (from to : Point S) (turns more : List Turn) (bytes : List ℕ) → Serves rules from turns to
-        → StandFirst Over bytes more → StandFirst Over (bytes_of turns ++ bytes) (turns ++ more)
-    stands from to [] more bytes same stand = stand
-    stands from to (turn ∷ turns) more bytes (between, is_line, goes_on, is_turn, rest) stand = inl (
-      bytes_of turns ++ bytes,
-      append_assoc turn.raw (LINE_FEED ∷ bytes_of turns) bytes,
-      is_line,
-      stands between to turns more bytes rest stand,
-    )
-
-    -- lines that are served, and more of them
-    path : (from : S) (to : Point S) (came : List ℕ) (turns more : List Turn) (bytes text : List ℕ) (last : Point S)
-        → Serves rules (point from []) turns to → came ≡ bytes_of turns ++ bytes → StandFirst Over bytes more
-        → answers_of more ≡ text → WaysAlong rules to more last → Path Over from came (answers_of turns ++ text) last
-    path from to came turns more bytes text last serves split stand answers ways = record {
-      lines = turns ++ more;
-      stand = subst (λ all. StandFirst Over all (turns ++ more)) (sym split)
-          (stands (point from []) to turns more bytes serves stand);
-      answers = answers_of-append turns more ∙ ap (λ (rest : List ℕ). answers_of turns ++ rest) answers;
-      ways = ways_append rules (point from []) to last turns more (ways_of rules (point from []) to turns serves) ways;
-    }
-
-    -- no more of them
-    path_none : (from : S) (to : Point S) (came : List ℕ) (turns : List Turn) (bytes : List ℕ)
-        → Serves rules (point from []) turns to → came ≡ bytes_of turns ++ bytes
-        → Path Over from came (answers_of turns) to
-    path_none from to came turns bytes serves split =
-        subst (λ text. Path Over from came text to) (append-nil (answers_of turns))
-        (path from to came turns [] bytes [] to serves split tt refl refl)
-
-    -- a line that begins the bytes
-    begins_stand : (bytes : List ℕ) (reading : Result Request LineFault) (replies : List LineReply)
-        → BeginsWith Over bytes reading
-        → (raw : List ℕ) × StandFirst Over bytes (record { raw = raw; reading = reading; replies = replies } ∷ [])
-    begins_stand bytes reading replies (inl (raw, rest, split, is_line)) = (raw, inl (rest, split, is_line, tt))
-    begins_stand bytes reading replies (inr (over, some, no_line, is)) =
-        (bytes, inr (over, refl, some, no_line, is, refl))
-
-    -- one more line
-    path_one : (from : S) (to : Point S) (came : List ℕ) (turns : List Turn) (bytes : List ℕ)
-        (reading : Result Request LineFault) (replies : List LineReply) (last : Point S)
-        → Serves rules (point from []) turns to → came ≡ bytes_of turns ++ bytes → BeginsWith Over bytes reading
-        → IsTurn rules to reading replies last → Path Over from came (answers_of turns ++ texts_of replies) last
-    path_one from to came turns bytes reading replies last serves split begins is_turn =
-        let stand = begins_stand bytes reading replies begins in
-        let turn : Turn = record { raw = stand.0; reading = reading; replies = replies } in
-        path from to came turns (turn ∷ []) bytes (texts_of replies) last serves split stand.1 (answers_one turn)
-        (last, way_of rules reading to last replies is_turn, refl)
-
-    -- what stands behind the last line feed
-    path_rest : (from : S) (to : Point S) (came : List ℕ) (turns : List Turn) (rest : List ℕ)
-        → Serves rules (point from []) turns to → came ≡ bytes_of turns ++ rest → HasNoLineFeed rest → Over
-        → Path Over from came (answers_of turns ++ rest_text rest) to
-    path_rest from to came turns [] serves split no_line over =
-        path from to came turns [] [] [] to serves split tt refl refl
-    path_rest from to came turns (byte ∷ rest) serves split no_line over =
-        let turn : Turn = record { raw = byte ∷ rest; reading = Err Line; replies = lines.Err words.Line ∷ [] } in
-        path from to came turns (turn ∷ []) (byte ∷ rest) (text_of (lines.Err words.Line)) to serves split
-        (inr (over, refl, omega arith, no_line, refl, refl)) (answers_one turn ∙ texts_one (lines.Err words.Line))
-        (to, alone rules (Err Line) (lines.Err words.Line) tt tt (λ moment. refl) to to turn.replies (refl, refl), refl)
-
     -- all was sent
     ends_whole : (from : S) (served : Served) (ended : Result Ended SessionFault) (to : S) (last : Point S) (lost : ℕ)
         → SendsAll ended [] → Path Over from served.came served.sent last → Closes rules last.desk last.held lost to
@@ -259,52 +197,94 @@ module _ {S : Type 0} (rules : DeskRules S) where
         closes_keep run.last.desk to run.last.held run.lost run.closes
         ∙ ways_keep (point from []) run.last run.path.lines run.path.ways
 
+-- lines that are served stand before the bytes behind them
+stands : {S : Type 0} (rules : DeskRules S) (Over : Type 0) (from to : Point S) (turns more : List Turn)
+    (bytes : List ℕ) → Serves rules from turns to → StandFirst Over bytes more
+    → StandFirst Over (bytes_of turns ++ bytes) (turns ++ more)
+stands rules Over from to [] more bytes same stand = stand
+stands rules Over from to (turn ∷ turns) more bytes (between, is_line, goes_on, is_turn, rest) stand = inl (
+  bytes_of turns ++ bytes,
+  append_assoc turn.raw (LINE_FEED ∷ bytes_of turns) bytes,
+  is_line,
+  stands rules Over between to turns more bytes rest stand,
+)
+
+-- a line that begins the bytes
+begins_stand : (Over : Type 0) (bytes : List ℕ) (reading : Result Request LineFault) (replies : List LineReply)
+    → BeginsWith Over bytes reading
+    → (raw : List ℕ) × StandFirst Over bytes (record { raw = raw; reading = reading; replies = replies } ∷ [])
+begins_stand Over bytes reading replies (inl (raw, rest, split, is_line)) = (raw, inl (rest, split, is_line, tt))
+begins_stand Over bytes reading replies (inr (over, some, no_line, is)) =
+    (bytes, inr (over, refl, some, no_line, is, refl))
+
 module _ {S : Type 0} (rules : SessionRules S) (Over : Type 0) (from : S) where
+  -- lines that are served, and more of them
+  path : {to : Point S} {came text : List ℕ} (first : ServesFirst rules (point from []) came text to)
+      (more : List Turn) (tail : List ℕ) (last : Point S) → StandFirst Over first.unserved more
+      → answers_of more ≡ tail → WaysAlong rules.desk to more last → Path rules.desk Over from came (text ++ tail) last
+  path {to = to} {text = text} first more tail last stand answers ways = record {
+    lines = first.turns ++ more;
+    stand = subst (λ all. StandFirst Over all (first.turns ++ more)) (sym first.split)
+        (stands rules.desk Over (point from []) to first.turns more first.unserved first.serves stand);
+    answers = answers_of-append first.turns more ∙ ap (λ (t : List ℕ). t ++ answers_of more) (sym first.answers)
+        ∙ ap (λ (t : List ℕ). text ++ t) answers;
+    ways = ways_append rules.desk (point from []) to last first.turns more
+        (ways_of rules.desk (point from []) to first.turns first.serves) ways;
+  }
+
+  path_to_first : (to : Point S) (came text : List ℕ) → ServesFirst rules (point from []) came text to
+      → Path rules.desk Over from came text to
+  path_to_first to came text first =
+      subst (λ all. Path rules.desk Over from came all to) (append-nil text) (path first [] [] to tt refl refl)
+
   path_to_quit : (to : Point S) (came sent : List ℕ) → ServesToQuit rules (point from []) came sent to
       → Path rules.desk Over from came sent to
   path_to_quit to came sent quits =
       let turn : Turn = record { raw = quits.raw; reading = Ok requests.Quit; replies = lines.Bye ∷ [] } in
       subst (λ text. Path rules.desk Over from came text to) (sym quits.answers)
-      (path rules.desk Over from to came quits.turns (turn ∷ []) (quits.raw ++ LINE_FEED ∷ quits.unserved)
-      (text_of lines.Bye) to quits.serves quits.split (inl (quits.unserved, refl, quits.quit, tt))
+      (path quits.first (turn ∷ []) (text_of lines.Bye) to (inl (quits.unserved, quits.split, quits.quit, tt))
       (answers_one turn ∙ texts_one lines.Bye) (
         to,
         alone rules.desk (Ok requests.Quit) lines.Bye tt tt (λ moment. refl) to to turn.replies (refl, refl),
         refl,
       ))
 
+  -- what stands behind the last line feed
+  rest_stands : (to : Point S) (bytes : List ℕ) → HasNoLineFeed bytes → Over
+      → (more : List Turn) × StandFirst Over bytes more × (answers_of more ≡ rest_text bytes)
+      × WaysAlong rules.desk to more to
+  rest_stands to [] no_line over = ([], tt, refl, refl)
+  rest_stands to (byte ∷ rest) no_line over =
+      let turn : Turn = record { raw = byte ∷ rest; reading = Err Line; replies = lines.Err words.Line ∷ [] } in (
+        turn ∷ [],
+        inr (over, refl, omega arith, no_line, refl, refl),
+        answers_one turn ∙ texts_one (lines.Err words.Line),
+        (
+          to,
+          alone rules.desk (Err Line) (lines.Err words.Line) tt tt (λ moment. refl) to to turn.replies (refl, refl),
+          refl,
+        ),
+      )
+
   path_to_end : (to : Point S) (came sent : List ℕ) → ServesToEnd rules Over (point from []) came sent to
       → Path rules.desk Over from came sent to
   path_to_end to came sent ending =
+      let rest = rest_stands to ending.first.unserved ending.no_line ending.over in
       subst (λ text. Path rules.desk Over from came text to) (sym ending.answers)
-      (path_rest rules.desk Over from to came ending.turns ending.rest ending.serves ending.split ending.no_line
-      ending.over)
-
-  path_to_break : (to : Point S) (came sent : List ℕ) → BreaksOff rules (point from []) came sent to
-      → Path rules.desk Over from came sent to
-  path_to_break to came sent breaks =
-      subst (λ text. Path rules.desk Over from came text to) (sym breaks.answers)
-      (path_none rules.desk Over from to came breaks.turns breaks.unserved breaks.serves breaks.split)
-
-  path_to_first : (to : Point S) (came text : List ℕ) → ServesFirst rules (point from []) came text to
-      → Path rules.desk Over from came text to
-  path_to_first to came text first =
-      subst (λ all. Path rules.desk Over from came all to) (sym first.answers)
-      (path_none rules.desk Over from to came first.turns first.unserved first.serves first.split)
+      (path ending.first rest.0 (rest_text ending.first.unserved) to rest.1 rest.2 rest.3)
 
   -- the text of the line whose reply failed was sent in part
   path_to_fault : (to : Point S) (came sent : List ℕ) → FailsToWrite rules Over (point from []) came sent to
       → (unsent : List ℕ) × Path rules.desk Over from came (sent ++ unsent) to
   path_to_fault to came sent fails =
-      let whole : answers_of fails.turns ++ texts_of fails.replies ≡ sent ++ fails.unsent =
-      ap (λ (text : List ℕ). answers_of fails.turns ++ text) fails.parts
-      ∙ sym (append_assoc (answers_of fails.turns) fails.first fails.unsent)
-      ∙ ap (λ (text : List ℕ). text ++ fails.unsent) (sym fails.answers) in (
+      let stand = begins_stand Over fails.first.unserved fails.reading fails.replies fails.begins in
+      let turn : Turn = record { raw = stand.0; reading = fails.reading; replies = fails.replies } in (
         fails.unsent,
-        subst (λ text. Path rules.desk Over from came text to) whole
-            (path_one rules.desk Over from fails.before_last came fails.turns fails.unserved fails.reading fails.replies
-            to
-            fails.serves fails.split fails.begins fails.turn),
+        subst (λ text. Path rules.desk Over from came text to)
+            (ap (λ (t : List ℕ). fails.text ++ t) fails.parts ∙ sym (append_assoc fails.text fails.part fails.unsent)
+            ∙ ap (λ (t : List ℕ). t ++ fails.unsent) (sym fails.answers))
+            (path fails.first (turn ∷ []) (texts_of fails.replies) to stand.1 (answers_one turn)
+            (to, way_of rules.desk fails.reading fails.before_last to fails.replies fails.turn, refl)),
       )
 
   path_to_some : (to : Point S) (came text : List ℕ) → ServesSome rules Over (point from []) came text to
@@ -341,10 +321,10 @@ module _ {S : Type 0} (rules : SessionRules S) (Over : Type 0) (from : S) where
       (path_to_end last served.came served.sent ending) closes refl
   ends_of to served (Err (faults.Read lost)) (last, breaks, closes) =
       ends_whole rules.desk Over from served (Err (faults.Read lost)) to last lost refl
-      (path_to_break last served.came served.sent breaks) closes refl
+      (path_to_first last served.came served.sent breaks.0) closes refl
   ends_of to served (Err (faults.ReadTurns lost)) (last, breaks, closes) =
       ends_whole rules.desk Over from served (Err (faults.ReadTurns lost)) to last lost refl
-      (path_to_break last served.came served.sent breaks) closes refl
+      (path_to_first last served.came served.sent breaks.0) closes refl
   ends_of to served (Err (faults.Write lost)) (last, loses, closes) =
       ends_part rules.desk Over from served to last lost (path_to_loss last served.came served.sent loses) closes
   ends_of to served (Err faults.Memory) (same, nothing, silent) =

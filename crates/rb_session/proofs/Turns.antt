@@ -17,9 +17,9 @@ use Rattle.rb_protocol.specs.declared.err_word.ErrWord.TheVariants as words
 use Rattle.rb_session.specs.Buffer.{IsUnserved}
 use Rattle.rb_session.specs.Rules.{SessionRules}
 use Rattle.rb_session.specs.Turn.{Point, IsTurn, AsksToWait}
-use Rattle.rb_session.specs.Session.{Turn, IsLine, Serves, GotBeforeWaits, ServesFirst, ServesToEnd, ServesToQuit}
+use Rattle.rb_session.specs.Session.{Turn, IsLine, Serves, GotBeforeWaits, ServesFirst, ServesToQuit}
 use Rattle.rb_session.specs.Session.{bytes_of, answers_of, texts_of, rest_text}
-use Rattle.rb_session.specs.Ran.{BreaksOff, FailsToWrite}
+use Rattle.rb_session.specs.Ran.{FailsToWrite}
 use Rattle.rb_session.specs.declared.line_buffer.LineBuffer.{LineBuffer}
 
 -- the bytes of lines, one behind the other
@@ -103,65 +103,29 @@ module _ {S : Type 0} (rules : SessionRules S) where
       unserved,
     )
 
-    -- the input breaks off
-    pub breaks_off : HasNoLineFeed first.unserved → BreaksOff rules from came sent here
-    breaks_off no_feed = record {
-      turns = first.turns;
-      unserved = first.unserved;
-      split = first.split;
-      no_line = no_feed;
-      serves = first.serves;
-      waits = first.waits;
-      answers = first.answers;
-    }
-
-    -- the input ends
-    pub serves_to_end : (Over : Type 0) → Over → HasNoLineFeed first.unserved
-        → ServesToEnd rules Over from came (sent ++ rest_text first.unserved) here
-    serves_to_end Over over no_feed = record {
-      over = over;
-      turns = first.turns;
-      rest = first.unserved;
-      split = first.split;
-      no_line = no_feed;
-      serves = first.serves;
-      waits = first.waits;
-      answers = ap (λ t. t ++ rest_text first.unserved) first.answers;
-    }
-
-    -- and its last bytes could not be answered
+    -- the bytes behind the last line feed could not be answered
     pub fails_at_end : (Over : Type 0) → Over → HasNoLineFeed first.unserved → 0 < length first.unserved
-        → (text unsent : List ℕ) → rest_text first.unserved ≡ text ++ unsent
-        → FailsToWrite rules Over from came (sent ++ text) here
-    fails_at_end Over over no_feed some text unsent parts = record {
-      turns = first.turns;
-      unserved = first.unserved;
-      split = first.split;
+        → (part unsent : List ℕ) → rest_text first.unserved ≡ part ++ unsent
+        → FailsToWrite rules Over from came (sent ++ part) here
+    fails_at_end Over over no_feed some part unsent parts = record {
+      text = sent;
       before_last = here;
-      serves = first.serves;
-      waits = first.waits;
+      first = first;
       reading = Err Line;
       begins = inr (over, some, no_feed, refl);
-      last_waits = λ waits. absurd waits;
+      waits = λ asks. absurd asks;
       replies = lines.Err words.Line ∷ [];
       turn = (refl, refl);
-      first = text;
+      part = part;
       unsent = unsent;
       parts = rest_is first.unserved some ∙ parts;
-      answers = ap (λ t. t ++ text) first.answers;
+      answers = refl;
     }
 
     -- the next line is answered
     module _ (after : Point S) (raw rest : List ℕ) (reading : Result Request LineFault) (replies : List LineReply)
         (split : first.unserved ≡ raw ++ LINE_FEED ∷ rest) (line : IsLine raw reading)
         (waits : AsksToWait reading → rules.HadGot sent) (turn : IsTurn rules.desk here reading replies after) where
-      pub cut : came ≡ bytes_of first.turns ++ (raw ++ LINE_FEED ∷ rest)
-      cut = first.split ∙ ap (λ b. bytes_of first.turns ++ b) split
-
-      -- before it may wait, the writer had got what answers those before it
-      pub had_answers : AsksToWait reading → rules.HadGot (answers_of first.turns)
-      had_answers asks = subst rules.HadGot first.answers (waits asks)
-
       -- its whole reply was sent, and the session goes on
       pub goes_on : reading ≢ Ok Quit → (buffer : LineBuffer) → IsUnserved buffer rest
           → (later : ServesFirst rules from came (sent ++ texts_of replies) after) × IsUnserved buffer later.unserved
@@ -170,10 +134,11 @@ module _ {S : Type 0} (rules : SessionRules S) where
             record {
               turns = first.turns ++ one ∷ [];
               unserved = rest;
-              split = cut ∙ bytes_more first.turns one rest;
+              split = first.split ∙ ap (λ b. bytes_of first.turns ++ b) split ∙ bytes_more first.turns one rest;
               serves = serves_on rules.desk from here after first.turns (one ∷ []) first.serves
                   (after, line, other, turn, refl);
-              waits = waits_on rules.HadGot [] first.turns (one ∷ []) first.waits (had_answers, tt);
+              waits = waits_on rules.HadGot [] first.turns (one ∷ []) first.waits
+                  (λ asks. subst rules.HadGot first.answers (waits asks), tt);
               answers = ap (λ t. t ++ texts_of replies) first.answers ∙ answers_more first.turns one;
             },
             unserved,
@@ -183,36 +148,32 @@ module _ {S : Type 0} (rules : SessionRules S) where
       pub quits : length rest < BUFFER_BYTES → reading ≡ Ok Quit
           → ServesToQuit rules from came (sent ++ texts_of replies) after
       quits few quit =
-          let bye = subst (λ r. IsTurn rules.desk here r replies after) quit turn in record {
-            turns = first.turns;
+          let bye = subst (λ r. IsTurn rules.desk here r replies after) quit turn in
+          subst (λ p. ServesToQuit rules from came (sent ++ texts_of replies) p) (sym bye.2.1) (record {
+            text = sent;
+            first = first;
             raw = raw;
             unserved = rest;
-            split = cut;
+            split = split;
             few = few;
             quit = subst (IsLine raw) quit line;
-            serves = subst (λ p. Serves rules.desk from first.turns p) (sym bye.2.1) first.serves;
-            waits = first.waits;
-            answers = ap (λ t. t ++ texts_of replies) first.answers
-                ∙ ap (λ t. answers_of first.turns ++ t) (ap texts_of bye.2.0 ∙ append-nil (text_of lines.Bye));
-          }
+            answers = ap (λ t. sent ++ t) (ap texts_of bye.2.0 ∙ append-nil (text_of lines.Bye));
+          })
 
       -- its reply could not be sent whole
-      pub fails : (Over : Type 0) (text unsent : List ℕ) → texts_of replies ≡ text ++ unsent
-          → FailsToWrite rules Over from came (sent ++ text) after
-      fails Over text unsent parts = record {
-        turns = first.turns;
-        unserved = raw ++ LINE_FEED ∷ rest;
-        split = cut;
+      pub fails : (Over : Type 0) (part unsent : List ℕ) → texts_of replies ≡ part ++ unsent
+          → FailsToWrite rules Over from came (sent ++ part) after
+      fails Over part unsent parts = record {
+        text = sent;
         before_last = here;
-        serves = first.serves;
-        waits = first.waits;
+        first = first;
         reading = reading;
-        begins = inl (raw, rest, refl, line);
-        last_waits = had_answers;
+        begins = inl (raw, rest, split, line);
+        waits = waits;
         replies = replies;
         turn = turn;
-        first = text;
+        part = part;
         unsent = unsent;
         parts = parts;
-        answers = ap (λ t. t ++ text) first.answers;
+        answers = refl;
       }

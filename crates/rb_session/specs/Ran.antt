@@ -9,8 +9,7 @@ use Rattle.rb_protocol.specs.declared.line_reply.LineReply.{LineReply}
 use Rattle.rb_session.specs.Rules.{SessionRules, IsGathered, most_held_back}
 use Rattle.rb_session.specs.Served.{Served}
 use Rattle.rb_session.specs.Turn.{Point, point, IsTurn, AsksToWait}
-use Rattle.rb_session.specs.Session.{Turn, IsLine, Serves, GotBeforeWaits, ServesFirst, ServesToEnd, ServesToQuit}
-use Rattle.rb_session.specs.Session.{bytes_of, answers_of, texts_of}
+use Rattle.rb_session.specs.Session.{IsLine, ServesFirst, ServesToEnd, ServesToQuit, texts_of}
 use Rattle.rb_session.specs.Closing.{Closes}
 use Rattle.rb_session.specs.declared.ended.Ended.{Ended}
 use Rattle.rb_session.specs.declared.ended.Ended.TheVariants.{Quit, EndOfInput}
@@ -26,33 +25,24 @@ BeginsWith Over bytes reading =
 module _ {S : Type 0} (rules : SessionRules S) where
   -- The input broke off. The whole lines of what came were served and answered; the bytes behind them
   -- were not.
-  pub record BreaksOff (from : Point S) (came sent : List ℕ) (to : Point S) : Type 0 where
-    pub turns : List Turn
-    pub unserved : List ℕ
-    pub split : came ≡ bytes_of turns ++ unserved
-    pub no_line : HasNoLineFeed unserved
-    pub serves : Serves rules.desk from turns to
-    pub waits : GotBeforeWaits rules.HadGot [] turns
-    pub answers : sent ≡ answers_of turns
+  abbrev pub BreaksOff : Point S → List ℕ → List ℕ → Point S → Type 0
+  BreaksOff from came sent to = (first : ServesFirst rules from came sent to) × HasNoLineFeed first.unserved
 
   -- A reply could not be sent whole. The lines before were answered whole; this line was the last that was served, and
   -- a first part of its own text was sent.
   pub record FailsToWrite (Over : Type 0) (from : Point S) (came sent : List ℕ) (to : Point S) : Type 0 where
-    pub turns : List Turn
-    pub unserved : List ℕ
-    pub split : came ≡ bytes_of turns ++ unserved
+    pub text : List ℕ
     pub before_last : Point S
-    pub serves : Serves rules.desk from turns before_last
-    pub waits : GotBeforeWaits rules.HadGot [] turns
+    pub first : ServesFirst rules from came text before_last
     pub reading : Result Request LineFault
-    pub begins : BeginsWith Over unserved reading
-    pub last_waits : AsksToWait reading → rules.HadGot (answers_of turns)
+    pub begins : BeginsWith Over first.unserved reading
+    pub waits : AsksToWait reading → rules.HadGot text
     pub replies : List LineReply
     pub turn : IsTurn rules.desk before_last reading replies to
-    pub first : List ℕ
+    pub part : List ℕ
     pub unsent : List ℕ
-    pub parts : texts_of replies ≡ first ++ unsent
-    pub answers : sent ≡ answers_of turns ++ first
+    pub parts : texts_of replies ≡ part ++ unsent
+    pub answers : sent ≡ text ++ part
 
   -- what a session may have served when a write fails: all that it had to, or the first lines
   abbrev pub ServesSome : Type 0 → Point S → List ℕ → List ℕ → Point S → Type 0

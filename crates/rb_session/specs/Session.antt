@@ -76,23 +76,19 @@ module _ {S : Type 0} (rules : SessionRules S) where
   -- truncated line.
   pub record ServesToEnd (Over : Type 0) (from : Point S) (came sent : List ℕ) (to : Point S) : Type 0 where
     pub over : Over
-    pub turns : List Turn
-    pub rest : List ℕ
-    pub split : came ≡ bytes_of turns ++ rest
-    pub no_line : HasNoLineFeed rest
-    pub serves : Serves rules.desk from turns to
-    pub waits : GotBeforeWaits rules.HadGot [] turns
-    pub answers : sent ≡ answers_of turns ++ rest_text rest
+    pub text : List ℕ
+    pub first : ServesFirst from came text to
+    pub no_line : HasNoLineFeed first.unserved
+    pub answers : sent ≡ text ++ rest_text first.unserved
 
   -- What came is served to a line that ends the session. What came behind that one is not served, and is less
   -- than one read gets: nothing is read once that line has come.
   pub record ServesToQuit (from : Point S) (came sent : List ℕ) (to : Point S) : Type 0 where
-    pub turns : List Turn
+    pub text : List ℕ
+    pub first : ServesFirst from came text to
     pub raw : List ℕ
     pub unserved : List ℕ
-    pub split : came ≡ bytes_of turns ++ (raw ++ LINE_FEED ∷ unserved)
+    pub split : first.unserved ≡ raw ++ LINE_FEED ∷ unserved
     pub few : length unserved < BUFFER_BYTES
     pub quit : IsLine raw (Ok Quit)
-    pub serves : Serves rules.desk from turns to
-    pub waits : GotBeforeWaits rules.HadGot [] turns
-    pub answers : sent ≡ answers_of turns ++ text_of lines.Bye
+    pub answers : sent ≡ text ++ text_of lines.Bye
