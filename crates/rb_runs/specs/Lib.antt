@@ -16,6 +16,5 @@ pub mod TextVerdict
 pub mod Beginning
 pub mod FileText
 pub mod Script
-pub mod ScriptRun
 pub mod WrittenRuns
 pub mod ScriptEvents

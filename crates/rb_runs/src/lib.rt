@@ -9,16 +9,14 @@ mod reading;
 mod recording;
 mod replay;
 mod script;
-mod script_laws;
 mod script_report;
 mod script_run;
 mod text_verdict;
 
-pub use laws::{recorded_is_read, script_is_read};
+pub use laws::{history_of_script, recorded_is_read, script_is_read};
 pub use opening::opening_in;
 pub use reading::{read_all, read_all_limited};
 pub use recording::Recording;
 pub use replay::run_replay;
 pub use script::{run_script, run_script_delivered};
-pub use script_laws::history_of_script;
 pub use script_report::ScriptReport;

@@ -6,8 +6,9 @@ ghost use Rattle.rb_session.specs.declared.delivery.Delivery.TheVariants.{AtOnce
 ghost use Rattle.rb_ending.specs.Recording.{lent, given_back};
 ghost use Rattle.rb_runs.specs.Script.{EndsScript, RanScript, script_terms, device_of};
 
+use crate::over_timer;
 use crate::script_report::ScriptReport;
-use crate::script_run::{Script, run_recorded, run_unrecorded};
+use crate::script_run::{Script, script_over};
 use rb_ending::BrokerFault;
 use rb_options::ScriptOptions;
 use rb_protocol::LimitedReader;
@@ -42,15 +43,23 @@ pub fn run_script<R: Read, W: Write, H: Write>(
 {
     let mut limited = LimitedReader::new(reader);
     let reader = &mut limited;
-    let script = Script {
-        calls: options.calls,
-        policy: &options.policy,
-        delivery: Delivery::AtOnce,
-        opening,
-    };
+    let at_once = Delivery::AtOnce;
+    // For the proof: it follows the device only where it knows that there is one.
     match history {
-        Some(device) => run_recorded(alloc, options.timer, script, reader, writer, device).result(),
-        None => run_unrecorded(alloc, options.timer, script, reader, writer).result(),
+        Some(to) => {
+            run_script_delivered(
+                alloc,
+                options,
+                at_once,
+                opening,
+                reader,
+                writer,
+                Some(to),
+            ).result()
+        }
+        none => {
+            run_script_delivered(alloc, options, at_once, opening, reader, writer, none).result()
+        }
     }
 }
 
@@ -81,13 +90,19 @@ pub fn run_script_delivered<R: Read, W: Write, H: Write>(
     ensures same_reference { reader.new.inner.ghost_name ≡ reader.old.inner.ghost_name }
 {
     let script = Script {
-        calls: options.calls,
-        policy: &options.policy,
+        options,
         delivery,
         opening,
     };
+    // For the proof: as in `run_script`.
     match history {
-        Some(device) => run_recorded(alloc, options.timer, script, reader, writer, device),
-        None => run_unrecorded(alloc, options.timer, script, reader, writer),
+        Some(to) => over_timer!(
+            options.timer,
+            script_over::<_, R, W, H>(alloc, script, reader, writer, Some(to)),
+        ),
+        none => over_timer!(
+            options.timer,
+            script_over::<_, R, W, H>(alloc, script, reader, writer, none),
+        ),
     }
 }

@@ -1,4 +1,5 @@
-ghost use Rattle.std.specs.Prelude.{◌≡◌};
+ghost use Rattle.std.specs.Prelude.{◌≡◌, Err};
+ghost use Rattle.rb_session.specs.declared.session_fault.SessionFault.TheVariants.{Memory};
 ghost use Rattle.rb_runs.specs.Script.{result_of};
 
 use crate::recording::Recording;
@@ -15,6 +16,16 @@ pub struct ScriptReport {
 }
 
 impl ScriptReport {
+    // Of a session that found no memory, so that nothing was read.
+    pub(crate) fn unbegun(recording: Recording) -> ScriptReport
+        ensures { result ≡ record { session = Err Memory; recording = recording } }
+    {
+        ScriptReport {
+            session: Err(SessionFault::Memory),
+            recording,
+        }
+    }
+
     /// How the run ended: with the session's fault, if it has one, and otherwise with that of its history.
     pub fn result(&self) -> Result<Ended, BrokerFault>
         ensures { result ≡ result_of self.now.session self.now.recording }

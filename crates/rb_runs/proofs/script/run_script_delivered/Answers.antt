@@ -1,17 +1,11 @@
--- With a device the script was recorded to it, and without one it was not recorded.
-use Rattle.rb_runs.proofs.ScriptRuns.{unrecorded}
+-- Whichever timer was chosen, the device that is there was left as it was by the script over that timer.
 use Rattle.rb_runs.proofs.script.run_script_delivered.Goals as goal
+use Rattle.rb_runs.proofs.script.run_script_delivered.Goals.{in-List, in-Heap, in-Pairing, in-Wheel}
 
-pub returns-in-Some-clause-ran : goal.returns-in-Some-clause-ran
-returns-in-Some-clause-ran g c = rw c.in-Some.is c.run_recorded.ensures.ran
-
-pub returns-in-None-clause-ran : goal.returns-in-None-clause-ran
-returns-in-None-clause-ran g c =
-    let ran = c.run_unrecorded.ensures.ran in
-    rw c.in-None.is (record {
-      came = ran.came;
-      sent = ran.sent;
-      consumed = ran.consumed;
-      appended = ran.appended;
-      holds = unrecorded g.H.Write.contents _ _ _ _ _ ran.holds;
-    })
+pub returns-after-options-clause-ran : goal.returns-after-options-clause-ran
+returns-after-options-clause-ran g c = rw c.in-Some.is (elim c.match-options.branch [
+  | in-List w ↦ rw (w.reader-is, w.writer-is, w.to-is, w.result-is) w.script_over.ensures.ran
+  | in-Heap w ↦ rw (w.reader-is, w.writer-is, w.to-is, w.result-is) w.script_over-in-Heap.ensures.ran
+  | in-Pairing w ↦ rw (w.reader-is, w.writer-is, w.to-is, w.result-is) w.script_over-in-Pairing.ensures.ran
+  | in-Wheel w ↦ rw (w.reader-is, w.writer-is, w.to-is, w.result-is) w.script_over-in-Wheel.ensures.ran
+])
