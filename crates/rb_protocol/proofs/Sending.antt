@@ -5,7 +5,7 @@ use Rattle.std.specs.Prelude.{IsErr, true, is_err}
 use Rattle.std.specs.Io.KnownBytes.{Appends, Keeps}
 use Rattle.std.proofs.KnownBytes.{Appends-nil, Appends-trans, Appends-kept}
 use Rattle.rb_protocol.specs.Sending.{Sends}
-use Rattle.rb_protocol.specs.declared.writing.WriteFault.{WriteFault}
+use Rattle.rb_protocol.specs.declared.streams.writing.WriteFault.{WriteFault}
 
 -- a text behind another
 pub sends_then : {T : Type 0} (result : Result T WriteFault) (old mid new : Option (List ℕ)) (one two : List ℕ) → Appends old mid one → Sends result mid two new → Sends result old (one ++ two) new

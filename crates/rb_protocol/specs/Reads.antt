@@ -3,8 +3,8 @@ use Rattle.std.specs.Prelude.{◌≡◌, ◌≢◌, ◌↔◌, ℕ, Result, Ok, 
 use Rattle.std.specs.IoError.{error_kind}
 use Rattle.std.specs.declared.io.Error.{Error}
 use Rattle.std.specs.declared.io.ErrorKind.TheVariants.{Interrupted}
-use Rattle.rb_protocol.specs.declared.reader_state.ReaderState.{ReaderState}
-use Rattle.rb_protocol.specs.declared.reader_state.ReaderState.TheVariants.{AtEnd, Failed}
+use Rattle.rb_protocol.specs.declared.streams.reader_state.ReaderState.{ReaderState}
+use Rattle.rb_protocol.specs.declared.streams.reader_state.ReaderState.TheVariants.{AtEnd, Failed}
 
 -- The reader is at its end exactly if the read brought no byte, and has failed exactly if the read came to an error
 -- that is no interruption.

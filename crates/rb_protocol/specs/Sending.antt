@@ -1,7 +1,7 @@
 -- What a writer has got of a text that was sent to it.
 use Rattle.std.specs.Prelude.{◌≡◌, ℕ, List, ◌++◌, Option, Result, Ok, Err}
 use Rattle.std.specs.Io.KnownBytes.{Appends}
-use Rattle.rb_protocol.specs.declared.writing.WriteFault.{WriteFault}
+use Rattle.rb_protocol.specs.declared.streams.writing.WriteFault.{WriteFault}
 
 -- the text was sent whole, or after a fault a first part of it
 abbrev pub Sends : {T : Type 0} → Result T WriteFault → Option (List ℕ) → List ℕ → Option (List ℕ) → Type 0

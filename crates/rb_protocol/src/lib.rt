@@ -1,5 +1,5 @@
-//! The broker's line protocol: which request a line is, and which line a reply is. It also has what
-//! all crates that read or write lines share: the limits of reads, and the loop that writes bytes.
+//! The broker's line protocol: which request a line is, and which line a reply is. Its module
+//! `streams` has what all crates that read or write bytes share.
 //!
 //! A request is one line of words separated by single spaces, and so is each line of a reply. Lines
 //! are read without their ends, and written with them. Reading takes no memory, and writing takes
@@ -10,29 +10,26 @@ mod err_word;
 mod format;
 mod keywords;
 mod laws;
-mod limited_reader;
 mod limits;
 mod line_fault;
 mod line_reply;
 mod line_words;
 mod number;
-mod reader_state;
 mod reply_line;
 mod request;
-mod send;
-mod writing;
+mod streams;
 
 pub use err_word::ErrWord;
 pub use format::{CARRIAGE_RETURN, LINE_FEED, SPACE};
 pub use laws::limits_have_their_values;
-pub use limited_reader::LimitedReader;
 pub use limits::{BUFFER_BYTES, MOST_READS};
 pub use line_fault::LineFault;
 pub use line_reply::{LineReply, MOST_REPLY_BYTES, REPLY_ROOM, write_reply};
 pub use line_words::cut_word;
 pub use number::read_number;
-pub use reader_state::ReaderState;
 pub use reply_line::ReplyLine;
 pub use request::{MOST_LINE_BYTES, Request, one_reading, read_request, request_has_text};
-pub use send::{flush, send_at_once, send_line};
-pub use writing::{WriteFault, write_out};
+pub use streams::limited_reader::LimitedReader;
+pub use streams::reader_state::ReaderState;
+pub use streams::send::{flush, send_at_once, send_line};
+pub use streams::writing::{WriteFault, write_out};

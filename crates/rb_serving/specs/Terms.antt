@@ -6,7 +6,7 @@ use Rattle.rb_blocking.specs.declared.clock.Clock as Clock
 use Rattle.rb_blocking.specs.declared.gate.Gate as Gate
 use Rattle.rb_retry.specs.declared.policy.Policy.{Policy}
 use Rattle.rb_session.specs.declared.delivery.Delivery.{Delivery}
-use Rattle.rb_protocol.specs.declared.limited_reader.LimitedReader.{LimitedReader}
+use Rattle.rb_protocol.specs.declared.streams.limited_reader.LimitedReader.{LimitedReader}
 use Rattle.rb_serving.specs.declared.door.Door as Door
 use Rattle.rb_serving.specs.declared.service.Service.{Service}
 use Rattle.rb_serving.specs.declared.visit.Visit.{Visit}

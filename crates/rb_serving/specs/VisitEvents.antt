@@ -1,7 +1,7 @@
 -- Which calls a visit adds to those of the pass that serves it: just what its session made.
 use Rattle.std.specs.Prelude.{◌≡◌, List, ◌++◌}
 use Rattle.std.specs.Io.KnownBytes.{IsAtEnd}
-use Rattle.rb_protocol.specs.declared.limited_reader.LimitedReader.{LimitedReader}
+use Rattle.rb_protocol.specs.declared.streams.limited_reader.LimitedReader.{LimitedReader}
 use Rattle.rb_lock.specs.Passes.{Seen}
 use Rattle.rb_retry.specs.Made.{Made, made_by}
 use Rattle.rb_session.specs.RunEvents.{MadeByRun}

@@ -1,8 +1,8 @@
 -- What became of those who came to a door, and of the pass of the worker that served them.
 use Rattle.std.specs.Prelude.{◌≡◌, ℕ, ◌+◌, min, List, [], ◌∷◌, ◌++◌, length, Option, None, Some}
 use Rattle.std.specs.Io.KnownBytes.{Appends, Consumes, IsAtEnd}
-use Rattle.rb_protocol.specs.declared.limited_reader.LimitedReader.{LimitedReader}
-use Rattle.rb_protocol.specs.declared.reader_state.ReaderState.TheVariants.{Open}
+use Rattle.rb_protocol.specs.declared.streams.limited_reader.LimitedReader.{LimitedReader}
+use Rattle.rb_protocol.specs.declared.streams.reader_state.ReaderState.TheVariants.{Open}
 use Rattle.rb_ledger.specs.declared.totals.TheConstants.{GREATEST_COUNT}
 use Rattle.rb_queue.specs.Counts.{events_of}
 use Rattle.rb_queue.specs.declared.opening.Opening.{Opening}

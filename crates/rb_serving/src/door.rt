@@ -1,5 +1,5 @@
 ghost use Rattle.std.specs.Prelude.{OnErr, IfNone, IfOk, IfSome};
-ghost use Rattle.rb_protocol.specs.declared.limited_reader.LimitedReader.{LimitedReader};
+ghost use Rattle.rb_protocol.specs.declared.streams.limited_reader.LimitedReader.{LimitedReader};
 ghost use Rattle.rb_serving.specs.declared.visit.Visit.{Visit};
 ghost use Rattle.rb_serving.specs.declared.visit_number.VisitNumber.{VisitNumber};
 

@@ -5,7 +5,7 @@ use Rattle.std.proofs.lemmas.List.{append-nil, append_cancel_left}
 use Rattle.std.specs.declared.io.Write as Write
 use Rattle.std.specs.Io.KnownBytes.{Appends, append_known}
 use Rattle.rb_protocol.specs.Sending.{Sends}
-use Rattle.rb_protocol.specs.declared.writing.WriteFault.{WriteFault}
+use Rattle.rb_protocol.specs.declared.streams.writing.WriteFault.{WriteFault}
 use Rattle.rb_session.specs.Growth.{KeepsFront, grows_same, grows_on, all_got}
 use Rattle.rb_session.specs.Outlet.{sent_to, Becomes}
 use Rattle.rb_session.specs.Rules.{HadGotBehind}

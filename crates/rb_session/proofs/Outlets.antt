@@ -3,9 +3,9 @@ use Rattle.std.proofs.Common.{◌≡◌, ℕ, ◌<◌, ◌≤◌, List, [], ◌+
 use Rattle.std.proofs.lemmas.List.{append-nil}
 use Rattle.std.specs.Prelude.{IsErr}
 use Rattle.rb_protocol.specs.Line.{HasNoLineFeed}
-use Rattle.rb_protocol.specs.declared.limited_reader.LimitedReader.{LimitedReader}
-use Rattle.rb_protocol.specs.declared.reader_state.ReaderState.{ReaderState}
-use Rattle.rb_protocol.specs.declared.writing.WriteFault.{WriteFault}
+use Rattle.rb_protocol.specs.declared.streams.limited_reader.LimitedReader.{LimitedReader}
+use Rattle.rb_protocol.specs.declared.streams.reader_state.ReaderState.{ReaderState}
+use Rattle.rb_protocol.specs.declared.streams.writing.WriteFault.{WriteFault}
 use Rattle.rb_session.specs.Rules.{SessionRules, IsGathered, most_held_back}
 use Rattle.rb_session.specs.Turn.{Point}
 use Rattle.rb_session.specs.Session.{ServesFirst, ServesToEnd}

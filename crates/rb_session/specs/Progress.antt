@@ -11,7 +11,7 @@ use Rattle.rb_retry.specs.Asked.{offer_answer}
 use Rattle.rb_retry.specs.declared.desk_fault.DeskFault.{DeskFault}
 use Rattle.rb_protocol.specs.declared.line_reply.LineReply.{LineReply}
 use Rattle.rb_protocol.specs.declared.line_reply.LineReply.TheVariants as lines
-use Rattle.rb_protocol.specs.declared.writing.WriteFault.{WriteFault}
+use Rattle.rb_protocol.specs.declared.streams.writing.WriteFault.{WriteFault}
 use Rattle.rb_session.specs.Buffer.{IsUnserved}
 use Rattle.rb_session.specs.Rules.{SessionRules, IsGathered}
 use Rattle.rb_session.specs.Turn.{Point, IsFirstDraft, fault_line, refusal_word, reply_line, lines_for, fetched_by}

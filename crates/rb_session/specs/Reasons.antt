@@ -1,9 +1,9 @@
 -- Why a session ended, as its reader tells.
 use Rattle.std.specs.Prelude.{◌≡◌, Result, Ok, Err}
 use Rattle.rb_protocol.specs.Reads.{HasNotFailed}
-use Rattle.rb_protocol.specs.declared.limited_reader.LimitedReader.{LimitedReader}
-use Rattle.rb_protocol.specs.declared.reader_state.ReaderState.{ReaderState}
-use Rattle.rb_protocol.specs.declared.reader_state.ReaderState.TheVariants.{AtEnd, Failed}
+use Rattle.rb_protocol.specs.declared.streams.limited_reader.LimitedReader.{LimitedReader}
+use Rattle.rb_protocol.specs.declared.streams.reader_state.ReaderState.{ReaderState}
+use Rattle.rb_protocol.specs.declared.streams.reader_state.ReaderState.TheVariants.{AtEnd, Failed}
 use Rattle.rb_session.specs.declared.ended.Ended.{Ended}
 use Rattle.rb_session.specs.declared.ended.Ended.TheVariants.{Quit, EndOfInput}
 use Rattle.rb_session.specs.declared.session_fault.SessionFault.{SessionFault}

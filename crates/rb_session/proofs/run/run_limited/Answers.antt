@@ -2,7 +2,7 @@
 -- session's replies, one behind the other.
 use Rattle.std.proofs.Common.{rules, ◌≡◌, ◌≤◌, ℕ, List, [], Option, Result, Ok, Err, sym, ap, subst, ◌∙◌, arith, length}
 use Rattle.std.specs.Prelude.{OnOk}
-use Rattle.rb_protocol.specs.declared.writing.WriteFault.{WriteFault}
+use Rattle.rb_protocol.specs.declared.streams.writing.WriteFault.{WriteFault}
 use Rattle.std.specs.Io.KnownBytes.{Appends, Consumes, IsAtEnd, append_known}
 use Rattle.rb_delayed.specs.declared.element.Element.{Element}
 use Rattle.rb_retry.specs.DeskRules.{DeskRules, desk_rules}

@@ -2,8 +2,8 @@
 use Rattle.std.proofs.Common.{◌-◌, arith, length, length-take, length-drop, drop}
 use Rattle.std.proofs.KnownBytes.{Appends-nil, Appends-kept}
 use Rattle.rb_protocol.proofs.WrittenBytes.{appends_more}
-use Rattle.rb_protocol.proofs.writing.write_out.Goals as goal
-use Rattle.rb_protocol.proofs.writing.write_out.Goals.{in-Ok, in-Err}
+use Rattle.rb_protocol.proofs.streams.writing.write_out.Goals as goal
+use Rattle.rb_protocol.proofs.streams.writing.write_out.Goals.{in-Ok, in-Err}
 
 pub loop-init : goal.loop-init
 loop-init g c = record { within = omega arith; written = Appends-nil _ }

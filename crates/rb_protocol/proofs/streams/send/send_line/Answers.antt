@@ -2,7 +2,7 @@
 use Rattle.std.proofs.Common.{sym, subst, take, drop}
 use Rattle.std.proofs.lemmas.List.{take_all, take-append-drop}
 use Rattle.std.specs.Io.KnownBytes.{Appends}
-use Rattle.rb_protocol.proofs.send.send_line.Goals as goal
+use Rattle.rb_protocol.proofs.streams.send.send_line.Goals as goal
 
 pub returns-then-write_out-line : goal.returns-then-write_out-line
 returns-then-write_out-line g c =

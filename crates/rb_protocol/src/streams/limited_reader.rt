@@ -4,7 +4,7 @@ ghost use Rattle.std.specs.Io.KnownBytes.{ReadConsumes};
 ghost use Rattle.rb_protocol.specs.Reads.{IsAfterRead};
 
 use crate::limits::MOST_READS;
-use crate::reader_state::ReaderState;
+use crate::streams::reader_state::ReaderState;
 use std::io;
 use std::io::{ErrorKind, Read};
 

@@ -1,7 +1,7 @@
 ghost use Rattle.std.specs.Io.KnownBytes.{Keeps};
 ghost use Rattle.rb_protocol.specs.Sending.{Sends};
 
-use crate::writing::{WriteFault, write_out};
+use crate::streams::writing::{WriteFault, write_out};
 use std::io::Write;
 
 /// Writes a line: by one write if that takes the whole line, and otherwise by further writes of the

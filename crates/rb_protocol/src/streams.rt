@@ -1,0 +1,7 @@
+//! Bytes in and out, whatever they mean: a reader that can be read a limited number of times, and the
+//! loop that writes.
+
+pub(crate) mod limited_reader;
+pub(crate) mod reader_state;
+pub(crate) mod send;
+pub(crate) mod writing;
