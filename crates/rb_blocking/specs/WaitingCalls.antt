@@ -7,24 +7,24 @@ use Rattle.rb_queue.specs.declared.reply.Reply.TheVariants.{Item, Nothing}
 use Rattle.rb_kept.specs.Log.{HasRoom, IsFull}
 use Rattle.rb_kept.specs.Tries.{Waits}
 use Rattle.rb_kept.specs.declared.tries.Try.{Try}
-use Rattle.rb_lock.specs.Passes.{Seen, Learns, log_of}
+use Rattle.rb_lock.specs.Passes.{PassState, Learns, log_of}
 use Rattle.rb_lock.specs.SharedCalls.{Replied}
 use Rattle.rb_blocking.specs.declared.fault.WaitFault.{WaitFault}
 use Rattle.rb_blocking.specs.declared.fault.WaitFault.TheVariants.{Full, Stopped}
 
 -- the pass's try of an ask, at a reading
-abbrev pub try_of : Seen → ℕ → Ask → Try
+abbrev pub try_of : PassState → ℕ → Ask → Try
 try_of pass asked ask = record { seat = pass.name; asked = asked; ask = ask }
 
 -- The ask was answered, at a reading that the clock gives.
-pub record IsAnswered (gives : ℕ → Type 0) (old new : Seen) (ask : Ask) (reply : Reply) : Type 0 where
+pub record IsAnswered (gives : ℕ → Type 0) (old new : PassState) (ask : Ask) (reply : Reply) : Type 0 where
   pub asked : ℕ
   pub read : gives asked
   pub replied : Replied old new (try_of old asked ask) reply
 
 -- A try at a reading that the clock gives found nothing that has expired. The pass has learned, has made no
 -- further call, and would still wait.
-pub record FindsNothing (gives : ℕ → Type 0) (old new : Seen) (ask : Ask) : Type 0 where
+pub record FindsNothing (gives : ℕ → Type 0) (old new : PassState) (ask : Ask) : Type 0 where
   pub asked : ℕ
   pub read : gives asked
   pub expiry : Option ℕ
@@ -38,27 +38,27 @@ abbrev pub turns_told : ℕ → ℕ
 turns_told tries = min tries (2 ^ 64 - 1)
 
 -- This many tries, one after the other, found nothing that has expired, and after each the gate let the wait go on.
-abbrev pub WaitsOn : (ℕ → Type 0) → (ℕ → Bool → Type 0) → Seen → Ask → ℕ → Seen → Type 0
+abbrev pub WaitsOn : (ℕ → Type 0) → (ℕ → Bool → Type 0) → PassState → Ask → ℕ → PassState → Type 0
 WaitsOn gives answers old ask zero new = new ≡ old
 WaitsOn gives answers old ask (suc tries) new =
-    (mid : Seen) × WaitsOn gives answers old ask tries mid × FindsNothing gives mid new ask
+    (mid : PassState) × WaitsOn gives answers old ask tries mid × FindsNothing gives mid new ask
     × answers (turns_told tries) true
 
 -- The gate stopped the wait after the last of its tries, each of which found nothing that has expired.
-pub record IsStopped (gives : ℕ → Type 0) (answers : ℕ → Bool → Type 0) (old new : Seen) (ask : Ask) : Type 0 where
+pub record IsStopped (gives : ℕ → Type 0) (answers : ℕ → Bool → Type 0) (old new : PassState) (ask : Ask) : Type 0 where
   pub tries : ℕ
-  pub before : Seen
+  pub before : PassState
   pub waited : WaitsOn gives answers old ask tries before
   pub last : FindsNothing gives before new ask
   pub stopped : answers (turns_told tries) false
 
 -- the history that the pass has seen is full, and the pass has made no further call
-pub record EndsFull (old new : Seen) : Type 0 where
+pub record EndsFull (old new : PassState) : Type 0 where
   pub full : IsFull (log_of new)
   pub mine : new.mine ≡ old.mine
 
 -- how an ask that waits ended
-abbrev pub Waited : (ℕ → Type 0) → (ℕ → Bool → Type 0) → Seen → Seen → Ask → Result Reply WaitFault → Type 0
+abbrev pub Waited : (ℕ → Type 0) → (ℕ → Bool → Type 0) → PassState → PassState → Ask → Result Reply WaitFault → Type 0
 Waited gives answers old new ask (Ok reply) = IsAnswered gives old new ask reply
 Waited gives answers old new ask (Err Full) = EndsFull old new
 Waited gives answers old new ask (Err Stopped) = IsStopped gives answers old new ask

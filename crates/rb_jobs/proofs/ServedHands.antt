@@ -10,7 +10,7 @@ use Rattle.rb_queue.specs.Replies.{reply_of}
 use Rattle.rb_queue.specs.declared.event.Event.{Event}
 use Rattle.rb_queue.specs.declared.opening.Opening.{Opening}
 use Rattle.rb_queue.proofs.Options.{same_or_not}
-use Rattle.rb_lock.specs.Passes.{Seen, record_of}
+use Rattle.rb_lock.specs.Passes.{PassState, record_of}
 use Rattle.rb_lock.specs.Records.{AreRecords, IsRecord, names_of, times_in}
 use Rattle.rb_lock.specs.declared.pass_record.PassRecord.{PassRecord}
 use Rattle.rb_lock.proofs.Sums.{bit_apart}
@@ -52,11 +52,11 @@ module _ {C G : Type 0} where
         Over from to served ran
 
 -- From one pass to another these calls were made, and nothing was held before them or behind.
-abbrev PassHandles : Policy → Seen → Seen → Type 0
+abbrev PassHandles : Policy → PassState → PassState → Type 0
 PassHandles policy old new =
     (made : List Made) × (made_of new ≡ made_of old ++ made) × HandlesAll policy [] made []
 
-pass_then : (policy : Policy) (one two three : Seen) → PassHandles policy one two → PassHandles policy two three
+pass_then : (policy : Policy) (one two three : PassState) → PassHandles policy one two → PassHandles policy two three
     → PassHandles policy one three
 pass_then policy one two three (made, grows, handles) (more, grows_more, handles_more) = (
   made ++ more,
@@ -79,7 +79,7 @@ nobody_made seat opening before (event ∷ events) differ =
     (λ other has. differ other (Contains-append_right (event ∷ []) events other has))
 
 module _ {I O G C : Type 0} (terms : Terms I O G C) where
-  visits_handle : (worker earlier : ℕ) (old new : Seen) (visits : List (Option Served))
+  visits_handle : (worker earlier : ℕ) (old new : PassState) (visits : List (Option Served))
       → AreVisits terms worker earlier old visits new → PassHandles terms.rules.policy old new
   visits_handle worker earlier old new [] same =
       ([], ap made_of same ∙ sym (append-nil (made_of old)), tt)
@@ -96,12 +96,12 @@ module _ {I O G C : Type 0} (terms : Terms I O G C) where
           (HadGotBehind terms.contents (terms.contents is.visit.writer)) terms.rules.delivery
           (IsAtEnd (terms.remaining is.leaves.reader.inner.now)) ran.from ran.to served ran.ran in (
             made,
-            ap made_of (sym ran.seen) ∙ grows ∙ ap (λ (pass : Seen). made_of pass ++ made) ran.begun.pass_is,
+            ap made_of (sym ran.seen) ∙ grows ∙ ap (λ (pass : PassState). made_of pass ++ made) ran.begun.pass_is,
             handles,
           )
 
   worker_handles : (room : ℕ) (begun : Opening) (history : List Event) (worker : ℕ) (own : List (Option Served))
-      (pass : Seen) (one : PassRecord) → IsWorkerOf terms room begun worker own pass → one ≡ record_of pass
+      (pass : PassState) (one : PassRecord) → IsWorkerOf terms room begun worker own pass → one ≡ record_of pass
       → IsRecord history one → HandlesAll terms.rules.policy [] (made_by one.name begun history) []
   worker_handles room begun history worker own pass one of_run is known =
       let works = of_run.works in

@@ -7,7 +7,7 @@ use Rattle.rb_queue.specs.History.{IsLegal}
 use Rattle.rb_kept.specs.Log.{Log}
 use Rattle.rb_kept.specs.Shares.{totals_of}
 use Rattle.rb_lock.specs.Records.{names_of, AreDifferent}
-use Rattle.rb_lock.specs.Passes.{Seen, all_records, tally_of}
+use Rattle.rb_lock.specs.Passes.{PassState, all_records, tally_of}
 use Rattle.rb_lock.specs.ClosedQueues.{HasCallsOf, IsNotAll, AreCounts}
 use Rattle.rb_lock.specs.Views.{idle, pass_of, holder_of, caught_up}
 use Rattle.rb_lock.specs.Rule.{pair_of}
@@ -20,7 +20,7 @@ use Rattle.rb_lock.proofs.CountedCalls.{all_counted, not_counted}
 use Rattle.rb_lock.proofs.RestingPasses.{learned, seen_as, found_pair, HasLooked, looked_counted}
 
 -- the pass took the lock, took the pair out of its slot, and has its share of the totals beside those of the books
-pub record HasTotals {T : Type 0} (pass : Seen) (seat0 seat1 : LockSeat T) (pair : Pair T) (share books : Totals) : Type 0 where
+pub record HasTotals {T : Type 0} (pass : PassState) (seat0 seat1 : LockSeat T) (pair : Pair T) (share books : Totals) : Type 0 where
   pub rest : seat0 ≡ (idle pass, [])
   pub got : TakesLock seat0 seat1
   pub out : seat1.1 ≡ (0, Some pair) ∷ []
@@ -30,7 +30,7 @@ pub record HasTotals {T : Type 0} (pass : Seen) (seat0 seat1 : LockSeat T) (pair
   pub books_are : books ≡ totals_of pair.kept.history
   pub counts : AreCounts books
 
-module _ {T : Type 0} {pass : Seen} {seat0 seat1 : LockSeat T} {pair : Pair T} {share books : Totals} (has : HasTotals pass seat0 seat1 pair share books) where
+module _ {T : Type 0} {pass : PassState} {seat0 seat1 : LockSeat T} {pair : Pair T} {share books : Totals} (has : HasTotals pass seat0 seat1 pair share books) where
   abbrev got : TakesLock seat0 seat1
   got = has.got
 
@@ -93,7 +93,7 @@ module _ {T : Type 0} {pass : Seen} {seat0 seat1 : LockSeat T} {pair : Pair T} {
 
       pub refused : ¬ (share ≡ books) → IsNotAll (pass_of table seat3.0) share books
       refused other =
-          subst (λ (p : Seen). IsNotAll p share books) (sym view_is)
+          subst (λ (p : PassState). IsNotAll p share books) (sym view_is)
           (record {
             share = looked_counted pass got.names pair.kept looked share has.share_is;
             books = has.books_are;

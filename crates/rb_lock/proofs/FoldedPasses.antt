@@ -7,7 +7,7 @@ use Rattle.rb_ledger.specs.declared.totals.Totals.{Totals}
 use Rattle.rb_queue.specs.declared.event.Event.{Event}
 use Rattle.rb_kept.specs.Shares.{totals_of}
 use Rattle.rb_lock.specs.Records.{calls_of}
-use Rattle.rb_lock.specs.Passes.{Seen, all_records, capped, tally_of, folded_with}
+use Rattle.rb_lock.specs.Passes.{PassState, all_records, capped, tally_of, folded_with}
 use Rattle.rb_lock.specs.Views.{idle, pass_of, folding, nobody}
 use Rattle.rb_lock.specs.Rule.{Locked}
 use Rattle.rb_lock.specs.LockSteps.{LockSeat, AtRest, IsPass}
@@ -21,14 +21,14 @@ calls_of-append [] ys = refl
 calls_of-append (x ∷ xs) ys = ap (λ (es : List Event). x.mine ++ es) (calls_of-append xs ys) ∙ sym (append_assoc x.mine (calls_of xs) (calls_of ys))
 
 -- the shares are added
-tally-folded : (one two : Seen) → total_of (tally_of one) (tally_of two) ≡ tally_of (folded_with one two)
+tally-folded : (one two : PassState) → total_of (tally_of one) (tally_of two) ≡ tally_of (folded_with one two)
 tally-folded one two =
     capped-append (calls_of (all_records one)) (calls_of (all_records two))
     ∙ ap (λ (es : List Event). capped (totals_of es))
     (append_assoc one.mine (calls_of one.folded) (calls_of (all_records two)) ∙ ap (λ (es : List Event). one.mine ++ es) (sym (calls_of-append one.folded (all_records two))))
 
 module _ {T : Type 0} (table table' : TableId) (seat seat' : LockSeat T) (rest : AtRest table seat) (rest' : AtRest table' seat') where
-  one : Seen
+  one : PassState
   one = pass_of table seat.0
 
   pub may_fold : (id other : ℕ) → Joins (Locked {T = T}) id seat.0 other seat'.0 (folding seat.0 seat'.0) nobody
@@ -40,7 +40,7 @@ module _ {T : Type 0} (table table' : TableId) (seat seat' : LockSeat T) (rest :
   pub folded_pass : (now : TableId) (seat2 : LockSeat T) → now ≡ table → seat2 ≡ (folding seat.0 seat'.0, seat.1) → (name name' : ℕ) (tally tally' tally2 : Totals)
       → IsPass table seat name tally → IsPass table' seat' name' tally' → tally2 ≡ total_of tally tally' → IsPass now seat2 name tally2
   folded_pass now seat2 same is name name' tally tally' tally2 first second sum =
-      let both : Seen = folded_with (pass_of table seat.0) (pass_of table' seat'.0) in
+      let both : PassState = folded_with (pass_of table seat.0) (pass_of table' seat'.0) in
       let here : seat2 ≡ (idle both, []) = is ∙ (λ i. (folding (rest i).0 (rest' i).0, (rest i).1)) in
       is_pass now seat2 both same here name tally2 first.name_is
       (sum ∙ (λ i. total_of (first.counted i) (second.counted i)) ∙ tally-folded (pass_of table seat.0) (pass_of table' seat'.0))

@@ -17,7 +17,7 @@ use Rattle.rb_kept.specs.declared.outcome.Outcome.TheVariants.{Done, Later}
 use Rattle.rb_kept.specs.declared.fault.CallFault.{CallFault}
 use Rattle.rb_kept.specs.declared.fault.CallFault.TheVariants.{Full, Memory}
 use Rattle.rb_lock.specs.Records.{calls_of}
-use Rattle.rb_lock.specs.Passes.{Seen, IsSoundPass, Learns, log_at, capped, tally_of}
+use Rattle.rb_lock.specs.Passes.{PassState, IsSoundPass, Learns, log_at, capped, tally_of}
 use Rattle.rb_lock.specs.SharedCalls.{Answered}
 use Rattle.rb_lock.specs.Views.{idle, pass_of, holder_of, caught_up}
 use Rattle.rb_lock.specs.Rule.{pair_of}
@@ -70,13 +70,13 @@ few_after old new try (Err Full) (full, is) = subst (λ (l : Log). length l.hist
 few_after old new try (Err Memory) (room, takes, is) = subst (λ (l : Log). length l.history ≤ l.capacity) (sym is) (omega (arith, room))
 
 -- where nothing was added, the pass's calls are as before
-no_more : (pass : Seen) (log new : Log) (more : List Event) → new ≡ with_events log more → new ≡ log → events_of new.history pass.name ≡ pass.mine ++ more → events_of new.history pass.name ≡ pass.mine
+no_more : (pass : PassState) (log new : Log) (more : List Event) → new ≡ with_events log more → new ≡ log → events_of new.history pass.name ≡ pass.mine ++ more → events_of new.history pass.name ≡ pass.mine
 no_more pass log new more adds same mine =
     let none : more ≡ [] = append_same log.history more [] (ap (λ (l : Log). l.history) (sym adds ∙ same) ∙ sym (append-nil log.history)) in
     mine ∙ ap (λ (es : List Event). pass.mine ++ es) none ∙ append-nil pass.mine
 
 -- how a step of the log that was found answers the pass
-answered_by : (pass : Seen) (try : Try) (step : Result Outcome CallFault) (names : ℕ) (log new : Log) (more : List Event) → log ≡ log_at pass log.history → StepsTo log try step new
+answered_by : (pass : PassState) (try : Try) (step : Result Outcome CallFault) (names : ℕ) (log new : Log) (more : List Event) → log ≡ log_at pass log.history → StepsTo log try step new
     → new ≡ with_events log more → events_of new.history pass.name ≡ pass.mine ++ more → IsPrefix pass.seen log.history
     → Answered pass (learned pass names new.history) try step
 answered_by pass try (Ok (Done reply)) names log new more ours (room, (event, is, records)) adds mine begins =
@@ -101,13 +101,13 @@ answered_by pass try (Err Memory) names log new more ours (room, takes, is) adds
     (no_more pass log new more adds is mine, subst HasRoom now room, takes)
 
 -- a call was made: from the log that the pass found, one step of the kept queue
-pub record IsMade (pass : Seen) (try : Try) (step : Result Outcome CallFault) (share share' : Totals) (names : ℕ) (log new : Log) : Type 0 where
+pub record IsMade (pass : PassState) (try : Try) (step : Result Outcome CallFault) (share share' : Totals) (names : ℕ) (log new : Log) : Type 0 where
   pub found : Noted log names (idle pass)
   pub legal : IsLegal log.opening log.history
   pub steps : StepsTo log try step new
   pub grows : Grows log new share share'
 
-module _ (pass : Seen) (try : Try) (step : Result Outcome CallFault) (share share' : Totals) (names : ℕ) (log new : Log)
+module _ (pass : PassState) (try : Try) (step : Result Outcome CallFault) (share share' : Totals) (names : ℕ) (log new : Log)
     (made : IsMade pass try step share share' names log new) (named : try.seat ≡ pass.name) where
   -- the log that was found is one of the pass's queue
   found_log : log ≡ log_at pass log.history
@@ -163,14 +163,14 @@ module _ (pass : Seen) (try : Try) (step : Result Outcome CallFault) (share shar
   answered = answered_by pass try step names log new made.grows.more found_log made.steps made.grows.log mine_more made.found.fits.begins
 
 -- a pass at rest took the lock, and called the queue in its hand under its own name
-pub record CallsInHand {T : Type 0} (pass : Seen) (try : Try) (step : Result Outcome CallFault) (share share' : Totals) (seat0 seat1 seat2 : LockSeat T) : Type 0 where
+pub record CallsInHand {T : Type 0} (pass : PassState) (try : Try) (step : Result Outcome CallFault) (share share' : Totals) (seat0 seat1 seat2 : LockSeat T) : Type 0 where
   pub rest : seat0 ≡ (idle pass, [])
   pub got : TakesLock seat0 seat1
   pub acts : ActsIn try step share share' seat1 seat2
   pub named : try.seat ≡ pass.name
 
 -- From the seat at rest to the seat that has given the lock back.
-module _ {T : Type 0} {pass : Seen} {try : Try} {step : Result Outcome CallFault} {share share' : Totals} {seat0 seat1 seat2 : LockSeat T}
+module _ {T : Type 0} {pass : PassState} {try : Try} {step : Result Outcome CallFault} {share share' : Totals} {seat0 seat1 seat2 : LockSeat T}
     (call : CallsInHand pass try step share share' seat0 seat1 seat2) where
   abbrev got : TakesLock seat0 seat1
   got = call.got
@@ -234,5 +234,5 @@ module _ {T : Type 0} {pass : Seen} {try : Try} {step : Result Outcome CallFault
     pub called_answered : Answered pass (pass_of table seat3.0) (record try { seat = pass.name }) step
     called_answered =
         subst (λ (n : ℕ). Answered pass (pass_of table seat3.0) (record try { seat = n }) step) call.named
-        (subst (λ (p : Seen). Answered pass p try step) (sym view3)
+        (subst (λ (p : PassState). Answered pass p try step) (sym view3)
         (answered pass try step share share' got.names got.log acts.acts.after.kept made call.named))

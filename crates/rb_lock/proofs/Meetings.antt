@@ -6,7 +6,7 @@ use mathlib.Core.List.{IsPrefix}
 use Rattle.atomic_table.specs.Table.{step, keeps, Allows, Splits, Joins}
 use Rattle.rb_queue.specs.declared.event.Event.{Event}
 use Rattle.rb_queue.specs.declared.opening.Opening.{Opening}
-use Rattle.rb_lock.specs.Passes.{Seen}
+use Rattle.rb_lock.specs.Passes.{PassState}
 use Rattle.rb_lock.specs.Views.{idle, pass_of, holders, total, rested, note_of, nobody, longer, meeting}
 use Rattle.rb_lock.specs.Rule.{Locked, IsFree, IsHeld}
 use Rattle.rb_lock.specs.LockSteps.{LockSeat, AtRest, learned}
@@ -53,14 +53,14 @@ longer_whole (x ∷ one) [] p = absurd (cc (p.1))
 longer_whole (x ∷ one) (y ∷ other) p = let rest = longer_whole one other (p.0, cc (p.1)) in cc (p.1, rest)
 
 -- a note of what a pass has seen
-pub notes : {T : Type 0} (id : ℕ) (pass : Seen) → Splits (Locked {T = T}) id (idle pass) (idle pass) (note_of (idle pass))
+pub notes : {T : Type 0} (id : ℕ) (pass : PassState) → Splits (Locked {T = T}) id (idle pass) (idle pass) (note_of (idle pass))
 notes id pass s law at =
     let fits = law.fits id (idle pass) at in
     cut_in_two s law id (idle pass) at (idle pass) (note_of (idle pass)) (λ n. omega arith) refl fits
     (record { capacity = fits.capacity; opening = fits.opening; begins = fits.begins; records = tt; noted = fits.noted; stage = tt })
 
 -- a note of another pass is held beside what this one has seen
-pub meets : {T : Type 0} (id other : ℕ) (one two : Seen) → Joins (Locked {T = T}) id (idle one) other (note_of (idle two)) (meeting (idle one) (note_of (idle two))) nobody
+pub meets : {T : Type 0} (id other : ℕ) (one two : PassState) → Joins (Locked {T = T}) id (idle one) other (note_of (idle two)) (meeting (idle one) (note_of (idle two))) nobody
 meets id other one two s law at apart there =
     made_one s law id (idle one) at other (note_of (idle two)) (meeting (idle one) (note_of (idle two))) nobody apart there (λ n. omega arith) refl
     (λ first second.
@@ -83,11 +83,11 @@ meets id other one two s law at apart there =
     }) (spent_fits law.log law.names)
 
 -- the view of a pass that compares what it had seen with what another had, in a run like its own
-abbrev pub comparing : Seen → List Event → ℕ → Opening → View
+abbrev pub comparing : PassState → List Event → ℕ → Opening → View
 comparing pass other room start = record (idle pass) { seen = longer pass.seen other; stage = Meets pass.seen other room start }
 
 -- the word is read, and nothing else changes
-pub compares : {T : Type 0} (slots id : ℕ) (pass : Seen) (other : List Event) (room : ℕ) (start : Opening)
+pub compares : {T : Type 0} (slots id : ℕ) (pass : PassState) (other : List Event) (room : ℕ) (start : Opening)
     → Allows (Locked {T = T}) slots id (comparing pass other room start, []) 0 (λ n. n) (learned {T = T} (step 0 0 0 0 none) (comparing pass other room start, []))
 compares {T} slots id pass other room start s law many at small =
     let v : View = comparing pass other room start in
@@ -146,8 +146,8 @@ module _ {T : Type 0} (table table' : TableId) (seat other : LockSeat T) (rest :
     pub compares_at : (slots id : ℕ) (seat2 : LockSeat T) → seat2 ≡ (meeting seat.0 note.0, seat.1)
         → Allows (Locked {T = T}) slots id seat2 0 (λ n. n) (learned {T = T} (step 0 0 0 0 none) seat2)
     compares_at slots id seat2 met =
-        let one : Seen = pass_of table seat.0 in
-        let two : Seen = pass_of table' other.0 in
+        let one : PassState = pass_of table seat.0 in
+        let two : PassState = pass_of table' other.0 in
         let is : seat2 ≡ (comparing one two.seen two.capacity two.opening, []) = met ∙ (λ i. (meeting (rest i).0 (note_is i).0, (rest i).1)) in
         subst (λ (m : LockSeat T). Allows (Locked {T = T}) slots id m 0 (λ n. n) (learned {T = T} (step 0 0 0 0 none) m)) (sym is)
         (compares slots id one two.seen two.capacity two.opening)

@@ -7,7 +7,7 @@ use Rattle.rb_queue.specs.Counts.{events_of}
 use Rattle.rb_queue.specs.History.{IsLegal}
 use Rattle.rb_queue.specs.declared.event.Event.{Event}
 use Rattle.rb_kept.specs.Log.{Log}
-use Rattle.rb_lock.specs.Passes.{Seen, IsSoundPass, tally_of}
+use Rattle.rb_lock.specs.Passes.{PassState, IsSoundPass, tally_of}
 use Rattle.rb_lock.specs.Views.{idle, pass_of}
 use Rattle.rb_lock.specs.Rule.{pair_of}
 use Rattle.rb_lock.specs.LockSteps.{LockSeat, AtRest, IsPass, Noted, TakesLock}
@@ -15,10 +15,10 @@ use Rattle.rb_lock.specs.declared.pair.Pair.{Pair}
 use Rattle.rb_lock.proofs.HeldPairs.{same_slot, same_pair}
 
 -- the pass, once it has seen this history
-abbrev pub learned : Seen → ℕ → List Event → Seen
+abbrev pub learned : PassState → ℕ → List Event → PassState
 learned pass names history = record pass { noted = names; seen = history; mine = events_of history pass.name }
 
-module _ {T : Type 0} (table : TableId) (seat : LockSeat T) (pass : Seen) (of_pass : table ≡ pass.table) (is : seat ≡ (idle pass, [])) where
+module _ {T : Type 0} (table : TableId) (seat : LockSeat T) (pass : PassState) (of_pass : table ≡ pass.table) (is : seat ≡ (idle pass, [])) where
   -- what the seat is seen as
   pub seen_as : pass_of table seat.0 ≡ pass
   seen_as i = pass_of (of_pass i) (is i).0
@@ -34,7 +34,7 @@ module _ {T : Type 0} (table : TableId) (seat : LockSeat T) (pass : Seen) (of_pa
     sound = subst IsSoundPass (sym seen_as) sound;
   }
 
-module _ {T : Type 0} (pass : Seen) (seat0 seat1 : LockSeat T) (rest : seat0 ≡ (idle pass, [])) (got : TakesLock seat0 seat1) where
+module _ {T : Type 0} (pass : PassState) (seat0 seat1 : LockSeat T) (rest : seat0 ≡ (idle pass, [])) (got : TakesLock seat0 seat1) where
   -- the pass that took the lock has the pair that it found in hand
   pub found_in_hand : (pair : Pair T) × (seat1.1 ≡ (0, Some pair) ∷ [])
   found_in_hand =
@@ -49,12 +49,12 @@ module _ {T : Type 0} (pass : Seen) (seat0 seat1 : LockSeat T) (rest : seat0 ≡
       same_pair before pair (sym is ∙ same_slot seat1.1 [] (Some pair) slot found_in_hand.1 was)
 
 -- a pass took the lock, and found a legal history with room
-pub record HasLooked (pass : Seen) (names : ℕ) (log : Log) : Type 0 where
+pub record HasLooked (pass : PassState) (names : ℕ) (log : Log) : Type 0 where
   pub found : Noted log names (idle pass)
   pub legal : IsLegal log.opening log.history
   pub few : length log.history ≤ log.capacity
 
-module _ (pass : Seen) (names : ℕ) (log : Log) (looked : HasLooked pass names log) where
+module _ (pass : PassState) (names : ℕ) (log : Log) (looked : HasLooked pass names log) where
   -- its own calls are those that it had
   pub same_mine : events_of log.history pass.name ≡ pass.mine
   same_mine = looked.found.fits.records.0.all

@@ -12,7 +12,7 @@ use Rattle.rb_queue.specs.Counts.{events_of}
 use Rattle.rb_queue.specs.declared.event.Event.{Event}
 use Rattle.rb_kept.specs.Log.{Log}
 use Rattle.rb_lock.specs.Records.{bit, times_in, names_of}
-use Rattle.rb_lock.specs.Passes.{Seen}
+use Rattle.rb_lock.specs.Passes.{PassState}
 use Rattle.rb_lock.specs.Views.{idle, records_of, weight, holders, is_held, drawn, total, holder_of, caught_up}
 use Rattle.rb_lock.specs.Rule.{AtStage, IsThere, Fits, Locked, IsFree, IsHeld, pair_of}
 use Rattle.rb_lock.specs.LockSteps.{LockSeat, MayGive, MayDraw, Grown, gave, drew}
@@ -37,14 +37,14 @@ pub record IsNext (names after : ℕ) (log : Log) (next : Stage) : Type 0 where
   pub stage : ((n : ℕ) → names ≤ n → events_of log.history n ≡ []) → AtStage log after after next
 
 -- the view of the seat that holds the lock
-abbrev pub before : Seen → List Event → ℕ → View
+abbrev pub before : PassState → List Event → ℕ → View
 before pass found names = holder_of (idle pass) found names
 
 -- and once it has given it back
-abbrev pub after_it : Seen → List Event → ℕ → ℕ → List Event → Stage → View
+abbrev pub after_it : PassState → List Event → ℕ → ℕ → List Event → Stage → View
 after_it pass found names after new next = record (caught_up (before pass found names) new next) { noted = after }
 
-module _ {T : Type 0} (pass : Seen) (found new : Log) (names after : ℕ) (next : Stage)
+module _ {T : Type 0} (pass : PassState) (found new : Log) (names after : ℕ) (next : Stage)
     (capacity : new.capacity ≡ pass.capacity) (opening : new.opening ≡ pass.opening)
     (grown : Grown pass.name found.history new.history) (goes : IsNext names after new next)
     (s : State (Option (Pair T)) View) (law : Locked s) (id : ℕ) (at : get_elem? s.views id ≡ some (before pass found.history names)) where
@@ -207,7 +207,7 @@ next_drew names log few = record {
 }
 
 -- the lock is given back, at any history that only this pass's events made longer
-pub gives_lock : {T : Type 0} (slots id : ℕ) (pass : Seen) (found new : Log) (names : ℕ) → new.capacity ≡ pass.capacity → new.opening ≡ pass.opening
+pub gives_lock : {T : Type 0} (slots id : ℕ) (pass : PassState) (found new : Log) (names : ℕ) → new.capacity ≡ pass.capacity → new.opening ≡ pass.opening
     → Grown pass.name found.history new.history → names ≤ MOST_NAMES
     → Allows (Locked {T = T}) slots id (before pass found.history names, (0, Some (pair_of new names)) ∷ []) 0 (λ _. 0)
     (gave {T = T} (step 0 0 0 0 none) (before pass found.history names, (0, Some (pair_of new names)) ∷ []))
@@ -220,7 +220,7 @@ gives_lock slots id pass found new names capacity opening grown few s law many a
 )
 
 -- and with the next name drawn
-pub draws_name : {T : Type 0} (slots id : ℕ) (pass : Seen) (found : Log) (names : ℕ) → found.capacity ≡ pass.capacity → found.opening ≡ pass.opening → names < MOST_NAMES
+pub draws_name : {T : Type 0} (slots id : ℕ) (pass : PassState) (found : Log) (names : ℕ) → found.capacity ≡ pass.capacity → found.opening ≡ pass.opening → names < MOST_NAMES
     → Allows (Locked {T = T}) slots id (before pass found.history names, (0, Some (pair_of found (names + 1))) ∷ []) 0 (λ _. 0)
     (drew {T = T} (step 0 0 0 0 none) (before pass found.history names, (0, Some (pair_of found (names + 1))) ∷ []))
 draws_name slots id pass found names capacity opening few s law many at small = (

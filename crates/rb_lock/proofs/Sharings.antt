@@ -4,7 +4,7 @@ use Rattle.atomic_table.specs.Table.{Splits, Joins}
 use Rattle.rb_queue.specs.declared.event.Event.{Event}
 use Rattle.rb_kept.specs.Log.{Log}
 use Rattle.rb_lock.specs.Records.{times_in, names_of, AreRecords}
-use Rattle.rb_lock.specs.Passes.{Seen, all_records}
+use Rattle.rb_lock.specs.Passes.{PassState, all_records}
 use Rattle.rb_lock.specs.Views.{idle, rested, cut_off, folding, nobody}
 use Rattle.rb_lock.specs.Rule.{Fits, Locked}
 use Rattle.rb_lock.specs.declared.pass_record.PassRecord.{PassRecord}
@@ -16,11 +16,11 @@ use Rattle.rb_lock.proofs.LongerHistories.{none_before}
 use Rattle.rb_lock.proofs.SharedViews.{cut_in_two, made_one}
 
 -- the view of a pass that has drawn a name
-abbrev pub drawing : Seen → ℕ → View
+abbrev pub drawing : PassState → ℕ → View
 drawing pass name = record (idle pass) { stage = Drew name }
 
 -- a seat that has drawn a name is cut in two, and the new one has the name
-pub cuts : {T : Type 0} (id : ℕ) (pass : Seen) (name : ℕ) → Splits (Locked {T = T}) id (drawing pass name) (rested (drawing pass name)) (cut_off (drawing pass name))
+pub cuts : {T : Type 0} (id : ℕ) (pass : PassState) (name : ℕ) → Splits (Locked {T = T}) id (drawing pass name) (rested (drawing pass name)) (cut_off (drawing pass name))
 cuts id pass name s law at =
     let fits = law.fits id (drawing pass name) at in
     cut_in_two s law id (drawing pass name) at (rested (drawing pass name)) (cut_off (drawing pass name))
@@ -47,7 +47,7 @@ pub spent_fits : (log : Log) (names : ℕ) → Fits log names nobody
 spent_fits log names = record { capacity = λ there. absurd there; opening = λ there. absurd there; begins = prefix_none log.history; records = tt; noted = omega arith; stage = tt }
 
 -- the records of one pass follow those of another
-pub folds : {T : Type 0} (id other : ℕ) (one two : Seen) → Joins (Locked {T = T}) id (idle one) other (idle two) (folding (idle one) (idle two)) nobody
+pub folds : {T : Type 0} (id other : ℕ) (one two : PassState) → Joins (Locked {T = T}) id (idle one) other (idle two) (folding (idle one) (idle two)) nobody
 folds id other one two s law at apart there =
     made_one s law id (idle one) at other (idle two) (folding (idle one) (idle two)) nobody apart there
     (λ n. omega (

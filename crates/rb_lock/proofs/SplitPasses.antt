@@ -2,7 +2,7 @@
 use Rattle.std.proofs.Common.{◌≡◌, ℕ, ◌+◌, ◌<◌, [], ◌∷◌, ap, sym, subst, ◌∙◌}
 use Rattle.std.specs.Prelude.{Option, Some, None}
 use Rattle.atomic_table.specs.Table.{Splits}
-use Rattle.rb_lock.specs.Passes.{Seen}
+use Rattle.rb_lock.specs.Passes.{PassState}
 use Rattle.rb_lock.specs.Views.{idle, holder_of, has_drawn, rested, cut_off}
 use Rattle.rb_lock.specs.Rule.{pair_of, Locked}
 use Rattle.rb_lock.specs.LockSteps.{LockSeat, Noted, TakesLock, MayGive, MayDraw, NamesIn, in_hand}
@@ -12,7 +12,7 @@ use Rattle.rb_lock.proofs.LongerHistories.{grown_none}
 use Rattle.rb_lock.proofs.Sharings.{drawing, cuts}
 use Rattle.rb_lock.proofs.RestingPasses.{learned, found_pair}
 
-module _ {T : Type 0} (pass : Seen) (seat0 seat1 seat2 : LockSeat T) (rest : seat0 ≡ (idle pass, [])) (got : TakesLock seat0 seat1) where
+module _ {T : Type 0} (pass : PassState) (seat0 seat1 seat2 : LockSeat T) (rest : seat0 ≡ (idle pass, [])) (got : TakesLock seat0 seat1) where
   found_idle : Noted got.log got.names (idle pass)
   found_idle = subst (λ (m : LockSeat T). Noted got.log got.names m.0) rest got.found
 

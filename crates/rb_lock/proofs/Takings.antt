@@ -8,7 +8,7 @@ use prog.Atomic.{either}
 use Rattle.atomic_table.specs.Table.{State, Act, step, stepped, carried_after, Valid, keeps, takes, Allows}
 use Rattle.atomic_table.proofs.Lists.{at_set, exchanged}
 use Rattle.atomic_table.specs.Seated.{TableId}
-use Rattle.rb_lock.specs.Passes.{Seen}
+use Rattle.rb_lock.specs.Passes.{PassState}
 use Rattle.rb_lock.specs.Views.{idle, pass_of, weight, holders, total, holder_of}
 use Rattle.rb_lock.specs.Rule.{Fits, Locked, IsFree, IsHeld, pair_of}
 use Rattle.rb_lock.specs.LockSteps.{LockSeat, AtRest, Noted, taken}
@@ -43,7 +43,7 @@ module _ {T : Type 0} (s : State (Option (Pair T)) View) (law : Locked s) (id : 
     not_given = law.not_given;
   }
 
-module _ {T : Type 0} (s : State (Option (Pair T)) View) (law : Locked s) (id : ℕ) (pass : Seen) (at : get_elem? s.views id ≡ some (idle pass)) (f : ℕ → ℕ) (busy : (n : ℕ) → 0 < f n) where
+module _ {T : Type 0} (s : State (Option (Pair T)) View) (law : Locked s) (id : ℕ) (pass : PassState) (at : get_elem? s.views id ≡ some (idle pass)) (f : ℕ → ℕ) (busy : (n : ℕ) → 0 < f n) where
   abbrev Goes : Type 0
   Goes = (w : View) × (a : Act (Option (Pair T))) × Valid s.homes [] a × Locked (stepped s 0 (f (slice_index s.words 0)) id [] w a)
       × taken (step 0 0 0 0 none) (idle pass, []) (slice_index s.words 0) (w, carried_after [] a)
@@ -96,7 +96,7 @@ module _ {T : Type 0} (s : State (Option (Pair T)) View) (law : Locked s) (id : 
       )
 
 -- A step that makes a word that is not 0 takes the lock where it finds 0, and changes nothing else.
-pub takes_lock : {T : Type 0} (slots id : ℕ) (pass : Seen) (f : ℕ → ℕ) → ((n : ℕ) → 0 < f n)
+pub takes_lock : {T : Type 0} (slots id : ℕ) (pass : PassState) (f : ℕ → ℕ) → ((n : ℕ) → 0 < f n)
     → Allows (Locked {T = T}) slots id (idle pass, []) 0 f (taken {T = T} (step 0 0 0 0 none) (idle pass, []))
 takes_lock slots id pass f busy s law many at small = ⊎_elim (wins s law id pass at f busy) (waits s law id pass at f busy) law.place
 

@@ -6,7 +6,7 @@ use Rattle.rb_queue.specs.History.{IsLegal}
 use Rattle.rb_kept.specs.Log.{Log}
 use Rattle.rb_kept.specs.Shares.{totals_of}
 use Rattle.rb_lock.specs.Records.{AreRecords, AreDifferent, names_of, calls_of}
-use Rattle.rb_lock.specs.Passes.{Seen, tally_of}
+use Rattle.rb_lock.specs.Passes.{PassState, tally_of}
 use Rattle.rb_lock.specs.declared.pass_record.PassRecord.{PassRecord}
 use Rattle.rb_lock.specs.declared.fault.CloseFault.{CloseFault}
 use Rattle.rb_lock.specs.declared.fault.CloseFault.TheVariants.{NotAll}
@@ -21,13 +21,13 @@ pub record HasCallsOf (log : Log) (records : List PassRecord) : Type 0 where
 
 -- `counted` is the pass's share. `booked` are the totals of the history that the pass has now seen, which has
 -- more calls.
-pub record IsNotAll (pass : Seen) (counted booked : Totals) : Type 0 where
+pub record IsNotAll (pass : PassState) (counted booked : Totals) : Type 0 where
   pub share : counted ≡ tally_of pass
   pub books : booked ≡ totals_of pass.seen
   pub fewer : counted.calls < booked.calls
 
 -- why the pass did not close the queue
-abbrev pub IsRefused : Seen → CloseFault → Type 0
+abbrev pub IsRefused : PassState → CloseFault → Type 0
 IsRefused pass (NotAll counted booked) = IsNotAll pass counted booked
 
 -- totals that a count has room for

@@ -14,7 +14,7 @@ use Rattle.rb_kept.specs.Shares.{Grows}
 use Rattle.rb_kept.specs.declared.tries.Try.{Try}
 use Rattle.rb_kept.specs.declared.outcome.Outcome.{Outcome}
 use Rattle.rb_kept.specs.declared.fault.CallFault.{CallFault}
-use Rattle.rb_lock.specs.Passes.{Seen, IsSoundPass, tally_of}
+use Rattle.rb_lock.specs.Passes.{PassState, IsSoundPass, tally_of}
 use Rattle.rb_lock.specs.Views.{weight, idle, pass_of, holder_of, caught_up, has_drawn, rested, longer}
 use Rattle.rb_lock.specs.Rule.{Fits, pair_of}
 use Rattle.rb_lock.specs.declared.pair.Pair.{Pair}
@@ -109,7 +109,7 @@ module _ {T : Type 0} where
 
   -- the seat holds the lock, and has in hand the pair that it found, or one that has grown by its events
   pub record MayGive (seat : LockSeat T) : Type 0 where
-    pub pass : Seen
+    pub pass : PassState
     pub found : Log
     pub new : Log
     pub names : ℕ
@@ -121,7 +121,7 @@ module _ {T : Type 0} where
 
   -- the seat holds the lock, and has in hand the pair that it found, with one name more given
   pub record MayDraw (seat : LockSeat T) : Type 0 where
-    pub pass : Seen
+    pub pass : PassState
     pub found : Log
     pub names : ℕ
     pub is : seat ≡ (holder_of (idle pass) found.history names, (0, Some (pair_of found (names + 1))) ∷ [])

@@ -18,7 +18,7 @@ use Rattle.rb_lock.specs.Records.{calls_of}
 use Rattle.rb_lock.specs.declared.pass_record.PassRecord.{PassRecord}
 use Rattle.rb_lock.specs.contracts.pass_record.PassRecord as entry
 
-pub record Seen : Type 0 where
+pub record PassState : Type 0 where
   -- the shared queue whose pass it is
   pub table : TableId
   pub name : ℕ
@@ -34,7 +34,7 @@ pub record Seen : Type 0 where
   pub folded : List PassRecord
 
 -- it is stored as the tuple of its fields
-abbrev pub seen_code : Coded Seen
+abbrev pub seen_code : Coded PassState
 seen_code =
     code_by
     (TableId × (ℕ × (ℕ × (Opening × (ℕ × (List Event × (List Event × List PassRecord)))))))
@@ -56,19 +56,19 @@ seen_code =
     (λ _. refl)
 
 -- the log of the pass's queue, at this history
-abbrev pub log_at : Seen → List Event → Log
+abbrev pub log_at : PassState → List Event → Log
 log_at pass history = record { opening = pass.opening; history = history; capacity = pass.capacity }
 
 -- the log as far as the pass has seen it
-abbrev pub log_of : Seen → Log
+abbrev pub log_of : PassState → Log
 log_of pass = log_at pass pass.seen
 
 -- the pass's own record
-abbrev pub record_of : Seen → PassRecord
+abbrev pub record_of : PassState → PassRecord
 record_of pass = record { name = pass.name; seen = pass.seen; mine = pass.mine }
 
 -- its own record, and those of all that were folded into it
-abbrev pub all_records : Seen → List PassRecord
+abbrev pub all_records : PassState → List PassRecord
 all_records pass = record_of pass ∷ pass.folded
 
 -- each total, or the greatest count if that is less
@@ -80,12 +80,12 @@ capped totals = record {
 }
 
 -- the totals of the calls of the pass and of all that were folded into it
-abbrev pub tally_of : Seen → Totals
+abbrev pub tally_of : PassState → Totals
 tally_of pass = capped (totals_of (calls_of (all_records pass)))
 
 -- What every pass keeps true: it has seen a legal history, no longer than its capacity, whose events under its
 -- name are exactly its calls.
-pub record IsSoundPass (pass : Seen) : Type 0 where
+pub record IsSoundPass (pass : PassState) : Type 0 where
   pub legal : IsLegal pass.opening pass.seen
   pub few : length pass.seen ≤ pass.capacity
   pub most : pass.capacity ≤ MOST_CALLS
@@ -93,7 +93,7 @@ pub record IsSoundPass (pass : Seen) : Type 0 where
 
 -- The pass has seen a history that begins with all that it had seen, and noted at least as many names. Its
 -- queue, its name and what was folded into it are as before.
-pub record Learns (old new : Seen) : Type 0 where
+pub record Learns (old new : PassState) : Type 0 where
   pub table : new.table ≡ old.table
   pub name : new.name ≡ old.name
   pub capacity : new.capacity ≡ old.capacity
@@ -104,7 +104,7 @@ pub record Learns (old new : Seen) : Type 0 where
   pub sound : IsSoundPass new
 
 -- the first pass of a queue: it has name 0, and has seen nothing
-abbrev pub first_pass : TableId → Log → Seen
+abbrev pub first_pass : TableId → Log → PassState
 first_pass table start = record {
   table = table;
   name = 0;
@@ -117,9 +117,9 @@ first_pass table start = record {
 }
 
 -- a pass split off under this name: it has seen the same, and made no call
-abbrev pub split_from : Seen → ℕ → Seen
+abbrev pub split_from : PassState → ℕ → PassState
 split_from pass name = record pass { name = name; mine = []; folded = [] }
 
 -- a pass with another folded into it: the other's record and those folded into that follow its own
-abbrev pub folded_with : Seen → Seen → Seen
+abbrev pub folded_with : PassState → PassState → PassState
 folded_with pass other = record pass { folded = pass.folded ++ all_records other }

@@ -10,11 +10,11 @@ use Rattle.rb_kept.specs.declared.outcome.Outcome.{Outcome}
 use Rattle.rb_kept.specs.declared.outcome.Outcome.TheVariants.{Done, Later}
 use Rattle.rb_kept.specs.declared.fault.CallFault.{CallFault}
 use Rattle.rb_kept.specs.declared.fault.CallFault.TheVariants.{Full, Memory}
-use Rattle.rb_lock.specs.Passes.{Seen, log_at, log_of}
+use Rattle.rb_lock.specs.Passes.{PassState, log_at, log_of}
 
 -- The last event that the pass has seen is this call. Before it come all events that it had seen, and perhaps
 -- others. The call is one more of the pass's own, and has the reply that the history gives it.
-pub record Replied (old new : Seen) (try : Try) (reply : Reply) : Type 0 where
+pub record Replied (old new : PassState) (try : Try) (reply : Reply) : Type 0 where
   pub before : List Event
   pub event : Event
   pub begins : IsPrefix old.seen before
@@ -24,7 +24,7 @@ pub record Replied (old new : Seen) (try : Try) (reply : Reply) : Type 0 where
   pub records : Records (log_at old before) try reply event
 
 -- How a call ended, and what the pass has seen after it. Without a reply the pass has made no further call.
-abbrev pub Answered : Seen → Seen → Try → Result Outcome CallFault → Type 0
+abbrev pub Answered : PassState → PassState → Try → Result Outcome CallFault → Type 0
 Answered old new try (Ok (Done reply)) = Replied old new try reply
 Answered old new try (Ok (Later next)) = (new.mine ≡ old.mine) × HasRoom (log_of new) × Waits (log_of new) try next
 Answered old new try (Err Full) = (new.mine ≡ old.mine) × IsFull (log_of new)

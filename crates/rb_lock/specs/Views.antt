@@ -8,14 +8,14 @@ use Rattle.rb_queue.specs.declared.event.Event.{Event}
 use Rattle.rb_queue.specs.Opening.{IsOpening}
 use Rattle.rb_kept.specs.Log.{Log}
 use Rattle.rb_lock.specs.Records.{times_in, names_of}
-use Rattle.rb_lock.specs.Passes.{Seen}
+use Rattle.rb_lock.specs.Passes.{PassState}
 use Rattle.rb_lock.specs.declared.pass_record.PassRecord.{PassRecord}
 use Rattle.rb_lock.specs.declared.stage.Stage.{Stage}
 use Rattle.rb_lock.specs.declared.stage.Stage.TheVariants.{Idle, Holds, Drew, Meets, Gone}
 use Rattle.rb_lock.specs.declared.view.View.{View}
 
 -- the view of a pass between its steps
-abbrev pub idle : Seen → View
+abbrev pub idle : PassState → View
 idle pass = record {
   live = true;
   capacity = pass.capacity;
@@ -29,7 +29,7 @@ idle pass = record {
 }
 
 -- the pass with this view
-abbrev pub pass_of : TableId → View → Seen
+abbrev pub pass_of : TableId → View → PassState
 pass_of table v = record {
   table = table;
   name = v.name;

@@ -19,9 +19,9 @@ pub struct Pass<T: Timer> {
 }
 
 impl<T: Timer> Model for Pass<T> {
-    ghost use Rattle.rb_lock.specs.Passes.{Seen, seen_code};
+    ghost use Rattle.rb_lock.specs.Passes.{PassState, seen_code};
 
-    ghost Value = { Seen };
+    ghost Value = { PassState };
 
     ghost coded = { seen_code };
 

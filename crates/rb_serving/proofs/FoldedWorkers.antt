@@ -2,7 +2,7 @@
 use Rattle.std.proofs.Common.{◌≡◌, ℕ, ◌+◌, ◌-◌, ◌<◌, List, [], ◌∷◌, ◌++◌, length, refl, sym, subst, ap, ap₂, ◌∙◌}
 use Rattle.std.proofs.Common.{arith, length-append, append_assoc}
 use Rattle.std.proofs.lemmas.List.{append-nil}
-use Rattle.rb_lock.specs.Passes.{Seen, Learns, record_of, folded_with}
+use Rattle.rb_lock.specs.Passes.{PassState, Learns, record_of, folded_with}
 use Rattle.rb_lock.specs.declared.pass_record.PassRecord.{PassRecord}
 use Rattle.rb_serving.specs.Terms.{Terms}
 use Rattle.rb_serving.specs.Serving.{FoldsWorkers, IsWorkerResult}
@@ -14,7 +14,7 @@ use Rattle.rb_serving.proofs.ServedVisits.{counts_both, all_visits-more, workers
 
 module _ {I O G C : Type 0} (terms : Terms I O G C) where
   -- no worker leaves the pass as it is
-  pub folds_none : (count : ℕ) (pass : Seen) → count ≡ 0 → FoldsWorkers terms count pass pass no_visit
+  pub folds_none : (count : ℕ) (pass : PassState) → count ≡ 0 → FoldsWorkers terms count pass pass no_visit
   folds_none count pass none = record {
     records = [];
     many = sym none;
@@ -29,7 +29,7 @@ module _ {I O G C : Type 0} (terms : Terms I O G C) where
   }
 
   -- one worker more is folded in last
-  pub folds_one_more : (count : ℕ) (old cut rest done new : Seen) (counts more : VisitCounts) → 0 < count
+  pub folds_one_more : (count : ℕ) (old cut rest done new : PassState) (counts more : VisitCounts) → 0 < count
       → Learns old cut → cut.mine ≡ old.mine → FoldsWorkers terms (count - 1) cut rest more
       → IsWorkerResult terms (count - 1) done counts → done.capacity ≡ cut.capacity → done.opening ≡ cut.opening
       → new ≡ folded_with rest done
@@ -51,12 +51,12 @@ module _ {I O G C : Type 0} (terms : Terms I O G C) where
             });
         counted = ap₂ both_counts others.counted worked.counted ∙ counts_both (all_visits others.visits) worked.visits
             ∙ ap counts_of (sym (all_visits-more others.visits worked.visits));
-        folded = ap (λ (pass : Seen). pass.folded) is
+        folded = ap (λ (pass : PassState). pass.folded) is
             ∙ ap₂ (λ (front back : List PassRecord). front ++ record_of done ∷ back)
             (others.folded ∙ ap (λ (front : List PassRecord). front ++ others.records) learns.folded) worked.alone
             ∙ append_assoc old.folded others.records last;
-        table = ap (λ (pass : Seen). pass.table) is ∙ others.table ∙ learns.table;
-        capacity = ap (λ (pass : Seen). pass.capacity) is ∙ others.capacity ∙ learns.capacity;
-        opening = ap (λ (pass : Seen). pass.opening) is ∙ others.opening ∙ learns.opening;
-        mine = ap (λ (pass : Seen). pass.mine) is ∙ others.mine ∙ mine;
+        table = ap (λ (pass : PassState). pass.table) is ∙ others.table ∙ learns.table;
+        capacity = ap (λ (pass : PassState). pass.capacity) is ∙ others.capacity ∙ learns.capacity;
+        opening = ap (λ (pass : PassState). pass.opening) is ∙ others.opening ∙ learns.opening;
+        mine = ap (λ (pass : PassState). pass.mine) is ∙ others.mine ∙ mine;
       }

@@ -5,7 +5,7 @@ use Rattle.std.proofs.lemmas.List.{append-nil}
 use Rattle.rb_ledger.specs.Totals.{capped_sum}
 use Rattle.rb_ledger.specs.declared.totals.TheConstants.{GREATEST_COUNT}
 use Rattle.rb_queue.specs.declared.opening.Opening.{Opening}
-use Rattle.rb_lock.specs.Passes.{Seen, record_of}
+use Rattle.rb_lock.specs.Passes.{PassState, record_of}
 use Rattle.rb_lock.specs.declared.pass_record.PassRecord.{PassRecord}
 use Rattle.rb_session.specs.Served.{Served}
 use Rattle.rb_session.specs.declared.ended.Ended.{Ended}
@@ -88,7 +88,7 @@ from_none earlier = omega arith
 
 module _ {I O G C : Type 0} (terms : Terms I O G C) (worker : ℕ) where
   -- one visit more was served
-  pub visits_served : (earlier : ℕ) (old mid new : Seen) (visits : List (Option Served)) (visit : Served)
+  pub visits_served : (earlier : ℕ) (old mid new : PassState) (visits : List (Option Served)) (visit : Served)
       → AreVisits terms worker earlier old visits mid
       → IsVisit terms (number_of worker (earlier + length visits)) mid visit new
       → AreVisits terms worker earlier old (visits ++ Some visit ∷ []) new
@@ -103,7 +103,7 @@ module _ {I O G C : Type 0} (terms : Terms I O G C) (worker : ℕ) where
       (between, is, visits_served (earlier + 1) between mid new visits visit are next)
 
   -- one visitor more was refused
-  pub visits_refused : (earlier : ℕ) (old new : Seen) (visits : List (Option Served))
+  pub visits_refused : (earlier : ℕ) (old new : PassState) (visits : List (Option Served))
       → AreVisits terms worker earlier old visits new
       → terms.turns_away (number_of worker (earlier + length visits))
       → AreVisits terms worker earlier old (visits ++ None ∷ []) new
@@ -119,7 +119,7 @@ module _ {I O G C : Type 0} (terms : Terms I O G C) (worker : ℕ) where
 module _ {I O G C : Type 0} (terms : Terms I O G C) where
   -- one worker more
   pub workers_more : (room : ℕ) (begun : Opening) (from : ℕ) (visits : List (List (Option Served))) (records : List PassRecord)
-      (own : List (Option Served)) (pass : Seen) → AreWorkers terms room begun from visits records
+      (own : List (Option Served)) (pass : PassState) → AreWorkers terms room begun from visits records
       → IsWorkerOf terms room begun (from + length records) own pass
       → AreWorkers terms room begun from (visits ++ own ∷ []) (records ++ record_of pass ∷ [])
   workers_more room begun from [] [] own pass are last =
@@ -131,20 +131,20 @@ module _ {I O G C : Type 0} (terms : Terms I O G C) where
       (is, workers_more room begun (from + 1) visits records own pass are next)
 
   -- What a worker has done so far: its pass served these visits, and they are counted.
-  pub record HasServed (worker : ℕ) (old new : Seen) (counts : VisitCounts) : Type 0 where
+  pub record HasServed (worker : ℕ) (old new : PassState) (counts : VisitCounts) : Type 0 where
     pub visits : List (Option Served)
     pub served : AreVisits terms worker 0 old visits new
     pub counted : counts ≡ counts_of visits
 
   module _ (worker : ℕ) where
     -- the number under which it asks next
-    next_number : (old new : Seen) (counts : VisitCounts) (works : HasServed worker old new counts)
+    next_number : (old new : PassState) (counts : VisitCounts) (works : HasServed worker old new counts)
         → record { worker = worker; earlier = counts.sessions } ≡ number_of worker (length works.visits)
     next_number old new counts works =
         ap (λ (visits : VisitCounts). record { worker = worker; earlier = visits.sessions }) works.counted
 
     -- the door had no more
-    pub works_off : (old new : Seen) (counts : VisitCounts) → HasServed worker old new counts
+    pub works_off : (old new : PassState) (counts : VisitCounts) → HasServed worker old new counts
         → terms.has_no_more (record { worker = worker; earlier = counts.sessions })
         → WorksOff terms worker old new counts
     works_off old new counts works none = record {
@@ -155,7 +155,7 @@ module _ {I O G C : Type 0} (terms : Terms I O G C) where
     }
 
     -- one visitor more was refused, and is counted
-    pub works_refused : (old new : Seen) (counts visit next : VisitCounts) → HasServed worker old new counts
+    pub works_refused : (old new : PassState) (counts visit next : VisitCounts) → HasServed worker old new counts
         → terms.turns_away (record { worker = worker; earlier = counts.sessions }) → visit ≡ refused_visit
         → next ≡ both_counts counts visit → HasServed worker old new next
     works_refused old new counts visit next works away refused is = record {
@@ -167,7 +167,7 @@ module _ {I O G C : Type 0} (terms : Terms I O G C) where
     }
 
     -- one visit more was served, and is counted
-    pub works_served : (old mid new : Seen) (counts more next : VisitCounts) (ended : Result Ended SessionFault)
+    pub works_served : (old mid new : PassState) (counts more next : VisitCounts) (ended : Result Ended SessionFault)
         (visit : Visit I O G) → HasServed worker old mid counts
         → terms.lets_in (record { worker = worker; earlier = counts.sessions }) visit
         → ((served : Served) × (served.ended ≡ ended)

@@ -9,7 +9,7 @@ use native.Mathlib.Decide.{ℕ_discrete}
 use Rattle.rb_queue.specs.Counts.{events_of}
 use Rattle.rb_queue.specs.declared.event.Event.{Event}
 use Rattle.rb_queue.specs.declared.opening.Opening.{Opening}
-use Rattle.rb_lock.specs.Passes.{Seen, record_of}
+use Rattle.rb_lock.specs.Passes.{PassState, record_of}
 use Rattle.rb_lock.specs.Records.{AreRecords, IsRecord, names_of, times_in}
 use Rattle.rb_lock.specs.declared.pass_record.PassRecord.{PassRecord}
 use Rattle.rb_lock.proofs.Sums.{bit_apart}
@@ -26,7 +26,7 @@ use Rattle.rb_serving.proofs.GatheredNames.{contained, named_behind, of_history,
 use Rattle.rb_serving.proofs.VisitEvents.{calls_by_visit}
 
 -- a pass that has seen no event of its name has made nothing
-pub made_none : (pass : Seen) → events_of pass.seen pass.name ≡ [] → made_of pass ≡ []
+pub made_none : (pass : PassState) → events_of pass.seen pass.name ≡ [] → made_of pass ≡ []
 made_none pass unheard =
     nil_from_length (made_of pass) (length_own pass.name pass.opening [] pass.seen ∙ ap length unheard)
 
@@ -38,7 +38,7 @@ seen_all begun history one known =
 
 module _ {I O G C : Type 0} (terms : Terms I O G C) where
   -- the calls of a pass that served visits grow by theirs
-  grows_by_visits : (worker earlier : ℕ) (old new : Seen) (visits : List (Option Served))
+  grows_by_visits : (worker earlier : ℕ) (old new : PassState) (visits : List (Option Served))
       → AreVisits terms worker earlier old visits new → GrowsByVisits terms.rules.policy (made_of old) visits (made_of new)
   grows_by_visits worker earlier old new [] same = ap made_of same
   grows_by_visits worker earlier old new (None ∷ visits) (away, are) = grows_by_visits worker (earlier + 1) old new visits are
@@ -52,7 +52,7 @@ module _ {I O G C : Type 0} (terms : Terms I O G C) where
   )
 
   -- a worker had made no call before, and its calls are all that the history has of it
-  of_worker : (room : ℕ) (begun : Opening) (history : List Event) (worker : ℕ) (own : List (Option Served)) (pass : Seen) (one : PassRecord)
+  of_worker : (room : ℕ) (begun : Opening) (history : List Event) (worker : ℕ) (own : List (Option Served)) (pass : PassState) (one : PassRecord)
       → IsWorkerOf terms room begun worker own pass → one ≡ record_of pass → IsRecord history one
       → GrowsByVisits terms.rules.policy [] own (made_by one.name begun history)
   of_worker room begun history worker own pass one of_run is known =

@@ -1,7 +1,7 @@
 -- A visit is served by a run of a session at a desk of the worker's pass.
 use Rattle.std.proofs.Common.{◌≡◌, List, ◌++◌, sym, ap, ◌∙◌}
 use Rattle.std.specs.Io.KnownBytes.{IsAtEnd}
-use Rattle.rb_lock.specs.Passes.{Seen}
+use Rattle.rb_lock.specs.Passes.{PassState}
 use Rattle.rb_retry.specs.Made.{Made}
 use Rattle.rb_session.specs.Rules.{HadGotBehind}
 use Rattle.rb_session.proofs.RunEvents.{grows_so}
@@ -11,10 +11,10 @@ use Rattle.rb_serving.specs.VisitEvents.{CallsByVisit, made_of}
 use Rattle.rb_serving.proofs.SharedRuns.{calls_by_run}
 
 -- the desk's pass was this one, and is that one now
-of_pass : (from to old new : Seen) (made : List Made) → from ≡ old → to ≡ new → made_of to ≡ made_of from ++ made
+of_pass : (from to old new : PassState) (made : List Made) → from ≡ old → to ≡ new → made_of to ≡ made_of from ++ made
     → made_of new ≡ made_of old ++ made
 of_pass from to old new made begun seen grows =
-    ap made_of (sym seen) ∙ grows ∙ ap (λ (pass : Seen). made_of pass ++ made) begun
+    ap made_of (sym seen) ∙ grows ∙ ap (λ (pass : PassState). made_of pass ++ made) begun
 
 module _ {I O G C : Type 0} (terms : Terms I O G C) where
   pub calls_by_visit : CallsByVisit terms

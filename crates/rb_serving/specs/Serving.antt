@@ -2,7 +2,7 @@
 use Rattle.std.specs.Prelude.{◌≡◌, ℕ, List, [], ◌∷◌, ◌++◌, length, Option}
 use Rattle.rb_queue.specs.Counts.{audit_of}
 use Rattle.rb_queue.specs.declared.opening.Opening.{Opening}
-use Rattle.rb_lock.specs.Passes.{Seen, all_records}
+use Rattle.rb_lock.specs.Passes.{PassState, all_records}
 use Rattle.rb_lock.specs.ClosedQueues.{HasCallsOf}
 use Rattle.rb_lock.specs.declared.pass_record.PassRecord.{PassRecord}
 use Rattle.rb_options.specs.declared.server_run_options.ServerRunOptions.{ServerRunOptions}
@@ -16,7 +16,7 @@ use Rattle.rb_serving.specs.declared.serve_report.ServeReport.{ServeReport}
 use Rattle.rb_serving.specs.declared.visit_counts.VisitCounts.{VisitCounts}
 
 -- The pass called for visitors: it is of the same queue, has the same name, and nothing was folded into it.
-pub record IsWorked (old new : Seen) : Type 0 where
+pub record IsWorked (old new : PassState) : Type 0 where
   pub table : new.table ≡ old.table
   pub name : new.name ≡ old.name
   pub folded : new.folded ≡ old.folded
@@ -25,7 +25,7 @@ pub record IsWorked (old new : Seen) : Type 0 where
 
 -- The sharing ended. The report has the pass's queue, with exactly the calls of the pass and of those that were
 -- folded into it, the audit of its history, and the counts of the visits.
-pub record IsReport {T : Type 0} (pass : Seen) (visits : VisitCounts) (report : ServeReport T) : Type 0 where
+pub record IsReport {T : Type 0} (pass : PassState) (visits : VisitCounts) (report : ServeReport T) : Type 0 where
   pub opening : report.kept.opening ≡ pass.opening
   pub capacity : report.kept.capacity ≡ pass.capacity
   pub audited : report.audit ≡ audit_of report.kept.opening report.kept.history
@@ -34,7 +34,7 @@ pub record IsReport {T : Type 0} (pass : Seen) (visits : VisitCounts) (report : 
 
 module _ {I O G C : Type 0} (terms : Terms I O G C) where
   -- what a worker's pass did that served visits until the door had no more, and their counts
-  pub record WorksOff (worker : ℕ) (old new : Seen) (counts : VisitCounts) : Type 0 where
+  pub record WorksOff (worker : ℕ) (old new : PassState) (counts : VisitCounts) : Type 0 where
     pub visits : List (Option Served)
     pub served : AreVisits terms worker 0 old visits new
     pub no_more : terms.has_no_more (number_of worker (length visits))
@@ -42,7 +42,7 @@ module _ {I O G C : Type 0} (terms : Terms I O G C) where
 
   -- what a worker's thread gives: a pass with nothing folded into it, and the counts of the visits that it
   -- served
-  pub record IsWorkerResult (worker : ℕ) (pass : Seen) (counts : VisitCounts) : Type 0 where
+  pub record IsWorkerResult (worker : ℕ) (pass : PassState) (counts : VisitCounts) : Type 0 where
     pub alone : pass.folded ≡ []
     pub visits : List (Option Served)
     pub works : IsWorker terms worker visits pass
@@ -50,7 +50,7 @@ module _ {I O G C : Type 0} (terms : Terms I O G C) where
 
   -- The passes of this many workers were folded into the pass, which made no call itself. These are the counts of
   -- all visits.
-  pub record FoldsWorkers (workers : ℕ) (old new : Seen) (counts : VisitCounts) : Type 0 where
+  pub record FoldsWorkers (workers : ℕ) (old new : PassState) (counts : VisitCounts) : Type 0 where
     pub records : List PassRecord
     pub many : length records ≡ workers
     pub visits : List (List (Option Served))

@@ -6,7 +6,7 @@ use Rattle.rb_protocol.specs.declared.streams.reader_state.ReaderState.TheVarian
 use Rattle.rb_ledger.specs.declared.totals.TheConstants.{GREATEST_COUNT}
 use Rattle.rb_queue.specs.Counts.{events_of}
 use Rattle.rb_queue.specs.declared.opening.Opening.{Opening}
-use Rattle.rb_lock.specs.Passes.{Seen, record_of}
+use Rattle.rb_lock.specs.Passes.{PassState, record_of}
 use Rattle.rb_lock.specs.declared.pass_record.PassRecord.{PassRecord}
 use Rattle.rb_shared_desk.specs.WaitRules.{WaitRules}
 use Rattle.rb_shared_desk.specs.SharedSteps.{SharedState, SharedSteps, SetsShared}
@@ -53,7 +53,7 @@ abbrev pub number_of : ℕ → ℕ → VisitNumber
 number_of worker earlier = record { worker = worker; earlier = min earlier GREATEST_COUNT }
 
 -- a desk of the pass, with this clock and gate, through which nothing was made yet
-pub record IsDeskOf {C G : Type 0} (clock : C) (gate : G) (pass : Seen) (desk : SharedState C G) : Type 0 where
+pub record IsDeskOf {C G : Type 0} (clock : C) (gate : G) (pass : PassState) (desk : SharedState C G) : Type 0 where
   pub pass_is : desk.pass ≡ pass
   pub clock_is : desk.clock ≡ clock
   pub gate_is : desk.gate ≡ gate
@@ -83,8 +83,8 @@ module _ {I O G C : Type 0} (terms : Terms I O G C) where
   -- was sent went to its writer, and its gate could end the waits. `reader` and `writer` are what is left of the two.
   -- The input ended only if the last read met its end, a read failed exactly if the session says so, and it gave
   -- reading up only when all reads had been made.
-  pub record RanVisit (visit : Visit I O G) (reader : LimitedReader I) (writer : O) (old : Seen) (served : Served)
-      (new : Seen) : Type 0 where
+  pub record RanVisit (visit : Visit I O G) (reader : LimitedReader I) (writer : O) (old : PassState) (served : Served)
+      (new : PassState) : Type 0 where
     pub consumed : Consumes (terms.remaining visit.reader) (terms.remaining reader.inner.now) served.came
     pub appended : Appends (terms.contents visit.writer) (terms.contents writer) served.sent
     pub from : SharedState C G
@@ -95,7 +95,7 @@ module _ {I O G C : Type 0} (terms : Terms I O G C) where
     pub reason : IsReason Open reader served.ended
 
   -- The session of this visit was run, and the door got back what is left of it.
-  pub record LeftVisit (number : VisitNumber) (visit : Visit I O G) (old : Seen) (served : Served) (new : Seen)
+  pub record LeftVisit (number : VisitNumber) (visit : Visit I O G) (old : PassState) (served : Served) (new : PassState)
       : Type 0 where
     pub reader : LimitedReader I
     pub writer : O
@@ -103,25 +103,25 @@ module _ {I O G C : Type 0} (terms : Terms I O G C) where
     pub ran : RanVisit visit reader writer old served new
 
   -- A visitor was let in under this number, and the session of this visit was run.
-  pub record IsVisit (number : VisitNumber) (old : Seen) (served : Served) (new : Seen) : Type 0 where
+  pub record IsVisit (number : VisitNumber) (old : PassState) (served : Served) (new : PassState) : Type 0 where
     pub visit : Visit I O G
     pub let_in : terms.lets_in number visit
     pub leaves : LeftVisit number visit old served new
 
   -- After `earlier` visits the worker asked for these, each under a number of its own. Its pass served those who were
   -- let in, one after the other, and did nothing else.
-  abbrev pub AreVisits : ℕ → ℕ → Seen → List (Option Served) → Seen → Type 0
+  abbrev pub AreVisits : ℕ → ℕ → PassState → List (Option Served) → PassState → Type 0
   AreVisits worker earlier old [] new = new ≡ old
   AreVisits worker earlier old (None ∷ visits) new =
       terms.turns_away (number_of worker earlier) × AreVisits worker (earlier + 1) old visits new
   AreVisits worker earlier old (Some served ∷ visits) new =
-      (between : Seen) × IsVisit (number_of worker earlier) old served between
+      (between : PassState) × IsVisit (number_of worker earlier) old served between
       × AreVisits worker (earlier + 1) between visits new
 
   -- A worker's pass: it had made no call, had seen none under its name, and served these visits, behind which the door
   -- had no more.
-  pub record IsWorker (worker : ℕ) (visits : List (Option Served)) (pass : Seen) : Type 0 where
-    pub first : Seen
+  pub record IsWorker (worker : ℕ) (visits : List (Option Served)) (pass : PassState) : Type 0 where
+    pub first : PassState
     pub idle : first.mine ≡ []
     pub unheard : events_of first.seen first.name ≡ []
     pub served : AreVisits worker 0 first visits pass
@@ -129,7 +129,7 @@ module _ {I O G C : Type 0} (terms : Terms I O G C) where
 
   -- The pass is of the run that begins with this opening and has room for so many calls, and is a worker's that served
   -- these visits.
-  pub record IsWorkerOf (room : ℕ) (begun : Opening) (worker : ℕ) (visits : List (Option Served)) (pass : Seen) : Type 0 where
+  pub record IsWorkerOf (room : ℕ) (begun : Opening) (worker : ℕ) (visits : List (Option Served)) (pass : PassState) : Type 0 where
     pub works : IsWorker worker visits pass
     pub capacity : pass.capacity ≡ room
     pub opening : pass.opening ≡ begun
@@ -138,6 +138,6 @@ module _ {I O G C : Type 0} (terms : Terms I O G C) where
   abbrev pub AreWorkers : ℕ → Opening → ℕ → List (List (Option Served)) → List PassRecord → Type 0
   AreWorkers room begun worker [] [] = Unit {0}
   AreWorkers room begun worker (visits ∷ others) (one ∷ records) =
-      ((pass : Seen) × IsWorkerOf room begun worker visits pass × (one ≡ record_of pass))
+      ((pass : PassState) × IsWorkerOf room begun worker visits pass × (one ≡ record_of pass))
       × AreWorkers room begun (worker + 1) others records
   AreWorkers _ _ _ _ _ = ⊥

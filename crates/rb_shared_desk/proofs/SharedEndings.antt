@@ -9,7 +9,7 @@ use Rattle.rb_kept.specs.declared.kept.TheConstants.{MOST_CALLS}
 use Rattle.rb_kept.specs.declared.outcome.Outcome.TheVariants.{Done}
 use Rattle.rb_kept.specs.declared.fault.CallFault.{CallFault}
 use Rattle.rb_kept.specs.declared.fault.CallFault.TheVariants.{Full, Memory}
-use Rattle.rb_lock.specs.Passes.{Seen, IsSoundPass}
+use Rattle.rb_lock.specs.Passes.{PassState, IsSoundPass}
 use Rattle.rb_lock.specs.SharedCalls.{Answered}
 use Rattle.rb_blocking.specs.WaitingCalls.{try_of}
 use Rattle.rb_retry.specs.Made.{made_by}
@@ -20,7 +20,7 @@ use Rattle.rb_shared_desk.specs.SharedSteps.{SharedState, Ends}
 use Rattle.rb_shared_desk.specs.SharedLaws.{length_own}
 
 -- no more were made than the pass has seen
-pub few_through : (pass : Seen) (before : ℕ) → IsSoundPass pass → length (drop before (made_by pass.name pass.opening pass.seen)) ≤ MOST_CALLS
+pub few_through : (pass : PassState) (before : ℕ) → IsSoundPass pass → length (drop before (made_by pass.name pass.opening pass.seen)) ≤ MOST_CALLS
 few_through pass before sound =
     omega (
       arith,

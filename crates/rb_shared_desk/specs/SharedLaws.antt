@@ -11,7 +11,7 @@ use Rattle.rb_queue.specs.declared.ask.Ask.{Ask}
 use Rattle.rb_queue.specs.declared.event.Event.{Event}
 use Rattle.rb_queue.specs.declared.opening.Opening.{Opening}
 use Rattle.rb_queue.specs.declared.reply.Reply.{Reply}
-use Rattle.rb_lock.specs.Passes.{Seen, IsSoundPass, Learns, log_at}
+use Rattle.rb_lock.specs.Passes.{PassState, IsSoundPass, Learns, log_at}
 use Rattle.rb_lock.specs.SharedCalls.{Replied}
 use Rattle.rb_lock.proofs.LongerHistories.{events_of-append}
 use Rattle.rb_blocking.specs.WaitingCalls.{try_of}
@@ -56,10 +56,10 @@ module _ (seat : ℕ) (opening : Opening) where
       rw (← is, made_by-more events more, none) (append-nil (made_by seat opening events))
 
 -- what a pass has made
-abbrev own_of : Seen → List Made
+abbrev own_of : PassState → List Made
 own_of pass = made_by pass.name pass.opening pass.seen
 
-module _ (old new : Seen) (sound : IsSoundPass old) (learns : Learns old new) where
+module _ (old new : PassState) (sound : IsSoundPass old) (learns : Learns old new) where
   -- a pass that made no further call has made the same
   own_stays : new.mine ≡ old.mine → own_of new ≡ own_of old
   own_stays same =

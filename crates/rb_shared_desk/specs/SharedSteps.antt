@@ -6,7 +6,7 @@ use Rattle.rb_queue.specs.declared.opening.Opening.{Opening}
 use Rattle.rb_queue.specs.declared.reply.Reply.{Reply}
 use Rattle.rb_kept.specs.Log.{HasRoom}
 use Rattle.rb_kept.specs.Tries.{TakesMemory}
-use Rattle.rb_lock.specs.Passes.{Seen, IsSoundPass, Learns, log_of}
+use Rattle.rb_lock.specs.Passes.{PassState, IsSoundPass, Learns, log_of}
 use Rattle.rb_lock.specs.SharedCalls.{Replied}
 use Rattle.rb_lock.specs.declared.pass_record.PassRecord.{PassRecord}
 use Rattle.rb_blocking.specs.WaitingCalls.{try_of, IsStopped, EndsFull}
@@ -22,7 +22,7 @@ use Rattle.rb_shared_desk.specs.WaitRules.{WaitRules}
 -- desk's clock, the gate that may end its waits, and how many calls the pass had made when the desk was made.
 pub record SharedState (C G : Type 0) : Type 0 where
   pub reference : ℕ
-  pub pass : Seen
+  pub pass : PassState
   pub clock : C
   pub gate : G
   pub before : ℕ

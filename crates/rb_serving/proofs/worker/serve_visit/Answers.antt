@@ -7,11 +7,11 @@ use Rattle.rb_shared_desk.specs.SharedSteps.{SharedState, name_of}
 use Rattle.rb_serving.specs.Terms.{service_terms}
 use Rattle.rb_session.specs.Served.{Served}
 use Rattle.rb_serving.specs.Visits.{IsDeskOf}
-use Rattle.rb_lock.specs.Passes.{Seen}
+use Rattle.rb_lock.specs.Passes.{PassState}
 use Rattle.rb_serving.proofs.worker.serve_visit.Goals as goal
 
 -- a new desk of the pass
-is_desk : {C G : Type 0} (clock : C) (gate : G) (reference : ℕ) (pass : Seen) (desk : SharedState C G)
+is_desk : {C G : Type 0} (clock : C) (gate : G) (reference : ℕ) (pass : PassState) (desk : SharedState C G)
     → desk ≡ record { reference = reference; pass = pass; clock = clock; gate = gate; before = length pass.mine }
     → IsDeskOf clock gate pass desk
 is_desk {C} {G} clock gate reference pass desk is = record {

@@ -1,6 +1,6 @@
 -- The last worker that ends is folded in behind the others, and its visits are counted with theirs.
 use Rattle.std.proofs.Common.{◌<◌, ap, sym, subst, arith, ◌∙◌}
-use Rattle.rb_lock.specs.Passes.{Seen}
+use Rattle.rb_lock.specs.Passes.{PassState}
 use Rattle.std.proofs.lemmas.Bool.Decides.{nat_tests}
 use Rattle.rb_serving.specs.Serving.{FoldsWorkers, IsWorkerResult}
 use Rattle.rb_serving.specs.Terms.{service_terms}
@@ -22,5 +22,5 @@ returns-clause-folds g t c =
     subst (FoldsWorkers of c.args.count c.args.pass c.fold.new.pass) (sym c.with.ensures)
     (folds_one_more of c.args.count c.args.pass c.split.new.pass c.in_ok-pass.pass done.0 c.fold.new.pass done.1
     c.in_ok-pass.more some c.in-Ok.ensures.learns c.in-Ok.ensures.mine c.in_ok-pass.ensures.folds worked
-    (c.join-done.ensures.1 ∙ ap (λ (pass : Seen). pass.capacity) given) (c.join-done.ensures.2 ∙ ap (λ (pass : Seen). pass.opening) given)
+    (c.join-done.ensures.1 ∙ ap (λ (pass : PassState). pass.capacity) given) (c.join-done.ensures.2 ∙ ap (λ (pass : PassState). pass.opening) given)
     c.fold.ensures)

@@ -1,7 +1,7 @@
 -- What a taken lock, a call and a lock given back come to: the pass learns, and gets its reply.
 use Rattle.std.proofs.Common.{◌≡◌, subst, ◌∙◌}
 use Rattle.rb_lock.specs.SharedCalls.{Answered}
-use Rattle.rb_lock.specs.Passes.{Seen, Learns}
+use Rattle.rb_lock.specs.Passes.{PassState, Learns}
 use Rattle.rb_lock.specs.Views.{pass_of}
 use Rattle.rb_lock.proofs.MadeCalls.{CallsInHand, may_give, called_pass, called_learns, called_answered}
 use Rattle.rb_lock.proofs.RestingPasses.{found_in_hand}
@@ -31,11 +31,11 @@ invariant_of-pass g c =
 pub returns-clause-learns : goal.returns-clause-learns
 returns-clause-learns g c =
     let at = goal.at.returns-clause-learns g c in
-    subst (λ (p : Seen). Learns p (pass_of c.give.new.seat.table_id c.give.new.seat.me.0)) c.pass.view_is
+    subst (λ (p : PassState). Learns p (pass_of c.give.new.seat.table_id c.give.new.seat.me.0)) c.pass.view_is
     (called_learns (calls_in_hand g at.After-act-outcome) _ _ (same_table g at.After-give) c.give.ensures.seen c.pass.invariant.sound)
 
 pub returns-clause-answered : goal.returns-clause-answered
 returns-clause-answered g c =
     let at = goal.at.returns-clause-answered g c in
-    subst (λ (p : Seen). Answered p (pass_of c.give.new.seat.table_id c.give.new.seat.me.0) (record { seat = p.name; asked = c.args.asked; ask = c.args.ask }) c.act-outcome.result)
+    subst (λ (p : PassState). Answered p (pass_of c.give.new.seat.table_id c.give.new.seat.me.0) (record { seat = p.name; asked = c.args.asked; ask = c.args.ask }) c.act-outcome.result)
     c.pass.view_is (called_answered (calls_in_hand g at.After-act-outcome) _ _ (same_table g at.After-give) c.give.ensures.seen)

@@ -3,7 +3,7 @@ use Rattle.std.proofs.Common.{◌≡◌, ap, ◌∙◌, [], ◌∷◌}
 use Rattle.std.specs.Prelude.{Some}
 use Rattle.rb_queue.specs.declared.audit.Audit.{Audit}
 use Rattle.rb_lock.specs.LockSteps.{LockSeat}
-use Rattle.rb_lock.specs.Passes.{Seen, tally_of}
+use Rattle.rb_lock.specs.Passes.{PassState, tally_of}
 use Rattle.rb_lock.specs.Views.{idle, pass_of}
 use Rattle.rb_lock.proofs.Closings.{HasTotals, has_all_calls, back_may_give, refused}
 use Rattle.rb_lock.proofs.EqualTotals.{equal_totals, other_totals}
@@ -15,7 +15,7 @@ use Rattle.rb_lock.proofs.shared.Shared.close.Goals.{After-totals-counted, After
 has_totals : (g : Over) (c : After-totals-counted g)
     → HasTotals {T = g.row.T.Denot} c.args.pass c.pass.inside.seat.me c.take.new.seat.me c.take_out-pair.result c.totals-counted.result c.totals_in-booked.result
 has_totals g c = record {
-  rest = c.pass.invariant.rest ∙ ap (λ (p : Seen). (idle p, [])) c.pass.view_is;
+  rest = c.pass.invariant.rest ∙ ap (λ (p : PassState). (idle p, [])) c.pass.view_is;
   got = c.take.ensures.taken;
   out = c.take_out-pair.ensures.out;
   legal = c.take_out-pair.ensures.legal;
@@ -43,6 +43,6 @@ give-requires-clause-holds g c =
 pub returns-clause-not_all : goal.returns-clause-not_all
 returns-clause-not_all g c =
     let at = goal.at.returns-clause-not_all g c in
-    let table = c.give.ensures.table ∙ (c.put_back.ensures.table ∙ (c.take_out-pair.ensures.table ∙ (c.take.ensures.table ∙ ap (λ (p : Seen). p.table) c.pass.view_is))) in
+    let table = c.give.ensures.table ∙ (c.put_back.ensures.table ∙ (c.take_out-pair.ensures.table ∙ (c.take.ensures.table ∙ ap (λ (p : PassState). p.table) c.pass.view_is))) in
     refused (has_totals g at.After-totals-counted) c.put_back.new.seat.me (back_in_hand g at.After-put_back) c.give.new.seat.table_id c.give.new.seat.me table c.give.ensures.seen
     (other_totals c.totals-counted.result c.totals_in-booked.result c.if-eq.ensures)

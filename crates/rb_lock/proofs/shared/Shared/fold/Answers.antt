@@ -1,6 +1,6 @@
 -- Both seats are at rest, so one may join the other, and the pass then counts the calls of both.
 use Rattle.std.proofs.Common.{arith, sym, ap, ◌∙◌}
-use Rattle.rb_lock.specs.Passes.{Seen}
+use Rattle.rb_lock.specs.Passes.{PassState}
 use Rattle.rb_lock.specs.LockSteps.{LockSeat}
 use Rattle.rb_lock.proofs.FoldedPasses.{may_fold, folded_pass}
 use Rattle.rb_lock.proofs.shared.Shared.fold.Goals as goal
@@ -9,8 +9,8 @@ pub join_seat-requires : goal.join_seat-requires
 join_seat-requires g c =
     let pass = c.pass.inside.seat in
     let other = c.other.inside.seat in (
-      ap (λ (p : Seen). p.table) c.pass.view_is ∙ (c.requires.pass ∙ sym c.self.view_is),
-      ap (λ (p : Seen). p.table) c.other.view_is ∙ (c.requires.other ∙ sym c.self.view_is),
+      ap (λ (p : PassState). p.table) c.pass.view_is ∙ (c.requires.pass ∙ sym c.self.view_is),
+      ap (λ (p : PassState). p.table) c.other.view_is ∙ (c.requires.other ∙ sym c.self.view_is),
       ap (λ (m : LockSeat g.row.T.Denot). m.1) c.other.invariant.rest,
       omega (arith, c.self.invariant.words),
       may_fold {T = g.row.T.Denot} pass.table_id other.table_id pass.me other.me c.pass.invariant.rest c.other.invariant.rest pass.id other.id,

@@ -1,6 +1,6 @@
 -- With a name left it is drawn and the seat cut in two; with none the lock is just given back.
 use Rattle.std.proofs.Common.{arith, sym, ap, ◌∙◌}
-use Rattle.rb_lock.specs.Passes.{Seen}
+use Rattle.rb_lock.specs.Passes.{PassState}
 use Rattle.rb_lock.specs.Views.{pass_of}
 use Rattle.rb_lock.proofs.RestingPasses.{found_in_hand}
 use Rattle.rb_lock.proofs.SplitPasses.{none_may_give, may_draw, may_cut}
@@ -22,7 +22,7 @@ give_and_draw-requires-clause-holds g c =
 pub split_seat-seat-requires : goal.split_seat-seat-requires
 split_seat-seat-requires g c = (
   c.give_and_draw.ensures.table
-      ∙ (c.in-Some.ensures.table ∙ (c.take.ensures.table ∙ (ap (λ (p : Seen). p.table) c.pass.view_is ∙ (c.requires.pass ∙ sym c.self.view_is)))),
+      ∙ (c.in-Some.ensures.table ∙ (c.take.ensures.table ∙ (ap (λ (p : PassState). p.table) c.pass.view_is ∙ (c.requires.pass ∙ sym c.self.view_is)))),
   omega (arith, c.self.invariant.words),
   may_cut {T = g.row.T.Denot} (pass_of c.pass.inside.seat.table_id c.pass.inside.seat.me.0) c.pass.inside.seat.me c.take.new.seat.me c.next_name.new.seat.me
       c.pass.invariant.rest c.take.ensures.taken c.in-Some.name c.in-Some.ensures.names c.give_and_draw.new.seat.me c.give_and_draw.ensures.drawn c.give_and_draw.new.seat.id,
