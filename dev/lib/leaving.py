@@ -65,22 +65,15 @@ def leaving_no_process(adopts: bool = False) -> Iterator[contextlib.ExitStack]:
         signal.signal(number, action)
 
 
-@contextlib.contextmanager
-def leaving_nothing() -> Iterator[str]:
-    """A folder for temporary files. At the end, however it comes, that is gone, and so are the processes."""
-    with leaving_no_process() as last:
-        room = tempfile.mkdtemp(prefix="rb-")
-        last.callback(shutil.rmtree, room, ignore_errors=True)
-        os.chmod(room, 0o711)  # a test may run a process as another user, whose files lie below
-        os.environ["TMPDIR"] = tempfile.tempdir = room
-        yield room
-
-
 def status_of(name: str, command: Callable[[str], int]) -> int:
-    """Runs the command of this name with a folder for temporary files, of which it leaves nothing. Returns its exit
-    status, or that of a signal that broke it off."""
+    """Runs the command of this name with a folder for temporary files, of which it leaves nothing, as of processes.
+    Returns its exit status, or that of a signal that broke it off."""
     try:
-        with leaving_nothing() as room:
+        with leaving_no_process() as last:
+            room = tempfile.mkdtemp(prefix="rb-")
+            last.callback(shutil.rmtree, room, ignore_errors=True)
+            os.chmod(room, 0o711)  # a test may run a process as another user, whose files lie below
+            os.environ["TMPDIR"] = tempfile.tempdir = room
             return command(room)
     except KeyboardInterrupt as interrupted:  # a test may have handlers of its own
         print(f"{name}: it was broken off", file=sys.stderr)
@@ -108,7 +101,10 @@ def end_descendants(others: Collection[int] = ()) -> None:
     """Kills what stems from this process, but for these others, and waits until all of it is gone."""
     until = time.monotonic() + PATIENCE
     killed: Set[int] = set()
-    while (left := descendants(others) | {*filter(is_there, killed)}) and time.monotonic() < until:
+    while time.monotonic() < until:
+        left = descendants(others) | {it for it in killed if os.path.exists(f"/proc/{it}")}
+        if not left:
+            return
         killed |= left  # one whose parent ends sooner stems from this process no longer
         for process in left:
             with contextlib.suppress(ProcessLookupError, PermissionError):
@@ -117,7 +113,3 @@ def end_descendants(others: Collection[int] = ()) -> None:
         with contextlib.suppress(ChildProcessError):
             while os.waitpid(-1, os.WNOHANG)[0]:
                 pass
-
-
-def is_there(process: int) -> bool:
-    return os.path.exists(f"/proc/{process}")

@@ -1,14 +1,15 @@
 """What differs from a case when it is run, and which cases can't be run."""
 from __future__ import annotations
 
-import os
 import re
+import signal
 import tempfile
 from itertools import takewhile
 from operator import eq
+from pathlib import Path
 
 from conforming.cases import FAULTS, Case
-from conforming.program import CAN_BREAK_OFF, Ended, Input, Program, broken_off, in_pieces
+from conforming.program import Ended, Input, Program, broken_off, in_pieces
 
 FULL = "/dev/full"  # no write to it succeeds
 
@@ -23,72 +24,62 @@ def reason_to_skip(case: Case, timers: list[str]) -> str | None:
     """Why the case is not run, if it can't be tested by what a command is given and what it prints."""
     timer, values = case.value("timer"), case.values
     reasons = {
-        f"equals come in the order of the timer {timer}, which was not asked for": timer and timer not in timers,
+        f"equals come in the order of the timer {timer}, which is not tried": timer and timer not in timers,
         "a script does not print how many jobs were lost": case.is_script and case.lost,
         "a read of standard input can't be interrupted from outside": "reader interrupted" in values,
         "a pipe takes all that is written": "writer takes" in values,
         "a flush of standard output can't be made to fail": case.number("writer fails") % 2 == 1,
         "a flush of the history can't be made to fail": case.number("recorder fails") > 0,
-        f"the system has no {FULL}": "recorder fails" in values and not os.path.exists(FULL),
-        "no input of this system gives its bytes and then fails": "reader fails" in values and not CAN_BREAK_OFF,
     }
     return next((reason for reason, is_so in reasons.items() if is_so), None)
 
 
 def difference(program: Program, case: Case, timers: list[str]) -> str | None:
     """What differs from the case, a script in the first of its runs that fails."""
-    if not case.is_script:
-        return _of_replay(program, case)
-    for timer in timers or [""]:
-        if case.value("timer") in ("", timer):
-            told = _over_timer(program, case, ["--timer", timer] if timer else [])
-            if told:
-                return f"over {timer}, {told}" if timer else told
+    with tempfile.TemporaryDirectory(prefix="rb-conform-") as room:
+        if not case.is_script:
+            history = _written(room, "history", case.text("="))
+            ended = program.run(["replay", history, *case.words], Input([]))
+            return _of_ends(ended, "verdict", case.value("verdict").encode() + b"\n", case.number("status"))
+        for timer in [case.value("timer")] if case.value("timer") else timers or [""]:
+            for name, size in _sizes(case).items():
+                words = ["script", *(["--timer", timer] if timer else []), *case.words]
+                told = _of_script(program, case, words, size, room)
+                if told:
+                    return f"{f'over {timer}, ' if timer else ''}reads {name}: {told}"
     return None
 
 
-def _of_replay(program: Program, case: Case) -> str | None:
-    with tempfile.TemporaryDirectory(prefix="rb-conform-") as room:
-        history = _written(room, "history", case.text("="))
-        ended = program.run(["replay", history, *case.words], Input([]))
-    return _of_ends(ended, "verdict", case.value("verdict").encode() + b"\n", case.number("status"))
-
-
-def _over_timer(program: Program, case: Case, words: list[str]) -> str | None:
-    """Runs the script with each size of reads."""
+def _sizes(case: Case) -> dict[str, int | None]:
+    """The sizes of reads with which a script is run. How an input is cut does not matter where a device fails."""
     if "reader fails" in case.values or "writer fails" in case.values:
-        return _of_script(program, case, words, None)  # how these inputs are cut does not matter
+        return {"whole": None}
     sizes = SIZES_OF_LONG if len(case.text(">")) > LONG else SIZES
-    for name, size in sizes.items():
-        if case.value("reads") in ("", name):
-            told = _of_script(program, case, words, size)
-            if told:
-                return f"reads {name}: {told}"
-    return None
+    only = case.value("reads")
+    return {only: sizes[only]} if only else sizes
 
 
-def _of_script(program: Program, case: Case, words: list[str], size: int | None) -> str | None:
+def _of_script(program: Program, case: Case, words: list[str], size: int | None, room: str) -> str | None:
     """What differs first: the replies, the end or the history."""
-    with tempfile.TemporaryDirectory(prefix="rb-conform-") as room:
-        words, history = ["script", *words, *case.words], ""
-        if "=" in case.texts:
-            history = FULL if "recorder fails" in case.values else os.path.join(room, "history")
-            words += ["--history", history]
-        if "from" in case.texts:
-            words += ["--from", _written(room, "opening", case.text("from"))]
-        ended = _run(program, case, words, size)
-        return (
-            _of_ends(ended, "replies", case.text("<"), FAULTS.get(case.fault or "", 0))
-            or (_of_faults(ended.errors, case.fault) if case.fault else None)
-            or (_of_history(history, case.text("=")) if history not in ("", FULL) else None)
-        )
+    history = ""
+    if "=" in case.texts:
+        history = FULL if "recorder fails" in case.values else f"{room}/history"
+        words += ["--history", history]
+        Path(room, "history").unlink(missing_ok=True)  # of the run before
+    if "from" in case.texts:
+        words += ["--from", _written(room, "opening", case.text("from"))]
+    ended = _run(program, case, words, size)
+    return (
+        _of_ends(ended, "replies", case.text("<"), FAULTS.get(case.fault or "", 0))
+        or (_of_faults(ended.errors, case.fault) if case.fault else None)
+        or (_of_history(history, case.text("=")) if history not in ("", FULL) else None)
+    )
 
 
 def _written(room: str, name: str, content: bytes) -> str:
     """Writes a file, and returns its path."""
-    with open(os.path.join(room, name), "wb") as it:
-        it.write(content)
-    return it.name
+    Path(room, name).write_bytes(content)
+    return f"{room}/{name}"
 
 
 def _run(program: Program, case: Case, words: list[str], size: int | None) -> Ended:
@@ -118,15 +109,13 @@ def _of_bytes(what: str, came: bytes, wanted: bytes) -> str | None:
 
 
 def _of_ends(ended: Ended, what: str, wanted: bytes, status: int) -> str | None:
-    """What differs first: that the run did not end, what it printed, or its status. With the status comes the last
-    line of standard error."""
-    if ended.status is None:
+    """What differs first: that the run did not end, what it printed, or its status, with standard error."""
+    if ended.status == -signal.SIGKILL:
         return "it had to be ended"
     told = _of_bytes(what, ended.output, wanted)
     if told or ended.status == status:
         return told
-    line = ended.errors.decode(errors="replace").strip().rpartition("\n")[2]
-    return f"status: {ended.status} in place of {status}" + (f", {line!a}" if line else "")
+    return f"status: {ended.status} in place of {status}, {ended.errors.decode(errors='replace')!a}"
 
 
 def _of_faults(errors: bytes, fault: str) -> str | None:
@@ -139,7 +128,6 @@ def _of_faults(errors: bytes, fault: str) -> str | None:
 
 def _of_history(path: str, wanted: bytes) -> str | None:
     try:
-        with open(path, "rb") as it:
-            return _of_bytes("history", it.read(), wanted)
+        return _of_bytes("history", Path(path).read_bytes(), wanted)
     except FileNotFoundError:
         return "history: no file was made"

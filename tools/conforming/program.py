@@ -5,17 +5,15 @@ serving.server, which starts servers of this repository's program.
 """
 from __future__ import annotations
 
-import contextlib
 import os
 import signal
 import socket
 import subprocess
-import sys
 import threading
-from dataclasses import dataclass
-from typing import IO, Iterable, Iterator
+from contextlib import contextmanager, suppress
+from typing import Iterable, Iterator, NamedTuple
 
-CAN_BREAK_OFF = sys.platform == "linux"  # there a socket gives its bytes first, and fails only then
+PATIENCE = 300  # seconds after which a run is ended
 
 # Held while a process starts and while an output is closed. A process that another thread starts has copies of all
 # descriptors until its command runs, so an output that is closed meanwhile would not look closed to its writer.
@@ -32,20 +30,16 @@ class Input:
 
     def give(self) -> None:
         """Gives all, or as much as the program reads."""
-        with contextlib.suppress(OSError), open(self._end, "wb") as end:
+        with suppress(OSError), open(self._end, "wb") as end:
             for piece in self._pieces:
                 end.write(piece)
                 end.flush()
 
 
 def in_pieces(content: bytes, size: int) -> Input:
-    """An input in pieces of `size` bytes. Where the system has pipes that keep pieces apart, as Linux does, a read
-    gives one piece; elsewhere it may give several."""
+    """An input of which a read gives one piece of `size` bytes."""
     pieces = (content[at : at + size] for at in range(0, len(content), size))
-    try:
-        return Input(pieces, os.pipe2(os.O_CLOEXEC | os.O_DIRECT))
-    except (AttributeError, OSError):
-        return Input(pieces)
+    return Input(pieces, os.pipe2(os.O_CLOEXEC | os.O_DIRECT))
 
 
 def broken_off(content: bytes) -> Input:
@@ -56,29 +50,25 @@ def broken_off(content: bytes) -> Input:
     return Input([content], (theirs.detach(), ours.detach()))
 
 
-@dataclass
-class Ended:
-    """How a run ended. A run that had to be killed has no status."""
+class Ended(NamedTuple):
+    """How a run ended, and what it wrote. The status of one that had to be ended is that of SIGKILL."""
 
-    status: int | None
+    status: int
     output: bytes
     errors: bytes
 
 
 class Program:
-    """A command, to which the words of each run are appended. A run that takes longer than `patience` seconds is
-    ended."""
+    """A command, to which the words of each run are appended."""
 
-    def __init__(self, command: list[str], patience: float):
+    def __init__(self, command: list[str], patience: float = PATIENCE):
         self.command, self.patience = command, patience
-        self._running: set[subprocess.Popen[bytes]] = set()
-        self._had_to_be_ended: set[subprocess.Popen[bytes]] = set()
-        self._is_over = False
 
     def run(self, words: list[str], given: Input) -> Ended:
         """Runs the program to its end."""
         with self._started(words, given) as process:
-            return self._ended(process, *process.communicate())
+            output, errors = process.communicate()
+            return Ended(process.wait(), output, errors)
 
     def run_until_closed(self, words: list[str], content: bytes, replies: int) -> Ended:
         """Runs the program, and closes its standard output once it has sent this many replies, each to one line. Only
@@ -91,59 +81,31 @@ class Program:
             yield b"".join(lines[replies:])
 
         with self._started(words, Input(halves())) as process:
-            try:
-                output = read_lines(process.stdout, replies)
-            finally:
-                is_closed.set()
-            return self._ended(process, output, process.stderr.read())
+            output = b"".join(process.stdout.readline() for _ in range(replies))
+            with STARTING:
+                process.stdout.close()
+            is_closed.set()
+            errors = process.stderr.read()
+            return Ended(process.wait(), output, errors)
 
-    @contextlib.contextmanager
+    @contextmanager
     def _started(self, words: list[str], given: Input) -> Iterator[subprocess.Popen[bytes]]:
         """A process in a group of its own, so that everything it started ends with it."""
-        pipe = subprocess.PIPE
-        try:
-            with STARTING:
-                process = subprocess.Popen(
-                    [*self.command, *words], stdin=given.descriptor, stdout=pipe, stderr=pipe, bufsize=0,
-                    start_new_session=True,
-                )
-        finally:
-            os.close(given.descriptor)
-        self._running.add(process)
-        if self._is_over:
-            self._end(process)
-        watch, giver = threading.Timer(self.patience, self._end, [process]), threading.Thread(target=given.give)
+        with STARTING:
+            process = subprocess.Popen(
+                [*self.command, *words], stdin=given.descriptor, stdout=subprocess.PIPE, stderr=subprocess.PIPE,
+                bufsize=0, start_new_session=True,
+            )
+        os.close(given.descriptor)
+        watch, giver = threading.Timer(self.patience, end_group, [process.pid]), threading.Thread(target=given.give)
         watch.start()
         giver.start()
-        try:
-            yield process
-        finally:
-            self._end(process)
-            watch.cancel()
-            giver.join()
-            self._running.discard(process)
-
-    def _end(self, process: subprocess.Popen[bytes]) -> None:
-        """Ends a process and what it started, unless it has ended by itself."""
-        if process.poll() is None:
-            self._had_to_be_ended.add(process)
-            with contextlib.suppress(ProcessLookupError):
-                os.killpg(process.pid, signal.SIGKILL)
-
-    def _ended(self, process: subprocess.Popen[bytes], output: bytes, errors: bytes) -> Ended:
-        status = process.wait()
-        return Ended(None if process in self._had_to_be_ended else status, output, errors)
-
-    def end(self) -> None:
-        """Ends all runs, and those that begin later."""
-        self._is_over = True
-        for process in list(self._running):
-            self._end(process)
+        yield process
+        watch.cancel()
+        giver.join()
 
 
-def read_lines(output: IO[bytes], count: int) -> bytes:
-    """Reads this many lines, or fewer if there are no more, and closes the output."""
-    told = b"".join(output.readline() for _ in range(count))
-    with STARTING:
-        output.close()
-    return told
+def end_group(group: int) -> None:
+    """Ends a process and what it started, unless all have ended."""
+    with suppress(ProcessLookupError):
+        os.killpg(group, signal.SIGKILL)

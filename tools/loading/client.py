@@ -2,20 +2,17 @@
 from __future__ import annotations
 
 import math
-import os
 import random
-import socket
 import time
-from contextlib import suppress
 from dataclasses import dataclass
 from fractions import Fraction
-from typing import Callable, Optional
+from typing import Callable
 
-from loading.counts import Counts
+from loading.counts import SECOND, Counts
 from rb_broker_client import Again, Broker, FullError, RefusedError, StoppedError, UnknownReplyError
 
-SECOND = 1_000_000_000  # in nanoseconds
 PAUSE = 0.001  # seconds after a wait that the server gave up, since it may give up each at once
+GRACE = 5 * SECOND  # that the clients have to leave after the end
 
 
 @dataclass(frozen=True)
@@ -42,33 +39,30 @@ class Plan:
 class Client:
     """One client of a run, with a session and a thread of its own. It settles each job before it asks for the next."""
 
-    def __init__(self, number: int, broker: Broker, plan: Plan, counts: Counts):
-        self.number, self.broker, self.plan, self.counts = number, broker, plan, counts
+    def __init__(self, number: int, broker: Broker, plan: Plan):
+        self.number, self.broker, self.plan, self.counts = number, broker, plan, Counts()
         self.choice = random.Random(number)
-        self.waited: Optional[int] = None  # nanoseconds until a worker served it, once one does
-        self._is_given_up = False
 
     def run(self) -> None:
         """Works until the end of the plan or a fault, which is counted."""
         try:
+            self._be_patient()
             self.broker.await_service()
-            self.waited = time.monotonic_ns() - self.plan.begin
             self._work()
+            self._be_patient()
             self.broker.quit()
+        except TimeoutError:
+            self.counts.errors["no reply at the end"] += 1
         except UnknownReplyError as fault:
-            self.counts.add_error(f"{str(fault)[:40]!a} is no reply")
-        except FullError as fault:
-            self.counts.add_error(str(fault))
-        except OSError as fault:
-            self.counts.add_error("no reply at the end" if self._is_given_up else fault.strerror or str(fault))
+            self.counts.errors[f"{str(fault)[:40]!a} is no reply"] += 1
+        except (FullError, OSError) as fault:
+            self.counts.errors[str(fault)] += 1
         finally:
             self.broker.close()
 
-    def give_up(self) -> None:
-        """Ends the wait of the client's thread for a reply."""
-        self._is_given_up = True
-        with suppress(OSError), socket.socket(fileno=os.dup(self.broker.fileno())) as it:
-            it.shutdown(socket.SHUT_RDWR)
+    def _be_patient(self) -> None:
+        """Lets the next reply take until a while after the end."""
+        self.broker.patience = max(self.plan.end + GRACE - time.monotonic_ns(), SECOND) / SECOND
 
     def _work(self) -> None:
         """Offers what is due, and asks for jobs until the next offer is due. It asks once even if that offer is late
@@ -85,12 +79,13 @@ class Client:
 
     def _counted(self, step: Callable[..., None], *words: float) -> None:
         """Takes a step. A refusal is counted, but once the run is full no client goes on."""
+        self._be_patient()
         try:
             step(*words)
         except FullError:
             raise
         except RefusedError as fault:
-            self.counts.add_error(str(fault))
+            self.counts.errors[str(fault)] += 1
 
     def _offer(self, number: int) -> None:
         before = time.monotonic_ns()
@@ -105,13 +100,13 @@ class Client:
             time.sleep(min(timeout, PAUSE))
             return
         if job is None:
-            self.counts.add(calls=1)
+            self.counts.numbers.update(["calls"])
             return
         self.counts.add_job(job.expires_at_ns, time.monotonic_ns())
         if self.choice.random() >= self.plan.fail:
             self.broker.done(job.id)
-            self.counts.add(done=1)
+            self.counts.numbers.update(["done"])
         elif isinstance(self.broker.fail(job.id), Again):
-            self.counts.add(failed=1, again=1, calls=1)
+            self.counts.numbers.update(["failed", "again", "calls"])
         else:
-            self.counts.add(failed=1, dead=1)
+            self.counts.numbers.update(["failed", "dead"])

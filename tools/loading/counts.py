@@ -1,94 +1,74 @@
-"""What the clients of a run count together."""
+"""What the clients of a run count, and what is printed of it."""
 from __future__ import annotations
 
 import collections
 import math
-import threading
-from dataclasses import dataclass, field
-from typing import NamedTuple
+from typing import Iterable
+
+SECOND = 1_000_000_000  # in nanoseconds
 
 
-class ServerClock:
-    """How far the server's moment is ahead of this machine's monotonic clock, in nanoseconds.
+class Counts:
+    """What one client counts, or all together: numbers by their words in the summary, errors by their kinds, and how
+    late jobs were.
 
-    The server counts from a moment of its own, but both clocks go at the same speed, so the difference stays the
-    same. Each moment of the server that lies between two readings of ours bounds it. The closest bounds count.
+    The server counts time from a moment of its own, but its clock and this machine's monotonic clock go at the same
+    speed, so one stays ahead of the other by the same number of nanoseconds. Each moment of the server that lies
+    between two readings of ours bounds that number. The closest bounds count.
     """
 
     def __init__(self) -> None:
-        self._least, self._most = -math.inf, math.inf
-
-    def was_read(self, moment: int, before: int, after: int) -> None:
-        """The server's clock showed this moment between two readings of ours."""
-        self.was_reached(moment, after)
-        self._most = min(self._most, moment - before)
-
-    def was_reached(self, moment: int, after: int) -> None:
-        """The server's clock had reached this moment before a reading of ours."""
-        self._least = max(self._least, moment - after)
-
-    @property
-    def ahead(self) -> int:
-        """The middle between the bounds, or the only bound there is."""
-        bounds = [int(it) for it in (self._least, self._most) if math.isfinite(it)]
-        return sum(bounds) // len(bounds) if bounds else 0
-
-
-class Lateness(NamedTuple):
-    """How late jobs were, in microseconds."""
-
-    median: int
-    percentile: int  # the 99th
-    greatest: int
-
-
-@dataclass
-class Counts:
-    """How many elements were offered and taken, what became of the jobs, and how many calls that was. The threads of
-    all clients add to it."""
-
-    calls: int = 0
-    offered: int = 0
-    taken: int = 0
-    done: int = 0
-    failed: int = 0
-    again: int = 0
-    dead: int = 0
-    errors: collections.Counter[str] = field(default_factory=collections.Counter)
-    clock: ServerClock = field(default_factory=ServerClock)
-    waits: list[int] = field(default_factory=list)  # of clients that had to wait for a worker, in nanoseconds
-    _times: list[int] = field(default_factory=list)
-    _adding: threading.RLock = field(default_factory=threading.RLock)
-
-    def add(self, **more: int) -> None:
-        """Adds to the counts of these names."""
-        with self._adding:
-            for name, count in more.items():
-                setattr(self, name, getattr(self, name) + count)
-
-    def add_error(self, kind: str) -> None:
-        with self._adding:
-            self.errors[kind] += 1
+        self.numbers: collections.Counter[str] = collections.Counter()
+        self.errors: collections.Counter[str] = collections.Counter()
+        self.times: list[int] = []  # of jobs: when it had come by our clock, less its expiry by the server's
+        self.least, self.most = -math.inf, math.inf
 
     def add_offer(self, moment: int, before: int, after: int) -> None:
         """An element was accepted, at this moment of the server and between two readings of our clock."""
-        with self._adding:
-            self.add(calls=1, offered=1)
-            self.clock.was_read(moment, before, after)
+        self.numbers.update(["calls", "offered"])
+        self.least, self.most = max(self.least, moment - after), min(self.most, moment - before)
 
     def add_job(self, expiry: int, at: int) -> None:
-        """A job was taken, and our clock showed `at` when its reply had come."""
-        with self._adding:
-            self.add(calls=1, taken=1)
-            self.clock.was_reached(expiry, at)
-            self._times.append(at - expiry)
+        """A job had come when our clock showed `at`, and so the server's had reached its expiry."""
+        self.numbers.update(["calls", "taken"])
+        self.least = max(self.least, expiry - at)
+        self.times.append(at - expiry)
 
-    def lateness(self) -> Lateness | None:
-        """How late the jobs were so far: from the expiry until the reply had come."""
-        with self._adding:
-            self._times.sort()  # most are in order since the last time
-            times = self._times
-            if not times:
-                return None
-            times = [*(times[int(len(times) * share)] for share in (0.5, 0.99)), times[-1]]
-        return Lateness(*((it + self.clock.ahead) // 1000 for it in times))
+    @property
+    def ahead(self) -> int:
+        """How far the server's clock is ahead: the middle between the bounds, or the only bound there is."""
+        bounds = [int(it) for it in (self.least, self.most) if math.isfinite(it)]
+        return sum(bounds) // len(bounds) if bounds else 0
+
+    def lateness(self) -> list[int]:
+        """The median, the 99th percentile and the greatest of how late jobs were, from the expiry until the reply had
+        come, in microseconds; nothing if no job came."""
+        times = sorted(self.times)
+        places = [int(len(times) * share) for share in (0.5, 0.99)] + [-1]
+        return [(times[it] + self.ahead) // 1000 for it in places] if times else []
+
+
+def total(each: Iterable[Counts]) -> Counts:
+    """What several have counted together."""
+    all_of_them = Counts()
+    for it in each:
+        all_of_them.numbers += it.numbers
+        all_of_them.errors += it.errors
+        all_of_them.times += it.times
+        all_of_them.least, all_of_them.most = max(all_of_them.least, it.least), min(all_of_them.most, it.most)
+    return all_of_them
+
+
+def summary(counts: Counts, due: int, seconds: float) -> list[str]:
+    """The lines at the end of a run of so many seconds, in which so many offers were due."""
+    found, late = counts.numbers, counts.lateness()
+    told = "median {}, 99th percentile {}, greatest {}".format(*late) if late else "none"
+    errors = ", ".join(f"{count} of {fault}" for fault, count in counts.errors.most_common())
+    return [
+        f"offered {found['offered']} of {due} that were due, {found['offered'] / seconds:.1f} a second",
+        f"taken {found['taken']}, {found['taken'] / seconds:.1f} a second",
+        f"done {found['done']}, failed {found['failed']} (again {found['again']}, dead {found['dead']})",
+        f"lateness in microseconds: {told}",
+        f"calls {found['calls']}",
+        f"errors {sum(counts.errors.values())}" + (f": {errors}" if errors else ""),
+    ]

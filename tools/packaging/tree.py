@@ -1,9 +1,6 @@
 """The files of the package, laid out as they are to be installed."""
 import gzip
 import os
-import posixpath
-import re
-import shutil
 from pathlib import Path
 
 from common.program import TOP
@@ -17,19 +14,16 @@ PYTHON = "usr/lib/python3/dist-packages"
 COPIED = {
     "rb_broker@.service": "usr/lib/systemd/system/rb_broker@.service",
     "rb_broker.default": "etc/default/rb_broker",
-    "rb_broker.bash": "usr/share/bash-completion/completions/rb_broker",
     "debian/copyright": f"{DOCUMENTS}/copyright",
 }
 
-# The pages for users. They lie below the folder of documents as they lie below this repository's.
-PAGES = (
+# The pages for users, and what they tell their readers to look at or to run. All lies below the folder of documents as
+# it lies below this repository's.
+FOR_READERS = (
     "docs/OPERATING.md", "docs/PROTOCOL.md", "docs/HISTORY.md", "docs/DELAYQUEUE.md", "docs/SCALING.md",
-    "clients/python/README.md", "redis/README.md",
+    "clients/python/README.md", "redis/README.md", "docs/*.png", "docs/*.svg", "examples/*",
+    "clients/python/examples/*.py",
 )
-LINK = re.compile(r"!?\[([^\]\n]*)\]\(([^)\s#]+)[^)\n]*\)")
-
-# What the pages tell their readers to look at or to run, which lies there too.
-BESIDE_PAGES = ("docs/*.png", "docs/*.svg", "examples/*", "clients/python/examples/*.py")
 
 # The tools that become commands, each with the folder of its modules, and what several of them import.
 COMMANDS = {"service": "servicing", "report": "reporting", "verify": "verifying", "load": "loading"}
@@ -65,28 +59,10 @@ def lay_out(root: Path, program: Path) -> None:
         copy(Path(SOURCES, name), root / place)
     page = Path(SOURCES, "rb_broker.1").read_bytes()
     write(root / "usr/share/man/man1/rb_broker.1.gz", gzip.compress(page, mtime=0))
-    lay_out_documents(Path(TOP), root / DOCUMENTS)
-    lay_out_tools(Path(TOP), root)
-
-
-def lay_out_documents(top: Path, documents: Path) -> None:
-    """Lays out the pages, and what they name beside them."""
-    names = [str(path.relative_to(top)) for form in BESIDE_PAGES for path in top.glob(form)]
-    for name in names:
-        copy(top / name, documents / name)
-    for page in PAGES:
-        text = (top / page).read_text(encoding="utf-8")
-        write(documents / page, installed_page(page, text, {*PAGES, *names}).encode())
-
-
-def installed_page(page: str, text: str, places: set[str]) -> str:
-    """The text of a page, in which a link to a file that is not installed is its words alone."""
-
-    def kept(link: re.Match[str]) -> str:
-        target = posixpath.normpath(posixpath.join(posixpath.dirname(page), link[2]))
-        return link[0] if ":" in link[2] or target in places else link[1]
-
-    return LINK.sub(kept, text)
+    top = Path(TOP)
+    for path in (path for form in FOR_READERS for path in top.glob(form)):
+        copy(path, root / DOCUMENTS / path.relative_to(top))
+    lay_out_tools(top, root)
 
 
 def lay_out_tools(top: Path, root: Path) -> None:

@@ -10,7 +10,7 @@ from typing import Sequence
 
 from checking.suites import tests_below, try_side_by_side, try_tests
 from checking.tally import Tally
-from common.program import TOP
+from common.program import TOP, tested_program
 
 CLIENT, KINDS = f"{TOP}/clients/python", ["unit", "served", "day"]
 PROCESSORS = os.cpu_count() or 1
@@ -29,7 +29,7 @@ class Part:
     def run(self, tally: Tally) -> None:
         """Takes one step after the other."""
         for step in self.steps:
-            match step.format(processors=PROCESSORS).split():
+            match [it.format(processors=PROCESSORS, program=tested_program()) for it in step.split()]:
                 case ["tests", *folders]:
                     for folder in (f"{TOP}/{it}" for it in folders):
                         libraries = f"{TOP}/dev/lib" if folder.startswith(f"{TOP}/dev/") else os.path.dirname(folder)
@@ -38,8 +38,8 @@ class Part:
                     folder = f"{TOP}/{folder}"
                     suite = tests_below(f"{folder}/tests", os.path.dirname(folder), tally.only, pattern)
                     try_side_by_side(tally, suite, PROCESSORS)
-                case ["check", name]:
-                    importlib.import_module(f"checking.{name}").check(tally)
+                case ["check", module]:
+                    importlib.import_module(module).check(tally)
                 case ["client"]:
                     try_client(tally)
                 case words:

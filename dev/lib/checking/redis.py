@@ -32,29 +32,24 @@ LONGEST = [
 ]
 
 
-def has_package(python: str) -> bool:
-    """Whether a Python has the package redis."""
-    return not subprocess.run([python, "-c", "import redis.asyncio"], capture_output=True, check=False).returncode
-
-
-def missing() -> list[str]:
-    """What is not installed that the tests need. This process may become another Python's."""
-    absent = [it for it in COMMANDS if shutil.which(it) is None]
-    if importlib.util.find_spec("redis") is None:
-        if os.path.exists(SYSTEM_PYTHON) and sys.executable != SYSTEM_PYTHON and has_package(SYSTEM_PYTHON):
+def take_other_python() -> None:
+    """Lets this process become the system's Python, if only that has the package redis."""
+    if sys.executable != SYSTEM_PYTHON and shutil.which(SYSTEM_PYTHON):
+        if not subprocess.run([SYSTEM_PYTHON, "-c", "import redis.asyncio"], stderr=subprocess.DEVNULL).returncode:
             room = os.environ["TMPDIR"]  # of this run, which the other one makes anew
             os.environ["TMPDIR"] = os.path.dirname(room)
             os.rmdir(room)
             os.execv(SYSTEM_PYTHON, [SYSTEM_PYTHON, "-B", *sys.argv])
-        absent.append("the package redis for Python")
-    return absent
 
 
 def check(tally: Tally) -> None:
     """Runs the tests."""
     others = (it for it in sys.path if not it.startswith((f"{TOP}/tools", f"{TOP}/dev")))
     sys.path[:] = [*PATHS, *others, *LAST_PATHS]
-    absent = missing()
+    absent = [it for it in COMMANDS if shutil.which(it) is None]
+    if importlib.util.find_spec("redis") is None:
+        take_other_python()
+        absent.append("the package redis for Python")
     if absent:
         tally.skip("redis", f"there is no {' and no '.join(absent)}")
         return

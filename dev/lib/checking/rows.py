@@ -38,7 +38,7 @@ class RbCases:
         ran = subprocess.run([self.program, "tried.rows"], **how)
         return ran.returncode, ran.stdout.splitlines(), ran.stderr
 
-    def of_rows(self, path: Path) -> list[str]:
+    def of_rows(self, path: Path) -> Iterator[str]:
         """What was wrong when each row of a file in turn had another answer; empty if nothing was."""
         tried: list[str] = []
         wanted: list[str] = []
@@ -51,8 +51,8 @@ class RbCases:
                     tried += [f"{table[0]}, wrong at {at}", *table[1:at], with_other_answer(line), *table[at + 1:]]
         status, lines, errors = self.reads("".join(f"{line}\n" for line in tried))
         if status != 1 or errors or len(lines) != len(wanted) + 1:
-            return [f"status {status}, {len(lines)} lines, {errors!r}"] * len(wanted)
-        return ["" if re.fullmatch(one, line) else line for line, one in zip(lines, wanted)]
+            lines = [f"status {status}, {len(lines)} lines, {errors!r}"] * len(wanted)
+        yield from ("" if re.fullmatch(one, line) else line for line, one in zip(lines, wanted))
 
     def of_malformed(self) -> Iterator[str]:
         """How each malformed file was refused otherwise than for its flaw."""
@@ -79,19 +79,13 @@ def with_other_answer(row: str) -> str:
     return f"{command} = {' or '.join(answer + OTHER for answer in answers.split(' or '))}"
 
 
-def count(tally: Tally, name: str, findings: list[str]) -> None:
-    """Counts what was tried in a file, and prints the first of what is wrong."""
-    faults = [it for it in findings if it]
-    tally.add(len(findings) - len(faults), len(faults))
-    print("\n".join([*faults[:MOST_TOLD], f"{name}: {len(findings)} tried, {len(faults)} not found"]), flush=True)
-
-
 def check(tally: Tally) -> None:
-    """Tries all files."""
+    """Tries all files, and prints the first of what is wrong in each."""
     with tempfile.TemporaryDirectory(prefix="rb-rows-") as room:
         program = RbCases(room)
-        if tally.wants("malformed"):
-            count(tally, "malformed tables", [*program.of_malformed()])
-        for path in sorted(CRATE.glob("data/*.rows")):
-            if tally.wants(path.name):
-                count(tally, f"{path.name}, rows with another answer", program.of_rows(path))
+        tried = [("malformed tables", program.of_malformed())]
+        tried += [(path.name, program.of_rows(path)) for path in sorted(CRATE.glob("data/*.rows"))]
+        for name, findings in ((name, [*it]) for name, it in tried if tally.wants(name)):
+            faults = [it for it in findings if it]
+            tally.add(len(findings) - len(faults), len(faults))
+            print(*faults[:MOST_TOLD], f"{name}: {len(findings)} tried, {len(faults)} not found", sep="\n", flush=True)

@@ -14,16 +14,17 @@ from side_by_side import side_by_side
 
 # Where a process that tries one class finds which of how many it is, from 0.
 PLACE = "RB_BROKER_PLACE"
-FAILED = "unittest.loader._FailedTest."  # the name of a module that can't be imported begins so
 COUNTS = re.compile(r"(\d+) passed, (\d+) failed(?:, (\d+) skipped)?")
-QUIET = re.compile(r"-*|Ran \d+ tests? in \S+|OK(?: \(.*\))?|Executing <.*")  # lines that say nothing where all pass
 
 
 def tests_below(folder: str, top: str, only: Sequence[str] = (), pattern: str = "test*.py") -> unittest.TestSuite:
     """The tests of the modules of such names in a folder, which import others from the folder `top`."""
     loader = unittest.TestLoader()
     loader.testNamePatterns = [f"*{word}*" for word in only] or None
-    return loader.discover(folder, pattern, top_level_dir=top)
+    suite = loader.discover(folder, pattern, top_level_dir=top)
+    if loader.errors:
+        raise ImportError("\n".join(loader.errors))
+    return suite
 
 
 def try_tests(tally: Tally, suite: unittest.TestSuite) -> None:
@@ -35,7 +36,6 @@ def try_tests(tally: Tally, suite: unittest.TestSuite) -> None:
         tally.skip(test.id(), reason)
     # A test of which parts failed stands here more than once, and a class that was left as a whole ran no test.
     failed = {getattr(test, "test_case", test) for test, _ in result.failures + result.errors}
-    failed.update(result.unexpectedSuccesses)
     others = failed.union(test for test, _ in result.skipped)
     tally.add(result.testsRun - sum(isinstance(test, unittest.TestCase) for test in others), len(failed))
 
@@ -44,17 +44,22 @@ def try_side_by_side(tally: Tally, suite: unittest.TestSuite, at_once: int, firs
     """Runs the tests of a part in so many processes, of which each tries the part with `--only` the name of a class.
     Classes whose names begin with one of the words in `first` are begun first, as they take longest; then those with
     most tests."""
-    tests = [it for it in tests_in(suite) if not it.id().startswith(FAILED)]
     if PLACE in os.environ:
-        try_tests(tally, unittest.TestSuite(tests))
+        try_tests(tally, suite)
         return
-    try_tests(tally, unittest.TestSuite(it for it in tests_in(suite) if it.id().startswith(FAILED)))
-    counts = Counter(it.id().rpartition(".")[0] for it in tests)
+    counts = Counter(it.id().rpartition(".")[0] for it in tests_in(suite))
     order = sorted(counts, key=lambda it: (not it.startswith(tuple(first)), -counts[it]))
     places: queue.SimpleQueue[str] = queue.SimpleQueue()
     for place in range(at_once):
         places.put(f"{place}/{at_once}")
-    for name, said in side_by_side(lambda name: try_class(tally.part, name, places), order, at_once):
+
+    def try_class(name: str) -> str:
+        place = places.get()
+        _, said = try_apart(tally.part, [f"{name}."], **{PLACE: place})
+        places.put(place)
+        return said
+
+    for name, said in side_by_side(try_class, order, at_once):
         add(tally, name, said)
 
 
@@ -64,29 +69,22 @@ def tests_in(suite: unittest.TestSuite) -> Iterator[unittest.TestCase]:
         yield from tests_in(it) if isinstance(it, unittest.TestSuite) else [it]
 
 
-def try_class(part: str, name: str, places: queue.SimpleQueue[str]) -> str:
-    """Runs a class of tests in a process at a place that is free. Gives what it prints."""
-    place = places.get()
-    done = try_apart(part, [f"{name}."], **{PLACE: place})
-    places.put(place)
-    return done.stdout
-
-
-def try_apart(part: str, only: Sequence[str], **settings: str) -> subprocess.CompletedProcess[str]:
-    """Tries a part in a process of its own."""
+def try_apart(part: str, only: Sequence[str], **settings: str) -> tuple[int, str]:
+    """Tries a part in a process of its own. Gives its status, and what it prints."""
     words: list[str] = [sys.executable, "-B", f"{TOP}/dev/check", part, *(["--only", *only] if only else [])]
-    return subprocess.run(words, stdout=subprocess.PIPE, stderr=subprocess.STDOUT, text=True, errors="replace",
-                          env={**os.environ, **settings}, check=False)
+    ran = subprocess.run(words, stdout=subprocess.PIPE, stderr=subprocess.STDOUT, text=True, errors="replace",
+                         env={**os.environ, **settings}, check=False)
+    return ran.returncode, ran.stdout.strip()
 
 
 def add(tally: Tally, name: str, said: str) -> None:
-    """Adds what a process has counted that printed this, and prints what is worth a look."""
-    *lines, last = said.splitlines() or [""]
+    """Adds what a process has counted that said this, which is printed unless all passed."""
+    others, _, last = said.rpartition("\n")
     counts = COUNTS.fullmatch(last)
     if counts is None:
-        tally.count(name, said.strip() or "it says nothing")
+        tally.count(name, said or "it says nothing")
         return
-    for line in lines:
-        if counts[2] != "0" or not QUIET.fullmatch(line):
-            print(line, flush=True)
-    tally.add(*(int(it or 0) for it in counts.groups()))
+    passed, failed, skipped = (int(it or 0) for it in counts.groups())
+    if failed or skipped:
+        print(others, flush=True)
+    tally.add(passed, failed, skipped)

@@ -7,6 +7,7 @@ import sys
 import tempfile
 import unittest
 from importlib.machinery import SourceFileLoader
+from pathlib import Path
 from types import ModuleType
 from unittest import mock
 
@@ -28,11 +29,10 @@ class RoomTest(unittest.TestCase):
 
     def file(self, name: str, text: str) -> str:
         """Writes a file, also in folders that are not there yet, and returns its path."""
-        path = self.path(name)
-        os.makedirs(os.path.dirname(path), exist_ok=True)
-        with open(path, "w", encoding="utf-8") as file:
-            file.write(text)
-        return path
+        path = Path(self.room, name)
+        path.parent.mkdir(parents=True, exist_ok=True)
+        path.write_text(text, "utf-8")
+        return str(path)
 
 
 def tool(name: str) -> list[str]:

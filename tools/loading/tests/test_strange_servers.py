@@ -4,8 +4,13 @@ import socket
 import threading
 import unittest
 
-from checking.testing import RoomTest, call_tool
-from loading.tests.support import load
+from checking.testing import RoomTest, call_tool, run_tool
+
+
+def load(*words: object) -> tuple[int, list[str], str]:
+    """Runs the tool: its status, the lines that it prints, and standard error."""
+    run = run_tool("load", *words)
+    return run.returncode, run.stdout.splitlines(), run.stderr
 
 
 class StrangeServerTest(RoomTest):
@@ -30,7 +35,8 @@ class StrangeServerTest(RoomTest):
         with socket.create_server(("127.0.0.1", 0)) as it:
             port = it.getsockname()[1]
         status, lines, errors = load("--port", port, "--seconds", 1)
-        self.assertEqual((status, lines, errors), (1, [], f"load: nobody listens at 127.0.0.1:{port}\n"))
+        told = f"load: no connection to 127.0.0.1:{port}: [Errno 111] Connection refused\n"
+        self.assertEqual((status, lines, errors), (1, [], told))
 
     def test_servers_that_are_no_broker(self):
         for answer, told in [

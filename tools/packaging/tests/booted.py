@@ -1,7 +1,6 @@
 """The units under systemd itself: a service is started, stopped and removed while clients stay, or leave first."""
 import re
 import shutil
-import time
 from contextlib import contextmanager
 from typing import Iterator
 
@@ -10,15 +9,6 @@ from packaging.tests.machine import Machine, reason_not_to_boot
 from packaging.tests.running import DONE, Told, expect
 from serving.server import free_port
 from serving.session import Session
-
-# A client with a unit of its own, which leaves ten seconds after it is stopped.
-CLIENT = """[Unit]
-{after}
-[Service]
-ExecStart=/usr/bin/python3 -c "import signal, threading; from rb_broker_client import Worker; \
-worker = Worker(print, {port}); \
-signal.signal(signal.SIGTERM, lambda *_: threading.Timer(10, worker.stop).start()); worker.run()"
-"""
 
 # Fewer sessions than by default, since each end uses up those that are left.
 OPTIONS = 'RB_BROKER_OPTIONS="--sessions 200 --stop-within 1s {}"\n'
@@ -42,7 +32,7 @@ def try_units(tally: Tally, package: str, folder: str) -> None:
         machine.run("systemctl", "daemon-reload")
         expect(tally, "the package in a machine", told.status == 0, told)
         service = Service(tally, machine, free_port())
-        for trial in (try_start, try_cuts, try_kills, try_order, try_removal):
+        for trial in (try_start, try_cuts, try_removal):
             trial(service)
 
 
@@ -65,45 +55,21 @@ class Service:
         yield self.machine.run("systemctl", "start", self.name)
         self.stop()
 
-    def stop(self, *others: str) -> Told:
-        """Stops it, and others with it."""
-        return self.machine.run("systemctl", "stop", *others, self.name)
+    def stop(self) -> Told:
+        return self.machine.run("systemctl", "stop", self.name)
 
-    def asked(self, *requests: str) -> list[str]:
-        """The replies to a client that leaves in good order."""
+    def size(self) -> str:
+        """The reply to a client that asks for the size, and leaves in good order."""
         with Session(self.port) as it:
-            return [it.ask(request) for request in (*requests, "QUIT")][:-1]
-
-    def has_client(self) -> bool:
-        """Waits until a client is served, beside the service's own session. Gives whether one is."""
-        sockets = ("ss", "-Htnp", f"src 127.0.0.1:{self.port}")
-        return any(self.machine.run(*sockets).said.count("users:") > 1 for _ in looks())
+            reply = it.ask("SIZE")
+            it.quit()
+            return reply
 
     def journal(self) -> str:
         """What its journal has got since this was asked before."""
         self.machine.run("journalctl", "--sync")
         heard, self._heard = self._heard, self.machine.run("journalctl", "--output=cat", "-u", self.name).said
         return self._heard[len(heard):]
-
-    def journal_until_served(self) -> str:
-        """The same, once it says that a server serves, or when that takes too long."""
-        heard = ""
-        for _ in looks():
-            heard += self.journal()
-            if " event=serving " in heard:
-                break
-        return heard
-
-    def show(self, name: str) -> str:
-        """What systemd knows of it."""
-        return self.machine.run("systemctl", "show", "--value", "--property", name, self.name).said.strip()
-
-
-def looks() -> Iterator[None]:
-    """The times at which something that takes a while is looked for."""
-    for _ in range(300):
-        yield
-        time.sleep(0.1)
 
 
 def cuts_in(journal: str) -> int:
@@ -114,10 +80,9 @@ def cuts_in(journal: str) -> int:
 def try_start(service: Service) -> None:
     """It counts as started when clients are served, and its state is a line."""
     with service.running() as told:
-        replies, line = service.asked("SIZE"), service.show("StatusText")
+        reply = service.size()
         shown = service.machine.run("systemctl", "status", "--no-pager", service.name)
-        is_right = told == DONE and replies == ["SIZE 0"] and line.startswith("serving, run 1")
-        service.expect("systemctl start", is_right, told, replies, line, service.journal())
+        service.expect("systemctl start", told == DONE and reply == "SIZE 0", told, reply, service.journal())
         service.expect("systemctl status", 'Status: "serving, run 1' in shown.said, shown)
 
 
@@ -137,45 +102,11 @@ def try_cuts(service: Service) -> None:
         is_right = told == DONE and is_cut and cuts_in(journal) == 1 and " left=1 cut=1" in journal
         service.expect("systemctl stop with an open session", is_right, told, is_cut, replies, journal)
     with service.running():
-        replies = service.asked("SIZE")
-        service.expect("systemctl start behind it", replies == ["SIZE 1"], replies)
+        reply = service.size()
+        service.expect("systemctl start behind it", reply == "SIZE 1", reply)
         told, journal = service.stop(), service.journal()
         is_right = told == DONE and not cuts_in(journal) and " event=lost-run " not in journal
         service.expect("systemctl stop with none", is_right, told, journal)
-
-
-def try_kills(service: Service) -> None:
-    """If the service is killed, its server goes on, and so does a session. If the server is killed, that is said."""
-    with service.running():
-        with Session(service.port) as it:
-            it.ask("OFFER 3600000000000 kept")
-            service.journal()
-            service.machine.run("kill", "-KILL", service.show("MainPID"))
-            journal = service.journal_until_served()
-            reply = it.ask("SIZE")
-            it.ask("QUIT")
-        # The service's own element may be there, too.
-        is_right = reply in ("SIZE 2", "SIZE 3") and 'how="go on"' in journal and " event=lost-run " not in journal
-        service.expect("a service that is killed under systemd", is_right, reply, journal)
-        server = re.findall(r" event=serving .* process=(\d+)", journal)[-1:]
-        service.machine.run("kill", "-KILL", *server)
-        journal = service.journal_until_served()
-        replies = service.asked("SIZE")
-        is_right = replies == ["SIZE 1"] and journal.count(" event=lost-run ") == 1
-        service.expect("a server that is killed under systemd", is_right, replies, server, journal)
-
-
-def try_order(service: Service) -> None:
-    """A client whose unit has After= is stopped first, so nothing is cut, though it takes its time; else it is cut."""
-    for after in (f"After={service.name}", ""):
-        service.machine.write("/run/units/client.service", CLIENT.format(after=after, port=service.port))
-        service.machine.run("systemctl", "daemon-reload")
-        with service.running():
-            service.machine.run("systemctl", "start", "client.service")
-            is_there = service.has_client()
-            told, journal = service.stop("client.service"), service.journal()
-            is_right = is_there and told.status == 0 and bool(cuts_in(journal)) == (not after)
-            service.expect(f"a client's unit with {after or 'no After='}", is_right, told, journal)
 
 
 def try_removal(service: Service) -> None:

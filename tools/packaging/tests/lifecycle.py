@@ -2,33 +2,69 @@
 import filecmp
 import os
 import shutil
+import tempfile
 from pathlib import Path
 
 from checking.tally import Tally
-from common.program import TOP
+from common.program import TOP, tested_program
 from packaging import Fault
 from packaging.tests.booted import try_units
-from packaging.tests.completions import check_completions
 from packaging.tests.installed import try_installed
-from packaging.tests.options import Option, check_layout
+from packaging.tests.options import check_help, check_layout, check_page, check_ranges
 from packaging.tests.running import DONE, Told, expect, run
 from packaging.tests.service import try_dates, try_service
-from packaging.tests.unit import check_by_systemd
+from packaging.tests.unit import check_by_systemd, check_unit
+from serving.server import NoServer
+
+# What tools can't work with, each with what they say.
+REFUSED = (
+    ("is no file", "package", "--program", "none"),
+    ("is no ELF program", "package", "--program", f"{TOP}/README.md"),
+    ("is no folder", "package", "--program", "{program}", "--output", "none"),
+    # The times of a service need a unit, and its numbers have ranges.
+    ("'30' is no time", "service", "--delay", "30"),
+    ("'30000000000' is no time", "service", "--delay", "30000000000"),
+    ("not allowed with", "service", "--delay", "1s", "--rate", "1s"),
+    ("0 is not from 1 to 65535", "service", "--port", "0"),
+    ("17 is not from 1 to 16", "service", "--workers", "17"),
+    ("2h is not from 1s to 1h", "service", "--stop-within", "2h"),
+    ("2d is not from 1s to 1d", "service", "--silent", "2d"),
+    ("0s is not from 1s to 30d", "service", "--every", "0s"),
+    ("unrecognized arguments: --history", "service", "--history", "x"),
+    ("no address", "service", "--http", "here"),
+)
 
 
-def try_package(tally: Tally, program: str, options: dict[str, Option], folder: str) -> None:
-    """Makes, installs, uses and removes the package, all below an empty folder."""
-    root = f"{folder}/root"
-    package = made(tally, program, folder)
-    install(tally, package, root)
-    check_layout(tally, f"{root}/usr/share/man/man1/rb_broker.1.gz")
-    check_by_systemd(tally, root, folder)
-    check_completions(tally, root, f"{folder}/files", options)
-    try_service(tally, root, f"{folder}/state")
-    try_dates(tally, root, f"{folder}/dates")
-    try_installed(tally, root, folder)
-    remove(tally, root)
-    try_units(tally, package, f"{folder}/machine")
+def check(tally: Tally) -> None:
+    """Tries everything, in a temporary folder."""
+    program = tested_program()
+    try:
+        options = check_page(tally)
+        check_help(tally, program, options)
+        check_ranges(tally, program, options)
+        check_unit(tally)
+        with tempfile.TemporaryDirectory(prefix="rb-package-") as folder:
+            check_refusals(tally, program, folder)
+            root, package = f"{folder}/root", made(tally, program, folder)
+            install(tally, package, root)
+            check_layout(tally, f"{root}/usr/share/man/man1/rb_broker.1.gz")
+            check_by_systemd(tally, root, folder)
+            try_service(tally, root, f"{folder}/state")
+            try_dates(tally, root, f"{folder}/dates")
+            try_installed(tally, root, folder)
+            remove(tally, root)
+            try_units(tally, package, f"{folder}/machine")
+    except (Fault, NoServer) as fault:
+        tally.count("the package", fault)
+
+
+def check_refusals(tally: Tally, program: str, folder: str) -> None:
+    """What tools can't work with gets one clear line, and leaves nothing in the empty folder."""
+    for why, tool, *words in REFUSED:
+        told = run(f"{TOP}/tools/{tool}", *(it.format(program=program) for it in words), folder=folder)
+        is_right = told.status == 2 and not told.said and why in told.errors and told.errors.count("\n") == 1
+        expect(tally, " ".join([tool, *words]), is_right, told)
+    expect(tally, "files of what was refused", not os.listdir(folder), os.listdir(folder))
 
 
 def made(tally: Tally, program: str, folder: str) -> str:

@@ -1,5 +1,4 @@
 """A systemd of its own, in namespaces over this machine's files, to run the units of a package."""
-import glob
 import os
 import re
 import shutil
@@ -52,10 +51,7 @@ class Machine:
 
     def __init__(self, folder: str) -> None:
         os.makedirs(f"{folder}/upper")
-        self.folder = folder
-        for left in glob.glob(f"{own_cgroup()}/rb_check_*"):
-            is_removed(left)  # of a check that was killed
-        self.cgroup = f"{own_cgroup()}/rb_check_{os.getpid()}"
+        self.folder, self.cgroup = folder, f"{own_cgroup()}/rb_check_{os.getpid()}"
         os.mkdir(self.cgroup)
         # Each of the three ends when the one before has ended, whatever becomes of this one.
         words = ["setpriv", "--pdeathsig", "KILL", "unshare", *NAMESPACES, "--fork", "--kill-child"]
@@ -98,6 +94,6 @@ class Machine:
         return run(*enter, "env", "-i", "PATH=/usr/sbin:/usr/bin", "LC_ALL=C.UTF-8", *words)
 
     def write(self, path: str, text: str) -> None:
-        """Writes a file of it, and makes its folder."""
-        told = self.run("sh", "-c", 'mkdir -p "$(dirname "$1")" && printf "%s" "$2" > "$1"', "sh", path, text)
+        """Writes a file of it."""
+        told = self.run("sh", "-c", 'printf "%s" "$2" > "$1"', "sh", path, text)
         assert told.status == 0, told

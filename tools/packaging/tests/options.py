@@ -2,35 +2,19 @@
 says the same."""
 import re
 from pathlib import Path
-from typing import Iterable, NamedTuple, Optional
+from typing import Iterator, NamedTuple, Optional
 
 from checking.tally import Tally
 from packaging import SOURCES
 from packaging.tests.running import expect, is_there, run
 
-# What --help says of each command, and the options that it has, in their order.
-COMMANDS = {
-    "script": ("Runs a script from standard input to standard output",
-               "--calls --timer --history --from --delay --rate --attempts"),
-    "replay": ("Checks the history in a file", "--chains --delay --rate --attempts"),
-    "serve": ("Serves clients over TCP on 127.0.0.1",
-              "--port --calls --timer --workers --sessions --turns --history --from --delay --rate --attempts"),
-}
-HELP = dict(line.split(maxsplit=1) for line in """
-    --port      the TCP port on 127.0.0.1 to listen on
-    --calls     how many calls the run has room for
-    --timer     which timer the queue uses
-    --workers   how many sessions are served at once
-    --sessions  how many sessions to serve before the server ends
-    --turns     how many turns TAKE and POLLFOR wait before they answer STOPPED
-    --history   the file to write the history of the run to
-    --from      the file with the history that this run continues
-    --delay     nanoseconds from a failure until the job comes back, 1000000000 for a second
-    --rate      nanoseconds between two attempts of a job, instead of a delay
-    --attempts  how many attempts a job has
-    --chains    checks the retries too
-""".strip().splitlines())
-
+# The options of each command, in the order of --help.
+COMMANDS = {name: options.split() for name, options in {
+    "script": "--calls --timer --history --from --delay --rate --attempts",
+    "replay": "--chains --delay --rate --attempts",
+    "serve": "--port --calls --timer --workers --sessions --turns --history --from --delay --rate --attempts",
+}.items()}
+NAMES = {name for names in COMMANDS.values() for name in names}
 ROW = re.compile(r"^ +(?:-h, )?(--[a-z-]+)(?: <([A-Z]+)>)? +(.*)$", re.M)
 OF_HELP = {"-h", "--help"}
 NOWHERE = "/nowhere/rb_broker"  # a missing file: if the words are accepted, it can't be read
@@ -94,13 +78,13 @@ def check_page(tally: Tally) -> dict[str, Option]:
     synopsis = page.partition(".SH SYNOPSIS")[2].partition("\n.SH")[0]
     uses = [it for it in synopsis.split(".SY rb_broker\n") if options_in(it)]
     told = {it.split("\n")[0].split()[-1]: options_in(it) for it in uses}
-    expect(tally, "the page's synopsis", told == {name: {*of.split()} for name, (_, of) in COMMANDS.items()}, told)
+    expect(tally, "the page's synopsis", told == {name: {*of} for name, of in COMMANDS.items()}, told)
     options = options_of(page)
-    for name in HELP:
+    for name in sorted(NAMES):
         entries = [it for it in options if it.name == name]
         is_whole = len(entries) == 1 and bool(entries[0].ends) == (entries[0].value in ("N", "P"))
         expect(tally, f"the page's {name}", is_whole, entries)
-    others = ({it.name for it in options} | options_in(page)) - {*HELP, "--option"}
+    others = ({it.name for it in options} | options_in(page)) - {*NAMES, "--option"}
     tally.count("other options of the page", ", ".join(sorted(others)))
     return {it.name: it for it in options}
 
@@ -108,29 +92,23 @@ def check_page(tally: Tally) -> dict[str, Option]:
 def check_help(tally: Tally, program: str, options: dict[str, Option]) -> None:
     """The commands are those of --help, and their options those of theirs, with the page's values and defaults."""
     told = run(program, "--help").said.partition("Commands:")[2].partition("Options:")[0]
-    found = dict(re.findall(r"^  ([a-z]+) +(.+)$", told, re.M))
-    is_right = "help" in found and {it: says for it, says in found.items() if it != "help"} == {
-        name: says for name, (says, _) in COMMANDS.items()}
-    expect(tally, "the commands of --help", is_right, found)
-    for command, names in names_by_command():
+    found = {*re.findall(r"^  ([a-z]+) +.", told, re.M)}
+    expect(tally, "the commands of --help", found == {*COMMANDS, "help"}, found)
+    for command, names in COMMANDS.items():
         told = run(program, command, "--help").said
         rows = [option_told(*it) for it in ROW.findall(told) if it[0] not in OF_HELP]
-        wanted = [(HELP[it], options[it][:4]) for it in names]
+        wanted = [options[it][:4] for it in names]
         expect(tally, f"{command} --help", rows == wanted, rows, wanted)
         needed = [f"{it} <{options[it].value}>" for it in names if options[it].is_required] + file_of(command)
         usage = " ".join([command, "[OPTIONS]", *needed])
         expect(tally, f"the usage of {command}", f" {usage}\n" in told, usage, told)
 
 
-def option_told(name: str, value: str, text: str) -> tuple[str, tuple[object, ...]]:
-    """What a line of help says of an option in words, and the rest as the page tells it."""
+def option_told(name: str, value: str, text: str) -> tuple[object, ...]:
+    """What a line of help says of an option, as the page tells it."""
     default = re.search(r" \[default: (.+?)\]", text)
     choices = re.search(r" \[possible values: (.+?)\]", text)
-    return text.split(" [")[0], (name, value, default[1] if default else "", choices[1].split(", ") if choices else [])
-
-
-def names_by_command() -> Iterable[tuple[str, list[str]]]:
-    return ((command, of.split()) for command, (_, of) in COMMANDS.items())
+    return name, value, default[1] if default else "", choices[1].split(", ") if choices else []
 
 
 def file_of(command: str) -> list[str]:
@@ -152,7 +130,7 @@ def accepts(program: str, command: str, *words: str) -> Optional[bool]:
 
 def check_ranges(tally: Tally, program: str, options: dict[str, Option]) -> None:
     """The program accepts exactly what the page says, tested at both ends of each range."""
-    for command, names in names_by_command():
+    for command, names in COMMANDS.items():
         for option in (options[it] for it in names):
             others = [f"{it}={options[it].ends[0]}" for it in names if options[it].is_required and it != option.name]
             faults = [f"{words} is {'refused' if wanted else 'accepted'}" for words, wanted in uses_of(option)
@@ -160,7 +138,7 @@ def check_ranges(tally: Tally, program: str, options: dict[str, Option]) -> None
             tally.count(f"{command} {option.name}", ", ".join(faults))
 
 
-def uses_of(option: Option) -> Iterable[tuple[list[str], bool]]:
+def uses_of(option: Option) -> Iterator[tuple[list[str], bool]]:
     """Words with the option or without it, and whether they must be accepted."""
     yield from (([f"{option.name}={it}"], True) for it in option.right)
     yield from (([f"{option.name}={it}"], False) for it in option.wrong)

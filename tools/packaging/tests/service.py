@@ -1,8 +1,7 @@
-"""Runs of an installed service, each served, stopped in good order, or killed."""
+"""Runs of an installed service."""
 import os
 import re
 import shutil
-import signal
 import time
 from contextlib import contextmanager
 from datetime import datetime, timezone
@@ -44,26 +43,17 @@ def talk(port: int, *requests: str) -> str:
 
 
 def try_service(tally: Tally, root: str, folder: str) -> None:
-    """Runs of one service: a good stop, a run that continues it and whose server is killed, and one behind that."""
+    """Two runs of one service, of which the second continues the first."""
     os.makedirs(folder)
-    with serving(root, folder, *FEW) as service:
-        replies = talk(service.port, "OFFER 0 a", "TAKE", "OFFER 0 b", "QUIT")
-        is_right = re.fullmatch(r"OFFERED \d+ \d+\nITEM \d+ \d+ 1 a\nOFFERED \d+ \d+\nBYE\n", replies) is not None
-        expect(tally, "a client of the installed program", is_right, replies)
-        status = service.stop()
-        expect(tally, "the stop", status == 0 and " left=2" in "\n".join(service.lines), status, service.lines)
-    with serving(root, folder, *FEW) as service:
-        replies = talk(service.port, "SIZE", "POLL", "QUIT")
-        is_right = re.fullmatch(r"SIZE 2\nITEM \d+ \d+ 1 b\nBYE\n", replies) is not None
-        expect(tally, "a run that goes on", is_right, replies)
-        os.kill(service.server, signal.SIGKILL)
-        until = time.monotonic() + 10
-        while replies != "SIZE 2\nBYE\n" and time.monotonic() < until:
-            time.sleep(0.1)
-            replies = talk(service.port, "SIZE", "QUIT")
-        expect(tally, "a run behind a killed one", replies == "SIZE 2\nBYE\n", replies)
-        service.stop()
-        expect(tally, "what is said of the loss", len(service.all("lost-run")) == 1, service.lines)
+    for requests, form in (
+        (("OFFER 0 a", "TAKE", "OFFER 0 b"), r"OFFERED \d+ \d+\nITEM \d+ \d+ 1 a\nOFFERED \d+ \d+\nBYE\n"),
+        (("SIZE", "POLL"), r"SIZE 2\nITEM \d+ \d+ 1 b\nBYE\n"),
+    ):
+        with serving(root, folder, *FEW) as service:
+            replies = talk(service.port, *requests, "QUIT")
+            expect(tally, f"{requests} to the service", re.fullmatch(form, replies) is not None, replies)
+            status = service.stop()
+            expect(tally, "the stop", status == 0 and " left=2" in "\n".join(service.lines), status, service.lines)
 
 
 def try_dates(tally: Tally, root: str, folder: str) -> None:

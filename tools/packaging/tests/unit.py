@@ -9,14 +9,19 @@ from packaging.tests.options import options_in
 from packaging.tests.running import expect, is_there, run
 
 UNIT, DEFAULTS = Path(SOURCES, "rb_broker@.service"), Path(SOURCES, "rb_broker.default")
-COMMAND = "/usr/bin/rb_broker_service --port %i --folder %S/rb_broker/%i $RB_BROKER_OPTIONS"
+# What systemd does by itself: it takes the service as started when that says so, stops or kills the service alone and
+# not its server, and starts it again.
+WORDS = {
+    "ExecStart": "/usr/bin/rb_broker_service --port %i --folder %S/rb_broker/%i $RB_BROKER_OPTIONS",
+    "Type": "notify", "KillMode": "process", "Restart": "always",
+}
 
 
 def check_unit(tally: Tally) -> None:
     """The unit and its file name options of the service, with their defaults, and set none."""
     unit, defaults = UNIT.read_text(encoding="utf-8"), DEFAULTS.read_text(encoding="utf-8")
-    starts = re.findall(r"^ExecStart=(.*)$", unit, re.M)
-    expect(tally, "the unit's command", starts == [COMMAND], starts)
+    told = {name: re.findall(rf"^{name}=(.*)$", unit, re.M) for name in WORDS}
+    expect(tally, "the unit's words", told == {name: [word] for name, word in WORDS.items()}, told)
     told = re.findall(r'^(?:Environment=)?RB_BROKER_OPTIONS="?([^"\n]*)', unit + defaults, re.M)
     expect(tally, "RB_BROKER_OPTIONS of unit and file", told == ["", ""], told)
     help = " ".join(run(f"{TOP}/tools/service", "--help").said.split())

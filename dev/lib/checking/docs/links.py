@@ -19,16 +19,12 @@ LEFT_OUT = {".git", "out", "node_modules"}
 
 def find(top: Path) -> Iterator[Optional[str]]:
     """Follows the links of all pages below a folder. The fault of one is `PAGE:LINE: TARGET leads nowhere`."""
-    for page in pages_below(top):
-        for line, target in links_of(page):
-            yield None if leads_somewhere(page, target) else f"{page.relative_to(top)}:{line}: {target} leads nowhere"
-
-
-def pages_below(top: Path) -> Iterator[Path]:
-    """The pages of a folder and of all below it."""
     for folder, folders, names in os.walk(top):
-        folders[:] = sorted(it for it in folders if it not in LEFT_OUT)
-        yield from (Path(folder, it) for it in sorted(names) if it.endswith(".md"))
+        folders[:] = sorted({*folders} - LEFT_OUT)
+        for page in (Path(folder, it) for it in sorted(names) if it.endswith(".md")):
+            for line, target in links_of(page):
+                fault = f"{page.relative_to(top)}:{line}: {target} leads nowhere"
+                yield None if leads_somewhere(page, target) else fault
 
 
 def links_of(page: Path) -> Iterator[tuple[int, str]]:

@@ -11,7 +11,6 @@ from pathlib import Path
 
 from checking.program import servers
 from checking.program.cases import Place, read_cases
-from checking.program.waits import waits
 from checking.tally import Tally
 from common.program import tested_program
 
@@ -21,7 +20,7 @@ def check(tally: Tally) -> None:
     with tempfile.TemporaryDirectory(prefix="rb-program-") as room:
         place = Place(tested_program(), Path(room))
         cases = [(it.part, it.name, it.compared) for it in read_cases(place.room)]
-        for part, name, compared in [*cases, *(("", it.__name__, it) for it in (*servers.CHECKS, waits))]:
+        for part, name, compared in [*cases, *(("", it.__name__, it) for it in servers.CHECKS)]:
             if not (tally.wants(part) or tally.wants(name)):
                 continue
             try:

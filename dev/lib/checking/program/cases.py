@@ -3,7 +3,7 @@ import os
 import re
 import signal
 import subprocess
-from dataclasses import dataclass, field, replace
+from dataclasses import dataclass, field
 from pathlib import Path
 from typing import Iterator, Optional
 
@@ -38,12 +38,11 @@ class Ended:
 
 
 class Place:
-    """The program, a folder for the files of its runs, and what goes on there: a server, and a client that stays."""
+    """The program, a folder for the files of its runs, and the server that runs there."""
 
     def __init__(self, program: str, room: Path) -> None:
         self.program, self.room = program, room
         self.server: Optional[Server] = None
-        self.stays: Optional[Session] = None
         self._served = (0, "")
 
     def start(self, words: str) -> Server:
@@ -55,15 +54,11 @@ class Place:
     def serve(self, served: tuple[int, str]) -> None:
         """Lets the server of this number and these words go on, or kills what there is and starts it. Number 0 is
         none."""
-        if served != self._served:
-            self.close()
-            self._served = served
-            self.server = self.start(served[1]) if served[0] else None
-
-    def close(self) -> None:
-        """Kills the server."""
+        if served == self._served:
+            return
         if self.server:
             self.server.kill()
+        self._served, self.server = served, self.start(served[1]) if served[0] else None
 
     def run(self, line: str, given: str = "") -> Ended:
         """Runs a line of the shell in the folder, in which `rb_broker` is the program, and $port the server's port, or
@@ -77,7 +72,7 @@ class Place:
             except subprocess.TimeoutExpired:
                 os.killpg(shell.pid, signal.SIGKILL)
                 return Ended(None, "", "it does not end\n")
-        return Ended(shell.returncode, text_of(output), text_of(errors))
+        return Ended(shell.returncode, *(it.decode(errors="backslashreplace") for it in (output, errors)))
 
     def visit(self, requests: str) -> Session:
         """A client of the server that has sent this in one piece."""
@@ -88,64 +83,57 @@ class Place:
 
 @dataclass
 class Case:
-    """A case of runs.txt. Its texts are named by their marks there; those that are compared are patterns."""
+    """A case of runs.txt: its texts by their marks there, of which those that are compared are patterns."""
 
     part: str
-    name: str
-    does: str = "visit"
-    line: str = ""
-    status: int = 0
+    name: str = ""
     served: tuple[int, str] = (0, "")  # the number of the server, and its words
-    leaves: tuple[str, int] = ("", 0)  # how another client leaves, and the replies that it waits for before
     texts: dict[str, str] = field(default_factory=dict)
 
     def add(self, mark: str, text: str, times: int = 1) -> None:
-        """Adds lines to the text of a mark."""
+        """Adds what a line tells. Texts of several lines are those that a run is given and those that are compared."""
         match mark:
+            case "end":
+                self.texts = {mark: ""}
+                return
+            case "status" | "hang-up" | "reset":
+                self.texts[mark] = text
+                return
             case "<.." | "!..":
                 line = "(?s:.*)" if mark[0] == "<" else "(?s:.+)"
-            case "<" | "!":
-                line = re.escape(f"{text}\n")
+            case "<" | "!" | "audit":
+                line = re.escape(f"{audit(text) if mark == 'audit' else text}\n")
             case _:
                 line = text if mark == ">~" else f"{text}\n"
-        kept = "<" if mark == "?" else mark[0]
+        kept = {"?": "<", "audit": "<", "run": "run"}.get(mark, mark[0])
         self.texts[kept] = self.texts.get(kept, "") + times * line
 
     def compared(self, place: Place) -> Faults:
         """What is compared, as parts that are functions give it."""
+        told = self.texts
         place.serve(self.served)
-        if self.leaves[0]:
-            self.send_other(place)
-        match self.does:
-            case "run":
-                ended = place.run(self.line, self.texts.get(">", ""))
-            case "end":
-                ended = end_of(place.server)
-            case "hear":
-                ended = rest_of(place.stays)
-            case _:
-                ended = rest_of(place.visit(self.texts.get(">", "")))
-        yield self.name, ended.fault(self.status, self.texts.get("<", ""), self.texts.get("!", ""))
-
-    def send_other(self, place: Place) -> None:
-        """Lets another client send its lines, wait for replies, and leave, unless it stays."""
-        (how, count), client = self.leaves, place.visit(self.texts["o"])
-        for _ in range(count):
-            client.replies.readline()
-        match how:
-            case "hang-up":
-                client.hang_up()
-            case "reset":
-                client.reset()
-            case "stay":
-                place.stays = client
+        for how, leave in (("hang-up", Session.hang_up), ("reset", Session.reset)):
+            if how in told:
+                other = place.visit(told["o"])
+                for _ in range(int(told[how])):
+                    other.line()
+                leave(other)
+        given = told.get(">", "")
+        if "run" in told:
+            ended = place.run(told["run"], given)
+        elif "end" in told:
+            ended = end_of(place.server)
+        else:
+            with place.visit(given) as client:
+                ended = Ended(0, client.rest().decode())
+        yield self.name, ended.fault(int(told.get("status", 0)), told.get("<", ""), told.get("!", ""))
 
 
 def read_cases(room: Path) -> list[Case]:
     """The cases of runs.txt, whose files are written into a folder."""
     cases: list[Case] = []
-    part, served, file = Case("", ""), (0, ""), room
-    it = part
+    it = part = Case("")
+    served, file = (0, ""), room
     for mark, times, text in marked(RUNS):
         match mark:
             case "file":
@@ -154,22 +142,12 @@ def read_cases(room: Path) -> list[Case]:
                 with file.open("a", encoding="utf-8") as written:
                     written.write(f"{text}\n")
             case "part":
-                it = part = Case(text, "")
+                it = part = Case(text)
             case "serve":
                 served = (served[0] + 1, text)
             case "case":
-                it = replace(part, name=text, served=served, texts={**part.texts})
+                it = Case(part.part, text, served, {**part.texts})
                 cases.append(it)
-            case "run":
-                it.does, it.line = mark, f"{it.line}{text}\n"
-            case "end" | "hear":
-                it.does, it.texts = mark, {}
-            case "hang-up" | "reset" | "stay":
-                it.leaves = (mark, int(text))
-            case "status":
-                it.status = int(text)
-            case "audit":
-                it.add("<", audit(text))
             case _:
                 it.add(mark, text, times)
     return cases
@@ -185,14 +163,3 @@ def end_of(server: Server) -> Ended:
     """Waits for a server's end. What it wrote begins behind the line that says where it listens."""
     status, told, errors = server.end()
     return Ended(status, "".join(f"{it}\n" for it in told), errors)
-
-
-def rest_of(client: Session) -> Ended:
-    """What a client is replied to its end."""
-    with client:
-        return Ended(0, client.rest().decode())
-
-
-def text_of(written: bytes) -> str:
-    """What a run wrote, whatever bytes they are."""
-    return written.decode("utf-8", errors="backslashreplace")

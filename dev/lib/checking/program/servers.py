@@ -1,7 +1,13 @@
-"""Servers whose clients wait for each reply: how many they serve at once, when failed jobs come back, their clock, and
-when their histories and last lines are there."""
+"""Servers whose clients wait for each reply: how many they serve at once, how long their calls wait, when failed jobs
+come back, their clock, and when their histories and last lines are there.
+
+A turn of a wait takes 20 ms, unless something ends it sooner. A busy machine makes waits longer, and none shorter. So
+what has to be quick is tried again until it once is, and that it was shows that no turn passed meanwhile.
+"""
 import contextlib
+import math
 import select
+import statistics
 import time
 from typing import Iterator, Optional
 
@@ -11,6 +17,8 @@ from serving.session import Session
 
 SECOND, MILLISECOND = 10**9, 10**6  # in nanoseconds, as the server counts
 FAR = 10**6 * SECOND  # a delay after which nobody takes any more
+TURN = 0.02  # seconds
+TRYING = 60  # seconds after which what has to be quick is not tried again
 
 
 @contextlib.contextmanager
@@ -69,18 +77,15 @@ def failing_with_a_delay(place: Place) -> Faults:
 
 def clock(place: Place) -> Faults:
     """The moment advances with the machine's clock, from the last one of the history before."""
-    last, fault = 5000 * SECOND, None
+    last = 5000 * SECOND
     (place.room / "long").write_text(f"history 3\nopen 0 {last} 0\nend 0\n", "ascii")
     began = time.monotonic_ns()
     with clients_of(place, "--from {room}/long") as [client]:
         before, first = time.monotonic_ns(), moment(client)
         time.sleep(0.3)
         second, after = moment(client), time.monotonic_ns()
-    if not 0 <= first - last <= after - began:
-        fault = f"the first moment is {first}, behind {last} and at most {after - began} more"
-    elif not 0.3 * SECOND <= second - first <= after - before:
-        fault = f"{second - first} from the one moment to the next, in at most {after - before}"
-    yield "the moments of a server", fault
+    is_right = 0 <= first - last <= after - began and 0.3 * SECOND <= second - first <= after - before
+    yield "the moments of a server", None if is_right else f"behind {last}: {first}, {second}, in {after - began}"
 
 
 def moment(client: Session) -> int:
@@ -119,4 +124,62 @@ def last_line_of(place: Place, history: str) -> list[str]:
     return (place.room / history).read_text("ascii").splitlines()[-1:]
 
 
-CHECKS = (workers, failing_with_a_delay, clock, history_before_the_last_lines, history_without_the_last_lines)
+def time_of_take(client: Session) -> float:
+    """After how many seconds a take in an empty queue is given up."""
+    before = time.monotonic()
+    told = client.ask("TAKE")
+    if told != "STOPPED":
+        raise AssertionError(f"{told}, not STOPPED")
+    return time.monotonic() - before
+
+
+def lateness_of_reply(client: Session) -> float:
+    """How many seconds the reply to a request takes more than the take behind it waits for in vain, which came in the
+    same piece."""
+    began = time.monotonic()
+    client.send("SIZE", "TAKE")
+    client.reply()
+    first = time.monotonic()
+    client.reply()
+    return (first - began) - (time.monotonic() - first)
+
+
+def time_after_offer(taker: Session, giver: Session) -> float:
+    """How many seconds after an offer the take is answered that waits for it, and not when its turn is over: of fifty,
+    the one in the middle. It is no number of seconds if the take may have found the offer when a turn was over."""
+
+    def once() -> float:
+        asked = time.monotonic()
+        taker.send("TAKE")
+        time.sleep(TURN / 2)  # so that it waits
+        offered = time.monotonic()
+        giver.send("OFFER 0 job")
+        job = taker.line().split(" ")[1]
+        answered = time.monotonic()
+        giver.reply()
+        taker.ask(f"DONE {job}")
+        return answered - offered if answered - asked < TURN else math.inf
+
+    return statistics.median(once() for _ in range(50))
+
+
+# The name of each wait, the server's words, what so many clients measure, and how many seconds that once takes at most.
+WAITS = (
+    ("a wait of no turn", "--turns 0", time_of_take, 1, 0.01),
+    ("a wait of three turns", "--turns 3", time_of_take, 1, 0.2),
+    ("a reply before a wait", "--turns 20", lateness_of_reply, 1, 0.0),
+    ("a take that waits for an offer", "--workers 2", time_after_offer, 2, 0.005),
+)
+
+
+def waits(place: Place) -> Faults:
+    """Measures each until it is quick."""
+    for name, words, measure, count, most in WAITS:
+        found, ends = math.inf, time.monotonic() + TRYING
+        with clients_of(place, words, count) as clients:
+            while found > most and time.monotonic() < ends:
+                found = min(found, measure(*clients))
+        yield name, f"it takes {found} seconds, and {most} at most are right" if found > most else None
+
+
+CHECKS = (workers, failing_with_a_delay, clock, history_before_the_last_lines, history_without_the_last_lines, waits)

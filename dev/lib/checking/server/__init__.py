@@ -12,7 +12,7 @@ import json
 import os
 import subprocess
 import tempfile
-from typing import Any, Iterator
+from typing import Iterator
 
 from checking.server.clients import Client, early
 from checking.tally import Tally
@@ -48,35 +48,27 @@ def check_end(tally: Tally, server: Server, clients: list[Client], history: str)
 
 
 def check_records(tally: Tally, record: list[str], history: str) -> None:
-    """What the clients saw, by the lines of a record of all."""
+    """What the clients saw, by the lines of a record of all, and what became of elements and jobs. That none left twice
+    or early is tested as the history is read."""
     with tempfile.NamedTemporaryFile("w", encoding="ascii") as file:
         file.writelines(f"{line}\n" for line in record)
         file.flush()
         verdict = run_tool("verify", history, file.name, "--all")
     tally.count("the records of the clients", f"{verdict.stdout}{verdict.stderr}" if verdict.returncode else None)
     asked = [json.loads(it) for it in record]
-    refused = {it for it in first_lines(asked) if it.startswith("ERR ")} - REFUSALS
-    tally.count("refusals", ", ".join(sorted(refused)))
+    replies = [it["reply"][0] for it in asked if it["reply"]]
+    tally.count("refusals", ", ".join(sorted({it for it in replies if it.startswith("ERR ")} - REFUSALS)))
     tally.count("the machine's clock", "\n    ".join(early(asked)))
-    check_jobs(tally, {int(it[5:]) for it in first_lines(asked) if it.startswith("DONE ")}, history)
-
-
-def first_lines(asked: list[dict[str, Any]]) -> Iterator[str]:
-    """The first lines of all replies."""
-    return (it["reply"][0] for it in asked if it["reply"])
-
-
-def check_jobs(tally: Tally, done: set[int], path: str) -> None:
-    """What became of elements and jobs. That none left twice or early is tested as the history is read."""
     try:
-        with open(path, "rb") as file:
-            history = read_history(file)
+        with open(history, "rb") as file:
+            found = read_history(file)
     except (Damaged, OSError) as fault:
         tally.count("the history", fault)
         return
-    seats = {*history.events.seats}
+    seats = {*found.events.seats}
     tally.count("seats", f"{sorted(seats)} of {WORKERS} workers" if len(seats) > WORKERS else None)
-    tally.count("jobs", "\n    ".join(jobs_that_differ(history, done)))
+    done = {int(it[5:]) for it in replies if it.startswith("DONE ")}
+    tally.count("jobs", "\n    ".join(jobs_that_differ(found, done)))
 
 
 def jobs_that_differ(history: History, done: set[int]) -> Iterator[str]:

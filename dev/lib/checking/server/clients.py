@@ -9,8 +9,8 @@ from serving.recorded import RecordedSession
 # A client's first request removes the element of this id and its own number. There is none, so nothing changes,
 # but the history tells by that event where the client's own begin.
 FIRST_MARK = 2**63
-# What clients do after their mark, step by step: a step is a method of Client, perhaps with requests, which may be
-# meant several times. Each ends its session in its own way.
+# What clients do after their mark, step by step: a step is a method of Client or of its session, perhaps with requests,
+# which may be meant several times. Each ends its session in its own way.
 SCRIPTS = {
     "gives": "5-19 times ask any; quit",
     "gives_in_batches": "4 times ask any*1-32; end_input",
@@ -57,8 +57,9 @@ class Client:
             for step in SCRIPTS[self.does].split("; "):
                 times, _, done = step.rpartition(" times ")
                 word, _, told = done.partition(" ")
+                does = getattr(self, word, None) or getattr(self.session, word)
                 for _ in range(self.some(times)):
-                    getattr(self, word)(*self.requests(told))
+                    does(*self.requests(told))
             return ""
         except Exception as fault:  # whatever it is, it is told
             self.is_heard = False
@@ -157,10 +158,6 @@ class Client:
         self.await_replies(*noise.decode("latin-1").split("\n"))
         self.session.socket.sendall(noise)
 
-    def fill(self) -> None:
-        """Sends until the server stops reading, because nobody reads what the server writes."""
-        self.session.fill()
-
     def nap(self, most: str) -> None:
         time.sleep(self.rng.random() * float(most))
 
@@ -177,9 +174,6 @@ class Client:
     def expect_end(self) -> None:
         if rest := self.session.rest():
             raise AssertionError(f"bytes behind the last reply: {rest[:100]!r}")
-        self.hang_up()
-
-    def hang_up(self) -> None:
         self.session.hang_up()
 
     def reset(self) -> None:

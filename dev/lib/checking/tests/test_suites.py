@@ -25,61 +25,42 @@ import leaving
 from checking import suites
 from checking.tally import Tally
 
-def run_long(*_):
+def run_long(*_, **__):
     subprocess.run(["sh", "-c", "sleep 600 & echo $! > $0; wait", {noted!r}])
-    return ""
 
 class Long(unittest.TestCase):
     runTest = run_long
 
-class Elsewhere(unittest.TestCase):
-    def runTest(self):
-        raise AssertionError("it runs in another process")
-
-try:
-    with leaving.leaving_nothing():
-        {tries}
-except leaving.Interrupted as interrupted:
-    sys.exit(interrupted.status)
+suites.try_apart = run_long
+sys.exit(leaving.status_of("tried", lambda _: {tries}))
 """
-Test = unittest.TestCase
 
 
-def kind(name: str, run: Callable[[Test], object], **more: object) -> Test:
-    """A test of a class of its own, which the tests below run."""
-    return type(name, (Test,), {"__module__": __name__, "runTest": run, **more})()
-
-
-def fails(fault: BaseException) -> Callable[[object], object]:
-    def run(_self: object) -> None:
+def fails(fault: BaseException) -> Callable[..., None]:
+    def run(*_: object) -> None:
         raise fault
 
     return run
 
 
-def two_of_three(test: Test) -> None:
+def two_of_three(test: unittest.TestCase) -> None:
     for part in range(3):
         with test.subTest(part=part):
             test.assertEqual(part, 1)
 
 
-RIGHT = kind("Right", lambda test: None)
-GONE = fails(OSError("a disk is gone"))
-NO_MOON, NO_SUN = (fails(unittest.SkipTest(f"there is no {it}")) for it in ("moon", "sun"))
-# Tests, with the count that is printed of them, and a line before it.
+PASSES = {"runTest": lambda test: None}
+GONE, NO_MOON = fails(OSError("a disk is gone")), fails(unittest.SkipTest("there is no moon"))
+# What the classes have of which one test is run beside one that passes, with the count that is printed of both, and a
+# line before it.
 COUNTED = (
-    ([], "0 passed, 0 failed", ""),
-    ([RIGHT, RIGHT], "2 passed, 0 failed", "OK"),
-    ([RIGHT, kind("WrongTwice", two_of_three)], "1 passed, 1 failed", "AssertionError: 2 != 1"),
-    ([RIGHT, kind("Broken", GONE)], "1 passed, 1 failed", "OSError: a disk is gone"),
-    ([RIGHT, kind("Unexpected", unittest.expectedFailure(lambda test: None))], "1 passed, 1 failed",
-     "FAILED (unexpected successes=1)"),
-    ([RIGHT, kind("BrokenAsAWhole", lambda test: None, setUpClass=classmethod(GONE))], "1 passed, 1 failed",
-     "OSError: a disk is gone"),
-    ([RIGHT, kind("Skipped", NO_MOON)], "1 passed, 0 failed, 1 skipped",
-     f"{__name__}.Skipped.runTest: skipped: there is no moon"),
-    ([RIGHT, kind("SkippedAsAWhole", GONE, setUpClass=classmethod(NO_SUN))], "1 passed, 0 failed, 1 skipped",
-     f"setUpClass ({__name__}.SkippedAsAWhole): skipped: there is no sun"),
+    (PASSES, "2 passed, 0 failed", "OK"),
+    ({"runTest": two_of_three}, "1 passed, 1 failed", "AssertionError: 2 != 1"),
+    ({"runTest": GONE}, "1 passed, 1 failed", "OSError: a disk is gone"),
+    ({**PASSES, "setUpClass": GONE}, "1 passed, 1 failed", "OSError: a disk is gone"),
+    ({"runTest": NO_MOON}, "1 passed, 0 failed, 1 skipped", "tests.It.runTest: skipped: there is no moon"),
+    ({"runTest": GONE, "setUpClass": NO_MOON}, "1 passed, 0 failed, 1 skipped",
+     "setUpClass (tests.It): skipped: there is no moon"),
 )
 
 
@@ -109,56 +90,53 @@ class CountTest(unittest.TestCase):
         self.assertEqual([some.wants(it) for it in ("hostile_day", "units", "queues")], [True, True, False])
 
     def test_each_kind_of_test_is_counted_once(self) -> None:
-        for tests, count, says in COUNTED:
-            with self.subTest(tests=tests):
+        for kind, count, says in COUNTED:
+            with self.subTest(count=count, says=says):
+                tests = [type("It", (unittest.TestCase,), {"__module__": "tests", **it})() for it in (PASSES, kind)]
                 passes, lines = counted(lambda tally: try_tests(tally, unittest.TestSuite(tests)))
-                self.assertEqual((passes, lines[-1]), (bool(tests) and "0 failed" in count, count))
-                self.assertTrue(not says or says in lines, lines)
-
-    def test_the_tests_of_a_folder(self) -> None:
-        some = tests_below(TESTS, TOOLS, ["test_words"]).countTestCases()
-        self.assertTrue(0 < some < tests_below(TESTS, TOOLS).countTestCases())
-        with self.assertRaises(ImportError):
-            tests_below(f"{TOOLS}/no_such_package/tests", TOOLS)
+                self.assertEqual((passes, lines[-1], says in lines), ("0 failed" in count, count, True), lines)
+        self.assertEqual(counted(lambda tally: try_tests(tally, unittest.TestSuite())), (False, ["0 passed, 0 failed"]))
 
     def test_what_other_processes_count(self) -> None:
         suite = tests_below(TESTS, TOOLS)
-        absent = unittest.defaultTestLoader.loadTestsFromName("common.tests.no_such_module")
-        for tests, failed in ([suite], 0), ([suite, absent], 1):
-            passes, lines = counted(lambda tally: try_side_by_side(tally, unittest.TestSuite(tests), 2), part="tools")
-            self.assertEqual((passes, lines[-1]), (not failed, f"{suite.countTestCases()} passed, {failed} failed"))
-            self.assertEqual((len(lines) > 1, "no_such_module" in "\n".join(lines)), (bool(failed), bool(failed)))
+        passed = f"{suite.countTestCases()} passed, 0 failed"
+        self.assertEqual(counted(lambda tally: try_side_by_side(tally, suite, 2), part="tools"), (True, [passed]))
 
     def test_what_another_process_said(self) -> None:
-        def tries(tally: Tally) -> None:
-            add(tally, "a", "Ran 3 tests in 0.1s\n\nOK\nb: skipped: there is no moon\n2 passed, 0 failed, 1 skipped\n")
-            add(tally, "c", "Ran 3 tests in 0.1s\nd is wrong\n1 passed, 2 failed\n")
-            add(tally, "e", "Segmentation fault\n")
-            add(tally, "f", "")
+        for said, passes, lines in (
+            ("Ran 3 tests\n\nOK\n3 passed, 0 failed", True, ["3 passed, 0 failed"]),
+            ("b: skipped: no moon\n2 passed, 0 failed, 1 skipped", True,
+             ["b: skipped: no moon", "2 passed, 0 failed, 1 skipped"]),
+            ("d is wrong\n1 passed, 2 failed", False, ["d is wrong", "1 passed, 2 failed"]),
+            ("Segmentation fault", False, ["a: Segmentation fault", "0 passed, 1 failed"]),
+            ("", False, ["a: it says nothing", "0 passed, 1 failed"]),
+        ):
+            self.assertEqual(counted(lambda tally: add(tally, "a", said)), (passes, lines))
 
-        self.assertEqual(counted(tries), (False, [
-            "b: skipped: there is no moon", "Ran 3 tests in 0.1s", "d is wrong", "e: Segmentation fault",
-            "f: it says nothing", "3 passed, 4 failed, 1 skipped",
-        ]))
 
+class RoomTests(RoomTest):
+    def test_a_module_that_cannot_be_imported(self) -> None:
+        self.file("test_broken.py", "import no_such_module\n")
+        with self.assertRaisesRegex(ImportError, "no_such_module"):
+            tests_below(self.room, self.room)
 
-class BrokenOffTest(RoomTest):
     def test_a_signal_leaves_neither_a_process_nor_a_file(self) -> None:
-        for number, tries in enumerate((
+        for tries in (
             "suites.try_tests(Tally(), unittest.TestSuite([Long()]))",
-            "suites.try_class = run_long; suites.try_side_by_side(Tally(), unittest.TestSuite([Elsewhere()]), 2)",
-        )):
+            "suites.try_side_by_side(Tally(), unittest.TestSuite([Long()]), 2)",
+        ):
             with self.subTest(tries=tries):
-                noted, rooms = Path(self.path(f"noted-{number}")), self.path(f"rooms-{number}")
-                os.mkdir(rooms)
+                noted, rooms = Path(self.file("noted", "")), self.path("rooms")
+                os.makedirs(rooms, exist_ok=True)
                 script = BROKEN_OFF.format(dev=f"{TOP}/dev", noted=str(noted), tries=tries)
-                how = {"stdout": subprocess.PIPE, "text": True, "env": {**os.environ, "TMPDIR": rooms}}
+                how = {"stdout": subprocess.PIPE, "stderr": subprocess.STDOUT, "text": True}
+                how["env"] = {**os.environ, "TMPDIR": rooms}
                 with subprocess.Popen([sys.executable, "-B", "-c", script], **how) as process:
                     until = time.monotonic() + PATIENCE
-                    while not (noted.exists() and noted.read_text()) and time.monotonic() < until:
+                    while not noted.read_text() and time.monotonic() < until:
                         time.sleep(0.05)
                     process.terminate()
                     said, _ = process.communicate(timeout=PATIENCE)
-                self.assertEqual((process.returncode, said), (128 + 15, ""))
+                self.assertEqual((process.returncode, said), (128 + 15, "tried: it was broken off\n"))
                 self.assertRaises(ProcessLookupError, os.kill, int(noted.read_text()), 0)
                 self.assertEqual(os.listdir(rooms), [])

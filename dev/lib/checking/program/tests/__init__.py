@@ -1,1 +1,1 @@
-"""The tests of dev/check program, with programs that are wrong on purpose, and with signals that break it off."""
+"""The test of dev/check program, with a program that is wrong on purpose."""
