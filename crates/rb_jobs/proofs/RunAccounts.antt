@@ -186,24 +186,24 @@ module _ {I O G C : Type 0} (terms : Terms I O G C) {T : Type 0} where
       once_named sessions made has) in (
         sessions,
         accounts begun history
-            (λ amount. jobs_of_workers amount terms.rules.policy begun history sessions.names run.visits sessions.workers)
+            (λ amount. jobs_of_workers amount terms.policy begun history sessions.names run.visits sessions.workers)
             (subst (λ o. IsLegal o history) run.opening run.holds.legal)
             (λ amount. record {
               even = omega (
                 arith,
-                (workers_told amount terms.rules.policy begun history sessions.names run.visits sessions.workers).even,
+                (workers_told amount terms.policy begun history sessions.names run.visits sessions.workers).even,
                 names_weigh (gifts_of amount) sessions.names (made_after begun [] history) once,
                 names_weigh (offers_of amount) sessions.names (made_after begun [] history) once,
               );
               few = omega (
                 arith,
-                (workers_told amount terms.rules.policy begun history sessions.names run.visits sessions.workers).few,
+                (workers_told amount terms.policy begun history sessions.names run.visits sessions.workers).few,
                 names_weigh (named_of amount) sessions.names (made_after begun [] history) once,
               );
             }),
       )
     where
-      once_named : (sessions : IsOfSessions terms.rules.policy begun report.kept.history run.visits) → (made : Made)
+      once_named : (sessions : IsOfSessions terms.policy begun report.kept.history run.visits) → (made : Made)
           → Contains (made_after begun [] report.kept.history) made → times_in made.event.seat sessions.names ≡ 1
       once_named sessions made has =
           omega (

@@ -116,6 +116,6 @@ module _ {I O G C : Type 0} (terms : Terms I O G C) where
   ServerAccounts T =
       (opening : Opening) (options : ServerRunOptions) (report : ServeReport T)
       → (run : IsServersRun terms opening options report)
-      → (sessions : IsOfSessions terms.rules.policy opening report.kept.history run.visits)
+      → (sessions : IsOfSessions terms.policy opening report.kept.history run.visits)
       × IsAccount opening report.kept.history (λ amount.
-      jobs_of_workers amount terms.rules.policy opening report.kept.history sessions.names run.visits sessions.workers)
+      jobs_of_workers amount terms.policy opening report.kept.history sessions.names run.visits sessions.workers)

@@ -56,4 +56,4 @@ module _ {I O G C : Type 0} (terms : Terms I O G C) where
   abbrev pub ServerKeepsJobs : Type 0 → Type 0
   ServerKeepsJobs T =
       (opening : Opening) (options : ServerRunOptions) (report : ServeReport T) → AreJobs (start_of opening).queue
-      → IsServersRun terms opening options report → RunKeepsJobs terms.rules.policy opening report.kept.history
+      → IsServersRun terms opening options report → RunKeepsJobs terms.policy opening report.kept.history

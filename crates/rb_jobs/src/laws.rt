@@ -4,7 +4,7 @@ ghost use Rattle.rb_jobs.specs.JobSums.{ScriptAccounts, ServerAccounts};
 ghost use Rattle.rb_jobs.specs.RunJobs.{LinesKeepJobs, ScriptKeepsJobs, ServerKeepsJobs};
 ghost use Rattle.rb_jobs.specs.SessionHands.{HandlesLines, HandlesClosing, HandlesRun};
 ghost use Rattle.rb_retry.specs.declared.policy.Policy.{Policy};
-ghost use Rattle.rb_serving.specs.Terms.{rules_of, terms_of};
+ghost use Rattle.rb_serving.specs.Terms.{terms_of};
 ghost use Rattle.rb_session.specs.declared.delivery.Delivery.{Delivery};
 
 use rb_blocking::Clock;
@@ -42,7 +42,7 @@ pub fn script_keeps_jobs<W: Write>()
 /// interleave, no job is in two places at any moment of the history that it gives back.
 pub fn server_keeps_jobs<T: Timer, D: Door, C: Clock>()
     ensures { (door : D) (clock : C) (policy : Policy) (delivery : Delivery) → ServerKeepsJobs
-        (terms_of D.Door D.Reader.Read D.Writer.Write D.Gate.Gate door (rules_of C.Clock clock policy delivery)) T }
+        (terms_of D.Door D.Reader.Read D.Writer.Write D.Gate.Gate C.Clock door clock policy delivery) T }
 {}
 
 /// Jobs in are jobs out. The jobs of a script's opening and those that its replies accept, sent or not, are done,
@@ -56,7 +56,7 @@ pub fn script_accounts<W: Write>()
 /// not send count too.
 pub fn server_accounts<T: Timer, D: Door, C: Clock>()
     ensures { (door : D) (clock : C) (policy : Policy) (delivery : Delivery) → ServerAccounts
-        (terms_of D.Door D.Reader.Read D.Writer.Write D.Gate.Gate door (rules_of C.Clock clock policy delivery)) T }
+        (terms_of D.Door D.Reader.Read D.Writer.Write D.Gate.Gate C.Clock door clock policy delivery) T }
 {}
 
 /// Of a history that keeps jobs `chains` answers `Ok`, or that memory is short. An empty opening begins with

@@ -3,6 +3,5 @@
 pub mod ServedVisits
 pub mod FoldedWorkers
 pub mod SharedRuns
-pub mod VisitEvents
 pub mod GatheredNames
 pub mod ServerEvents

@@ -19,11 +19,10 @@ use Rattle.rb_shared_desk.specs.SharedLaws.{length_own, made_by-same}
 use Rattle.rb_session.specs.Served.{Served}
 use Rattle.rb_session.proofs.RunEvents.{grows_so}
 use Rattle.rb_serving.specs.Terms.{Terms}
-use Rattle.rb_serving.specs.ServerEvents.{GathersSessions, GrowsByVisits, IsOfOne, MadeByVisit}
-use Rattle.rb_serving.specs.VisitEvents.{made_of}
-use Rattle.rb_serving.specs.Visits.{AreVisits, AreWorkers, IsWorkerOf, all_visits}
+use Rattle.rb_serving.specs.ServerEvents.{GathersSessions, GrowsByVisits, IsOfOne, MadeByVisit, made_of}
+use Rattle.rb_serving.specs.Visits.{AreVisits, AreWorkers, IsWorker, all_visits}
 use Rattle.rb_serving.proofs.GatheredNames.{contained, named_behind, of_history, of_its_seat}
-use Rattle.rb_serving.proofs.VisitEvents.{calls_by_visit}
+use Rattle.rb_serving.proofs.SharedRuns.{calls_by_visit}
 
 -- a pass that has seen no event of its name has made nothing
 pub made_none : (pass : PassState) → events_of pass.seen pass.name ≡ [] → made_of pass ≡ []
@@ -39,9 +38,11 @@ seen_all begun history one known =
 module _ {I O G C : Type 0} (terms : Terms I O G C) where
   -- the calls of a pass that served visits grow by theirs
   grows_by_visits : (worker earlier : ℕ) (old new : PassState) (visits : List (Option Served))
-      → AreVisits terms worker earlier old visits new → GrowsByVisits terms.rules.policy (made_of old) visits (made_of new)
+      → AreVisits terms worker earlier old visits new → GrowsByVisits terms.policy (made_of old) visits (made_of new)
   grows_by_visits worker earlier old new [] same = ap made_of same
-  grows_by_visits worker earlier old new (None ∷ visits) (away, are) = grows_by_visits worker (earlier + 1) old new visits are
+  grows_by_visits worker earlier old new (None ∷ visits) (between, (away, same), are) =
+      subst (λ (before : List Made). GrowsByVisits terms.policy before visits (made_of new)) (ap made_of same)
+      (grows_by_visits worker (earlier + 1) between new visits are)
   grows_by_visits worker earlier old new (Some served ∷ visits) (between, is, are) = (
     made_of between,
     (
@@ -53,21 +54,20 @@ module _ {I O G C : Type 0} (terms : Terms I O G C) where
 
   -- a worker had made no call before, and its calls are all that the history has of it
   of_worker : (room : ℕ) (begun : Opening) (history : List Event) (worker : ℕ) (own : List (Option Served)) (pass : PassState) (one : PassRecord)
-      → IsWorkerOf terms room begun worker own pass → one ≡ record_of pass → IsRecord history one
-      → GrowsByVisits terms.rules.policy [] own (made_by one.name begun history)
-  of_worker room begun history worker own pass one of_run is known =
-      let works = of_run.works in
+      → IsWorker terms room begun worker own pass → one ≡ record_of pass → IsRecord history one
+      → GrowsByVisits terms.policy [] own (made_by one.name begun history)
+  of_worker room begun history worker own pass one works is known =
       let same : made_of pass ≡ made_by one.name begun history =
-      ap (λ (opening : Opening). made_by pass.name opening pass.seen) of_run.opening
+      ap (λ (opening : Opening). made_by pass.name opening pass.seen) works.opening
       ∙ ap (λ (entry : PassRecord). made_by entry.name begun entry.seen) (sym is)
       ∙ sym (seen_all begun history one known) in
-      subst (λ (after : List Made). GrowsByVisits terms.rules.policy [] own after) same
-      (subst (λ (before : List Made). GrowsByVisits terms.rules.policy before own (made_of pass)) (made_none works.first works.unheard)
+      subst (λ (after : List Made). GrowsByVisits terms.policy [] own after) same
+      (subst (λ (before : List Made). GrowsByVisits terms.policy before own (made_of pass)) (made_none works.first works.unused.unheard)
       (grows_by_visits worker 0 works.first pass own works.served))
 
   of_workers : (room : ℕ) (begun : Opening) (history : List Event) (worker : ℕ) (visits : List (List (Option Served))) (records : List PassRecord)
       → AreWorkers terms room begun worker visits records → AreRecords history records
-      → AllZip (λ (name : ℕ) (own : List (Option Served)). GrowsByVisits terms.rules.policy [] own (made_by name begun history)) (names_of records) visits
+      → AllZip (λ (name : ℕ) (own : List (Option Served)). GrowsByVisits terms.policy [] own (made_by name begun history)) (names_of records) visits
   of_workers room begun history worker [] [] are known = tt
   of_workers room begun history worker [] (one ∷ records) are known = absurd are
   of_workers room begun history worker (own ∷ visits) [] are known = absurd are
@@ -152,6 +152,6 @@ module _ {I O G C : Type 0} (terms : Terms I O G C) {T : Type 0} where
         different = λ number. omega (arith, holds.different number);
         workers = workers;
         no_other = λ event has. contained event.seat (names_of run.records) (among event has);
-        each = λ made has. of_names terms.rules.policy begun history made (names_of run.records) run.visits workers has
+        each = λ made has. of_names terms.policy begun history made (names_of run.records) run.visits workers has
             (among made.event (of_history begun [] history made has));
       }

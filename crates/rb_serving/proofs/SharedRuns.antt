@@ -1,7 +1,9 @@
--- What a run of a session at a desk over a shared queue adds to the calls of its pass.
-use Rattle.std.proofs.Common.{◌≡◌, ℕ, List, ◌++◌, Option, Result, Ok, Err, ap, arith}
+-- What a run of a session at a desk over a shared queue, such as that of a visit, adds to the calls of its pass.
+use Rattle.std.proofs.Common.{◌≡◌, ℕ, List, ◌++◌, Option, Result, Ok, Err, sym, ap, ◌∙◌, arith}
+use Rattle.std.specs.Io.KnownBytes.{IsAtEnd}
 use Rattle.rb_queue.specs.declared.ask.Ask.{Ask}
 use Rattle.rb_queue.specs.declared.reply.Reply.{Reply}
+use Rattle.rb_lock.specs.Passes.{PassState}
 use Rattle.rb_retry.specs.Asked.{Makes, MayGet}
 use Rattle.rb_retry.specs.Made.{Made}
 use Rattle.rb_retry.specs.declared.desk_fault.DeskFault.{DeskFault}
@@ -10,11 +12,12 @@ use Rattle.rb_retry.specs.declared.policy.Policy.{Policy}
 use Rattle.rb_session.specs.Ran.{Ran}
 use Rattle.rb_session.specs.RunEvents.{MadeByRun}
 use Rattle.rb_session.specs.declared.delivery.Delivery.{Delivery}
-use Rattle.rb_session.specs.Rules.{session_rules}
+use Rattle.rb_session.specs.Rules.{HadGotBehind, session_rules}
 use Rattle.rb_session.specs.Served.{Served}
-use Rattle.rb_serving.specs.Visits.{shared_rules}
-use Rattle.rb_serving.specs.VisitEvents.{made_of}
-use Rattle.rb_session.proofs.RunEvents.{ends_of, made_by_ends}
+use Rattle.rb_serving.specs.ServerEvents.{CallsByVisit, made_of}
+use Rattle.rb_serving.specs.Terms.{Terms}
+use Rattle.rb_serving.specs.Visits.{shared_rules, visit_waits}
+use Rattle.rb_session.proofs.RunEvents.{ends_of, grows_so, made_by_ends}
 use Rattle.rb_shared_desk.specs.WaitRules.{WaitRules}
 use Rattle.rb_shared_desk.specs.SharedSteps.{SharedState, SharedSteps, SetsShared, Ends, made_through}
 use Rattle.rb_shared_desk.specs.SharedLaws.{shared_makes, shared_refuses}
@@ -72,3 +75,17 @@ module _ {C G : Type 0} where
         let desk = shared_rules waits policy in
         let run = ends_of (session_rules desk delivery HadGot) Over from to served served.ended ran in
         (made_by_ends desk whole_mine makes_whole refuses_whole stays_whole Over from to served run).0
+
+-- the desk's pass was this one, and is that one now
+of_pass : (from to old new : PassState) (made : List Made) → from ≡ old → to ≡ new → made_of to ≡ made_of from ++ made
+    → made_of new ≡ made_of old ++ made
+of_pass from to old new made begun seen grows =
+    ap made_of (sym seen) ∙ grows ∙ ap (λ (pass : PassState). made_of pass ++ made) begun
+
+module _ {I O G C : Type 0} (terms : Terms I O G C) where
+  pub calls_by_visit : CallsByVisit terms
+  calls_by_visit visit reader writer old new served ran =
+      let run = calls_by_run (visit_waits terms) terms.policy
+      (HadGotBehind terms.contents (terms.contents visit.writer)) terms.delivery
+      (IsAtEnd (terms.remaining reader.inner.now)) ran.from ran.to served ran.ran in
+      (grows_so (λ made grows. of_pass ran.from.pass ran.to.pass old new made ran.begun.pass_is ran.seen grows) run).0

@@ -9,5 +9,4 @@ pub mod Terms
 pub mod VisitCounts
 pub mod Visits
 pub mod Serving
-pub mod VisitEvents
 pub mod ServerEvents

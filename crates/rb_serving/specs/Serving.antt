@@ -11,7 +11,7 @@ use Rattle.rb_ending.specs.declared.broker_fault.BrokerFault.TheVariants as Brok
 use Rattle.rb_session.specs.Served.{Served}
 use Rattle.rb_serving.specs.Terms.{Terms}
 use Rattle.rb_serving.specs.VisitCounts.{counts_in}
-use Rattle.rb_serving.specs.Visits.{AreVisits, IsWorker, AreWorkers, counts_of, all_visits, number_of}
+use Rattle.rb_serving.specs.Visits.{IsWorker, AreWorkers, counts_of, all_visits}
 use Rattle.rb_serving.specs.declared.serve_report.ServeReport.{ServeReport}
 use Rattle.rb_serving.specs.declared.visit_counts.VisitCounts.{VisitCounts}
 
@@ -33,19 +33,12 @@ pub record IsReport {T : Type 0} (pass : PassState) (visits : VisitCounts) (repo
   pub counted : counts_in report ≡ visits
 
 module _ {I O G C : Type 0} (terms : Terms I O G C) where
-  -- what a worker's pass did that served visits until the door had no more, and their counts
-  pub record WorksOff (worker : ℕ) (old new : PassState) (counts : VisitCounts) : Type 0 where
-    pub visits : List (Option Served)
-    pub served : AreVisits terms worker 0 old visits new
-    pub no_more : terms.has_no_more (number_of worker (length visits))
-    pub counted : counts ≡ counts_of visits
-
   -- what a worker's thread gives: a pass with nothing folded into it, and the counts of the visits that it
   -- served
-  pub record IsWorkerResult (worker : ℕ) (pass : PassState) (counts : VisitCounts) : Type 0 where
+  pub record IsWorkerResult (room : ℕ) (begun : Opening) (worker : ℕ) (pass : PassState) (counts : VisitCounts) : Type 0 where
     pub alone : pass.folded ≡ []
     pub visits : List (Option Served)
-    pub works : IsWorker terms worker visits pass
+    pub works : IsWorker terms room begun worker visits pass
     pub counted : counts ≡ counts_of visits
 
   -- The passes of this many workers were folded into the pass, which made no call itself. These are the counts of

@@ -12,21 +12,10 @@ use Rattle.rb_serving.specs.declared.service.Service.{Service}
 use Rattle.rb_serving.specs.declared.visit.Visit.{Visit}
 use Rattle.rb_serving.specs.declared.visit_number.VisitNumber.{VisitNumber}
 
--- What all sessions have in common: the clock that they read and what it may read, when a failed job is offered
--- again, and when replies are written.
-pub record Rules (C : Type 0) : Type 1 where
-  pub clock : C
-  pub gives : C → ℕ → Type 0
-  pub policy : Policy
-  pub delivery : Delivery
-
-abbrev pub rules_of : {C : Type 0} → Clock.Ghosts C → C → Policy → Delivery → Rules C
-rules_of words clock policy delivery =
-    record { clock = clock; gives = words.gives; policy = policy; delivery = delivery }
-
 -- Which visit the door lets in under a number, or that it turns a visitor away, or has no more visits; that it got back
--- what is left of a visit; what a visit's reader and writer tell of their bytes, what its gate may answer, and the rules
--- of its session.
+-- what is left of a visit; what a visit's reader and writer tell of their bytes, and what its gate may answer. All sessions
+-- have in common the clock that they read and what it may read, when a failed job is offered again, and when replies are
+-- written.
 pub record Terms (I O G C : Type 0) : Type 1 where
   pub lets_in : VisitNumber → Visit I O G → Type 0
   pub turns_away : VisitNumber → Type 0
@@ -35,13 +24,16 @@ pub record Terms (I O G C : Type 0) : Type 1 where
   pub remaining : I → Option (List ℕ)
   pub contents : O → Option (List ℕ)
   pub answers : G → ℕ → Bool → Type 0
-  pub rules : Rules C
+  pub clock : C
+  pub gives : C → ℕ → Type 0
+  pub policy : Policy
+  pub delivery : Delivery
 
 module _ {D I O G C : Type 0} (door_words : Door.Ghosts D I O G) (reader : Read.Ghosts I) (writer : Write.Ghosts O)
-    (gate : Gate.Ghosts G) where
-  -- the terms of this door, under these rules
-  abbrev pub terms_of : D → Rules C → Terms I O G C
-  terms_of door rules = record {
+    (gate : Gate.Ghosts G) (clock_words : Clock.Ghosts C) where
+  -- the terms of this door, by this clock, policy and delivery
+  abbrev pub terms_of : D → C → Policy → Delivery → Terms I O G C
+  terms_of door clock policy delivery = record {
     lets_in = door_words.lets_in door;
     turns_away = door_words.turns_away door;
     has_no_more = door_words.has_no_more door;
@@ -49,10 +41,12 @@ module _ {D I O G C : Type 0} (door_words : Door.Ghosts D I O G) (reader : Read.
     remaining = reader.remaining;
     contents = writer.contents;
     answers = gate.answers;
-    rules = rules;
+    clock = clock;
+    gives = clock_words.gives;
+    policy = policy;
+    delivery = delivery;
   }
 
-  -- the terms of a service: those of its door, by its clock, policy and delivery
-  abbrev pub service_terms : {T : Type 0} → Clock.Ghosts C → Service T D C I O G → Terms I O G C
-  service_terms clock service =
-      terms_of service.door.now (rules_of clock service.clock.now service.policy.now service.delivery)
+  -- the terms of a service
+  abbrev pub service_terms : {T : Type 0} → Service T D C I O G → Terms I O G C
+  service_terms service = terms_of service.door.now service.clock.now service.policy.now service.delivery

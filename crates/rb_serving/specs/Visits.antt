@@ -1,5 +1,6 @@
 -- What became of those who came to a door, and of the pass of the worker that served them.
-use Rattle.std.specs.Prelude.{◌≡◌, ℕ, ◌+◌, min, List, [], ◌∷◌, ◌++◌, length, Option, None, Some}
+use Rattle.std.specs.Prelude.{◌≡◌, ℕ, ◌+◌, min, List, [], ◌∷◌, length, sum_by, Option, None, Some}
+use Rattle.std.specs.List.{flat_map}
 use Rattle.std.specs.Io.KnownBytes.{Appends, Consumes, IsAtEnd}
 use Rattle.rb_protocol.specs.declared.streams.limited_reader.LimitedReader.{LimitedReader}
 use Rattle.rb_protocol.specs.declared.streams.reader_state.ReaderState.TheVariants.{Open}
@@ -13,44 +14,41 @@ use Rattle.rb_shared_desk.specs.SharedSteps.{SharedState, SharedSteps, SetsShare
 use Rattle.rb_retry.specs.DeskRules.{DeskRules}
 use Rattle.rb_retry.specs.declared.policy.Policy.{Policy}
 use Rattle.rb_session.specs.Rules.{SessionRules, session_rules, HadGotBehind}
-use Rattle.rb_session.specs.JobEnds.{lost_in}
 use Rattle.rb_session.specs.Served.{Served}
 use Rattle.rb_session.specs.Ran.{Ran}
 use Rattle.rb_session.specs.Reasons.{IsReason}
 use Rattle.rb_serving.specs.Terms.{Terms}
-use Rattle.rb_serving.specs.VisitCounts.{faults_in}
+use Rattle.rb_serving.specs.VisitCounts.{ended_visit, refused_visit}
 use Rattle.rb_serving.specs.declared.visit.Visit.{Visit}
 use Rattle.rb_serving.specs.declared.visit_counts.VisitCounts.{VisitCounts}
 use Rattle.rb_serving.specs.declared.visit_number.VisitNumber.{VisitNumber}
 
--- how many visits were refused at the door or ended by a fault
-abbrev pub faults_of : List (Option Served) → ℕ
-faults_of [] = 0
-faults_of (None ∷ visits) = 1 + faults_of visits
-faults_of (Some visit ∷ visits) = faults_in visit.ended + faults_of visits
-
--- how many jobs were lost at their ends
-abbrev pub lost_of : List (Option Served) → ℕ
-lost_of [] = 0
-lost_of (None ∷ visits) = lost_of visits
-lost_of (Some visit ∷ visits) = lost_in visit.ended + lost_of visits
+-- what one visit counts for: one that was refused at the door, or one whose session ended so
+abbrev pub counts_at : Option Served → VisitCounts
+counts_at None = refused_visit
+counts_at (Some visit) = ended_visit visit.ended
 
 -- the counts of all of them, each at most the greatest
 abbrev pub counts_of : List (Option Served) → VisitCounts
 counts_of visits = record {
   sessions = min (length visits) GREATEST_COUNT;
-  faults = min (faults_of visits) GREATEST_COUNT;
-  lost = min (lost_of visits) GREATEST_COUNT;
+  faults = min (sum_by (λ visit. (counts_at visit).faults) visits) GREATEST_COUNT;
+  lost = min (sum_by (λ visit. (counts_at visit).lost) visits) GREATEST_COUNT;
 }
 
 -- the visits of all workers, one worker's behind the other's
 abbrev pub all_visits : List (List (Option Served)) → List (Option Served)
-all_visits [] = []
-all_visits (visits ∷ others) = visits ++ all_visits others
+all_visits visits = flat_map (λ own. own) visits
 
 -- The number under which a worker asks for a visit after `earlier` others. It stays at the greatest count.
 abbrev pub number_of : ℕ → ℕ → VisitNumber
 number_of worker earlier = record { worker = worker; earlier = min earlier GREATEST_COUNT }
+
+-- A pass that made no call, has seen none under its name, and has nothing folded into it.
+pub record IsUnused (pass : PassState) : Type 0 where
+  pub idle : pass.mine ≡ []
+  pub unheard : events_of pass.seen pass.name ≡ []
+  pub alone : pass.folded ≡ []
 
 -- a desk of the pass, with this clock and gate, through which nothing was made yet
 pub record IsDeskOf {C G : Type 0} (clock : C) (gate : G) (pass : PassState) (desk : SharedState C G) : Type 0 where
@@ -71,12 +69,12 @@ shared_rules waits policy = record {
 module _ {I O G C : Type 0} (terms : Terms I O G C) where
   -- what the clock of all visits may give, and what their gates may answer
   abbrev pub visit_waits : WaitRules C G
-  visit_waits = record { gives = terms.rules.gives; answers = terms.answers }
+  visit_waits = record { gives = terms.gives; answers = terms.answers }
 
   -- the rules of the session of a visit with this writer
   abbrev pub visit_rules : O → SessionRules (SharedState C G)
   visit_rules writer =
-      session_rules (shared_rules visit_waits terms.rules.policy) terms.rules.delivery
+      session_rules (shared_rules visit_waits terms.policy) terms.delivery
       (HadGotBehind terms.contents (terms.contents writer))
 
   -- The session of this visit was run at a new desk of the pass. What came was read from the visit's reader, what
@@ -88,7 +86,7 @@ module _ {I O G C : Type 0} (terms : Terms I O G C) where
     pub consumed : Consumes (terms.remaining visit.reader) (terms.remaining reader.inner.now) served.came
     pub appended : Appends (terms.contents visit.writer) (terms.contents writer) served.sent
     pub from : SharedState C G
-    pub begun : IsDeskOf terms.rules.clock visit.gate old from
+    pub begun : IsDeskOf terms.clock visit.gate old from
     pub to : SharedState C G
     pub ran : Ran (visit_rules visit.writer) (IsAtEnd (terms.remaining reader.inner.now)) from served to
     pub seen : to.pass ≡ new
@@ -108,36 +106,33 @@ module _ {I O G C : Type 0} (terms : Terms I O G C) where
     pub let_in : terms.lets_in number visit
     pub leaves : LeftVisit number visit old served new
 
+  -- Under this number a visitor was turned away, and the pass did nothing; or the session of a visit was run.
+  abbrev pub Comes : VisitNumber → PassState → Option Served → PassState → Type 0
+  Comes number old None new = terms.turns_away number × (new ≡ old)
+  Comes number old (Some served) new = IsVisit number old served new
+
   -- After `earlier` visits the worker asked for these, each under a number of its own. Its pass served those who were
   -- let in, one after the other, and did nothing else.
   abbrev pub AreVisits : ℕ → ℕ → PassState → List (Option Served) → PassState → Type 0
   AreVisits worker earlier old [] new = new ≡ old
-  AreVisits worker earlier old (None ∷ visits) new =
-      terms.turns_away (number_of worker earlier) × AreVisits worker (earlier + 1) old visits new
-  AreVisits worker earlier old (Some served ∷ visits) new =
-      (between : PassState) × IsVisit (number_of worker earlier) old served between
+  AreVisits worker earlier old (visit ∷ visits) new =
+      (between : PassState) × Comes (number_of worker earlier) old visit between
       × AreVisits worker (earlier + 1) between visits new
 
-  -- A worker's pass: it had made no call, had seen none under its name, and served these visits, behind which the door
-  -- had no more.
-  pub record IsWorker (worker : ℕ) (visits : List (Option Served)) (pass : PassState) : Type 0 where
-    pub first : PassState
-    pub idle : first.mine ≡ []
-    pub unheard : events_of first.seen first.name ≡ []
-    pub served : AreVisits worker 0 first visits pass
-    pub no_more : terms.has_no_more (number_of worker (length visits))
-
-  -- The pass is of the run that begins with this opening and has room for so many calls, and is a worker's that served
-  -- these visits.
-  pub record IsWorkerOf (room : ℕ) (begun : Opening) (worker : ℕ) (visits : List (Option Served)) (pass : PassState) : Type 0 where
-    pub works : IsWorker worker visits pass
+  -- A worker's pass, of the run that begins with this opening and has room for so many calls: it had made no call, had
+  -- seen none under its name, and served these visits, behind which the door had no more.
+  pub record IsWorker (room : ℕ) (begun : Opening) (worker : ℕ) (visits : List (Option Served)) (pass : PassState) : Type 0 where
     pub capacity : pass.capacity ≡ room
     pub opening : pass.opening ≡ begun
+    pub first : PassState
+    pub unused : IsUnused first
+    pub served : AreVisits worker 0 first visits pass
+    pub no_more : terms.has_no_more (number_of worker (length visits))
 
   -- each record is that of a worker of this run that served these visits, from this worker on
   abbrev pub AreWorkers : ℕ → Opening → ℕ → List (List (Option Served)) → List PassRecord → Type 0
   AreWorkers room begun worker [] [] = Unit {0}
   AreWorkers room begun worker (visits ∷ others) (one ∷ records) =
-      ((pass : PassState) × IsWorkerOf room begun worker visits pass × (one ≡ record_of pass))
+      ((pass : PassState) × IsWorker room begun worker visits pass × (one ≡ record_of pass))
       × AreWorkers room begun (worker + 1) others records
   AreWorkers _ _ _ _ _ = ⊥

@@ -1,8 +1,7 @@
 ghost use Rattle.rb_retry.specs.declared.policy.Policy.{Policy};
 ghost use Rattle.rb_session.specs.declared.delivery.Delivery.{Delivery};
-ghost use Rattle.rb_serving.specs.ServerEvents.{GathersSessions};
-ghost use Rattle.rb_serving.specs.Terms.{rules_of, terms_of};
-ghost use Rattle.rb_serving.specs.VisitEvents.{CallsByVisit};
+ghost use Rattle.rb_serving.specs.ServerEvents.{CallsByVisit, GathersSessions};
+ghost use Rattle.rb_serving.specs.Terms.{terms_of};
 
 use crate::door::Door;
 use rb_blocking::Clock;
@@ -12,7 +11,7 @@ use rb_timer::Timer;
 /// then those of the jobs that its session still held.
 pub fn calls_of_visit<D: Door, C: Clock>()
     ensures { (door : D) (clock : C) (policy : Policy) (delivery : Delivery) → CallsByVisit
-        (terms_of D.Door D.Reader.Read D.Writer.Write D.Gate.Gate door (rules_of C.Clock clock policy delivery)) }
+        (terms_of D.Door D.Reader.Read D.Writer.Write D.Gate.Gate C.Clock door clock policy delivery) }
 {}
 
 /// In the history that a server gives back each worker has a name of its own. Its events are those of the
@@ -20,5 +19,5 @@ pub fn calls_of_visit<D: Door, C: Clock>()
 /// that one session served, or of a job that this session still held at its end.
 pub fn history_of_server<T: Timer, D: Door, C: Clock>()
     ensures { (door : D) (clock : C) (policy : Policy) (delivery : Delivery) → GathersSessions
-        (terms_of D.Door D.Reader.Read D.Writer.Write D.Gate.Gate door (rules_of C.Clock clock policy delivery)) T }
+        (terms_of D.Door D.Reader.Read D.Writer.Write D.Gate.Gate C.Clock door clock policy delivery) T }
 {}

@@ -1,12 +1,10 @@
-ghost use Rattle.std.specs.Prelude.{◌≡◌, ◌≤◌, [], IfOk, IfErr};
-ghost use Rattle.rb_ledger.specs.Totals.{nothing};
-ghost use Rattle.rb_kept.specs.declared.kept.TheConstants.{MOST_CALLS};
+ghost use Rattle.std.specs.Prelude.{◌≡◌, [], IfOk, IfErr};
 ghost use Rattle.rb_lock.specs.Passes.{first_pass};
 ghost use Rattle.rb_serving.specs.Serving.{EndsServing, IsReport, IsServersRun};
-ghost use Rattle.rb_serving.specs.Terms.{rules_of, terms_of};
+ghost use Rattle.rb_serving.specs.Terms.{terms_of};
+ghost use Rattle.rb_ending.specs.declared.broker_fault.BrokerFault.TheVariants.{Memory, NotGathered};
 ghost use Rattle.rb_session.specs.declared.delivery.Delivery.TheVariants.{AtOnce, Gathered};
 ghost use Rattle.rb_session.specs.declared.hands_on.HandsOn.TheVariants.{BeforeReadsAndWaits};
-ghost use Rattle.rb_ending.specs.declared.broker_fault.BrokerFault.TheVariants.{Memory, NotGathered};
 
 use crate::door::Door;
 use crate::serve_report::ServeReport;
@@ -16,7 +14,6 @@ use crate::workers::serve_all;
 use rb_blocking::{Bell, Clock};
 use rb_ending::BrokerFault;
 use rb_kept::Kept;
-use rb_ledger::Tally;
 use rb_lock::{Pass, Shared};
 use rb_options::ServerRunOptions;
 use rb_queue::Opening;
@@ -50,8 +47,8 @@ pub fn serve_door<
     opening: Opening,
 ) -> Result<ServeReport<T>, BrokerFault>
     ensures served { IfOk result (λ report. IsServersRun
-        (terms_of D.Door D.Reader.Read D.Writer.Write D.Gate.Gate door.now
-        (rules_of C.Clock clock.now options.now.policy AtOnce))
+        (terms_of D.Door D.Reader.Read D.Writer.Write D.Gate.Gate C.Clock
+        door.now clock.now options.now.policy AtOnce)
         opening options.now report) }
     ensures fault { IfErr result EndsServing }
 {
@@ -77,8 +74,8 @@ pub fn serve_door_gathered<
     opening: Opening,
 ) -> Result<ServeReport<T>, BrokerFault>
     ensures served { IfOk result (λ report. IsServersRun
-        (terms_of D.Door D.Reader.Read D.Writer.Write D.Gate.Gate door.now
-        (rules_of C.Clock clock.now options.now.policy (Gathered BeforeReadsAndWaits)))
+        (terms_of D.Door D.Reader.Read D.Writer.Write D.Gate.Gate C.Clock
+        door.now clock.now options.now.policy (Gathered BeforeReadsAndWaits))
         opening options.now report) }
     ensures fault { IfErr result EndsServing }
 {
@@ -102,13 +99,12 @@ fn serve_delivering<
     opening: Opening,
 ) -> Result<ServeReport<T>, BrokerFault>
     ensures served { IfOk result (λ report. IsServersRun
-        (terms_of D.Door D.Reader.Read D.Writer.Write D.Gate.Gate door.now
-        (rules_of C.Clock clock.now options.now.policy delivery))
+        (terms_of D.Door D.Reader.Read D.Writer.Write D.Gate.Gate C.Clock
+        door.now clock.now options.now.policy delivery)
         opening options.now report) }
     ensures fault { IfErr result EndsServing }
 {
-    let (kept, tally) = kept_from::<T>(alloc, options.calls, opening)?;
-    let (shared, pass) = shared_from(alloc, kept, tally)?;
+    let (shared, pass) = opened::<T>(alloc, options, opening)?;
     let bell = Bell::new();
     let service = Service {
         alloc,
@@ -123,41 +119,20 @@ fn serve_delivering<
     report_of(rt, shared, pass, visits)
 }
 
-// The queue of an opening. The number of calls is in range, so that memory alone can be missing.
-fn kept_from<T: Timer>(
+// Shares a new queue of the opening. The number of calls is in range, so that memory alone can be missing.
+fn opened<T: Timer>(
     alloc: Global,
-    calls: u64,
+    options: &ServerRunOptions,
     opening: Opening,
-) -> Result<(Kept<T>, Tally), BrokerFault>
-    requires from_one { 1 ≤ calls }
-    requires in_range { calls ≤ MOST_CALLS }
-    ensures opening { IfOk result (λ made. made.0.opening ≡ opening) }
-    ensures history { IfOk result (λ made. made.0.history ≡ []) }
-    ensures capacity { IfOk result (λ made. made.0.capacity ≡ calls) }
-    ensures tally { IfOk result (λ made. made.1 ≡ nothing) }
-    ensures fault { IfErr result (λ fault. fault ≡ Memory) }
-{
-    match Kept::new_from(alloc, calls, opening) {
-        Ok(made) => Ok(made),
-        Err(_) => Err(BrokerFault::Memory),
-    }
-}
-
-// Shares the queue.
-fn shared_from<T: Timer>(
-    alloc: Global,
-    kept: Kept<T>,
-    tally: Tally,
 ) -> Result<(Shared<T>, Pass<T>), BrokerFault>
-    requires history { kept.history ≡ [] }
-    requires tally { tally ≡ nothing }
-    ensures pass { IfOk result (λ opened. opened.1 ≡ first_pass opened.0 kept) }
+    ensures pass { IfOk result (λ opened. opened.1 ≡ first_pass opened.0
+        (record { opening = opening; history = []; capacity = options.now.calls })) }
     ensures fault { IfErr result (λ fault. fault ≡ Memory) }
 {
-    match Shared::open(alloc, kept, tally) {
-        Ok(opened) => Ok(opened),
-        Err(_) => Err(BrokerFault::Memory),
-    }
+    let (kept, tally) = Kept::<T>::new_from(alloc, options.calls, opening).map_err(
+        |_| BrokerFault::Memory,
+    )?;
+    Shared::open(alloc, kept, tally).map_err(|_| BrokerFault::Memory)
 }
 
 // Ends the sharing, and reports what there was.
@@ -171,14 +146,14 @@ fn report_of<T: Timer, R: Wait>(
     ensures report { IfOk result (λ report. IsReport pass visits report) }
     ensures fault { IfErr result (λ fault. fault ≡ NotGathered) }
 {
-    match shared.close(rt, pass) {
-        Ok((kept, _, audit)) => Ok(ServeReport {
-            sessions: visits.sessions,
-            faults: visits.faults,
-            lost: visits.lost,
-            audit,
-            kept,
-        }),
-        Err(_) => Err(BrokerFault::NotGathered),
-    }
+    let (kept, _, audit) = shared
+        .close(rt, pass)
+        .map_err(|_| BrokerFault::NotGathered)?;
+    Ok(ServeReport {
+        sessions: visits.sessions,
+        faults: visits.faults,
+        lost: visits.lost,
+        audit,
+        kept,
+    })
 }

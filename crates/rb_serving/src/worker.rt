@@ -1,7 +1,7 @@
 ghost use Rattle.std.specs.Prelude.{◌≡◌};
-ghost use Rattle.rb_serving.specs.Serving.{IsWorked, WorksOff};
+ghost use Rattle.rb_serving.specs.Serving.{IsWorked, IsWorkerResult};
 ghost use Rattle.rb_serving.specs.Terms.{service_terms};
-ghost use Rattle.rb_serving.specs.Visits.{LeftVisit};
+ghost use Rattle.rb_serving.specs.Visits.{IsUnused, LeftVisit};
 ghost use Rattle.rb_session.specs.Served.{Served};
 
 use crate::door::{Door, DoorFault};
@@ -20,8 +20,7 @@ use std::time;
 
 /// Serves one visit after the other as the worker of this number, until the door has no more.
 ///
-/// The pass makes all their calls and no others, and folded passes are kept. It waits for
-/// visits, and while another pass calls.
+/// The pass makes all their calls and no others. It waits for visits, and while another pass calls.
 pub(crate) fn work<T: Timer, D: Door, C: Clock, R: Wait + time::Clock>(
     rt: &R,
     service: &Service<'_, T, D, C>,
@@ -29,10 +28,11 @@ pub(crate) fn work<T: Timer, D: Door, C: Clock, R: Wait + time::Clock>(
     mut pass: Pass<T>,
 ) -> (Pass<T>, VisitCounts)
     requires pass { pass.table ≡ service.now.shared.now }
-    ensures worked { IsWorked pass result.0 }
-    ensures visits { WorksOff
+    requires unused { IsUnused pass }
+    ensures pass { result.0.table ≡ service.now.shared.now }
+    ensures worked { IsWorkerResult
         (service_terms D.Door D.Reader.Read D.Writer.Write D.Gate.Gate C.Clock service.now)
-        worker pass result.0 result.1 }
+        pass.capacity pass.opening worker result.0 result.1 }
 {
     let mut counts = VisitCounts::none();
     for _ in rt.forever() {

@@ -5,7 +5,7 @@ use Rattle.rb_serving.proofs.serve_text.print_listening.Goals as goal
 
 pub returns : goal.returns
 returns g c =
-    let line : c.deref.result.now ≡ listening_text c.args.port = c.deref.ensures ∙ c.in_ok-line.ensures in
+    let line : c.deref.result.now ≡ listening_text c.args.port = c.deref.ensures ∙ c.in_ok-line.ensures.ok in
     let got = g.W.Write.contents c.args.writer.now in
     let got' = g.W.Write.contents c.print.new.writer in
     subst (λ text. Prints c.print.result got text got') line c.print.ensures

@@ -1,10 +1,9 @@
 -- The session ran at a new desk over the worker's pass, which has seen what the desk did, and the door got back the rest.
-use Rattle.std.proofs.Common.{rules, ◌≡◌, ◌∙◌, ap, sym, subst, ℕ, length, refl, List, Option}
+use Rattle.std.proofs.Common.{rules, ◌≡◌, ◌∙◌, ap, subst, ℕ, length, refl, List, Option}
 use Rattle.std.specs.Io.KnownBytes.{Consumes}
 use Rattle.rb_protocol.specs.declared.streams.reader_state.ReaderState.{ReaderState}
 use Rattle.rb_session.specs.Reasons.{IsReason}
 use Rattle.rb_shared_desk.specs.SharedSteps.{SharedState, name_of}
-use Rattle.rb_serving.specs.Terms.{service_terms}
 use Rattle.rb_session.specs.Served.{Served}
 use Rattle.rb_serving.specs.Visits.{IsDeskOf}
 use Rattle.rb_lock.specs.Passes.{PassState}

@@ -1,5 +1,5 @@
 -- The last worker that ends is folded in behind the others, and its visits are counted with theirs.
-use Rattle.std.proofs.Common.{◌<◌, ap, sym, subst, arith, ◌∙◌}
+use Rattle.std.proofs.Common.{◌<◌, ◌-◌, sym, subst, arith, ◌∙◌}
 use Rattle.rb_lock.specs.Passes.{PassState}
 use Rattle.std.proofs.lemmas.Bool.Decides.{nat_tests}
 use Rattle.rb_serving.specs.Serving.{FoldsWorkers, IsWorkerResult}
@@ -13,14 +13,10 @@ returns-clause-folds g t c =
     let of = terms c.args.service.now in
     let some : 0 < c.args.count = grind (arith, nat_tests, c.if-count-eq0.false) in
     let done = c.join-done.result in
-    let promise = c.in_ok-worker.worker.promise in
-    let started = c.in_ok-worker.ensures in
-    let given = started.start ∙ c.in-Ok.ensures.child in
-    let as_promised =
-    subst (λ service. IsWorkerResult (terms service) promise.worker done.0 done.1) started.service c.join-done.ensures.3 in
-    let worked = subst (λ worker. IsWorkerResult of worker done.0 done.1) started.worker as_promised in
+    let as_promised = subst (λ promise. IsWorkerResult (terms promise.service.now) promise.start.value.capacity
+    promise.start.value.opening promise.worker done.0 done.1) c.in-Ok-spawn_with.ensures.ok c.join-done.ensures.1 in
+    let worked = subst (λ (start : PassState). IsWorkerResult of start.capacity start.opening (c.args.count - 1) done.0 done.1)
+    (c.of-start.ensures ∙ c.in-Ok.ensures.child) as_promised in
     subst (FoldsWorkers of c.args.count c.args.pass c.fold.new.pass) (sym c.with.ensures)
     (folds_one_more of c.args.count c.args.pass c.split.new.pass c.in_ok-pass.pass done.0 c.fold.new.pass done.1
-    c.in_ok-pass.more some c.in-Ok.ensures.learns c.in-Ok.ensures.mine c.in_ok-pass.ensures.folds worked
-    (c.join-done.ensures.1 ∙ ap (λ (pass : PassState). pass.capacity) given) (c.join-done.ensures.2 ∙ ap (λ (pass : PassState). pass.opening) given)
-    c.fold.ensures)
+    c.in_ok-pass.more some c.in-Ok.ensures.learns c.in-Ok.ensures.mine c.in_ok-pass.ensures.folds worked c.fold.ensures)
