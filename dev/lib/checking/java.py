@@ -3,8 +3,7 @@
 javac compiles the package and its tests with all warnings, none of which it may give, and javadoc writes the pages of
 all public items. Then JUnit runs the tests, mvn builds the package by its pom.xml, and the README's first part is
 followed. The last test is the hostile day of clients/python. A JDK of version 17 or later is needed, and JUnit 4 with
-hamcrest where Debian's package junit4 puts them; without mvn and its plugins, or without stunnel, what needs these is
-skipped by name.
+hamcrest where Debian's package junit4 puts them; without mvn and its plugins, what needs these is skipped by name.
 """
 import os
 import re
@@ -40,7 +39,6 @@ PYTHON = Path(TOP, "clients", "python")
 DELIVERED = ["deliver letter-17, attempt 1", "deliver letter-17, attempt 2"]  # by the README's program
 REPOSITORY = "/usr/share/maven-repo"
 PLUGINS = ("resources", "compiler", "surefire", "jar")
-STUNNEL = "stunnel"
 JOBS = "2000"  # of a day
 LONGEST = 5_000  # seconds after which a command is ended
 
@@ -90,16 +88,9 @@ def build(room: str, tally: Tally) -> Optional[str]:
 
 def run_tests(kind: str, path: str, tally: Tally) -> None:
     """Runs the tests of a kind with JUnit, and counts them."""
-    names, stunnel = [*TESTS[kind]], shutil.which(STUNNEL)
-    if kind == "served" and stunnel:
-        names.append("StunnelTest")
-    elif kind == "served":
-        tally.skip("StunnelTest", f"there is no {STUNNEL}")
-    told = {"program": tested_program(), "stunnel": stunnel, "page": f"{TOP}/docs/OPERATING.md"}
-    settings = [f"-Drbbroker.{name}={it}" for name, it in told.items()]
     quiet = f"-Djava.util.logging.config.file={os.devnull}"  # of jobs that may be given again, which tests bring about
-    ran = run("java", "-ea", quiet, "-cp", path, *settings, "org.junit.runner.JUnitCore",
-              *(f"rbbroker.client.{it}" for it in names))
+    ran = run("java", "-ea", quiet, f"-Drbbroker.program={tested_program()}", "-cp", path, "org.junit.runner.JUnitCore",
+              *(f"rbbroker.client.{it}" for it in TESTS[kind]), cwd=CLIENT)
     found = re.search(r"(?m)^(?:OK \((\d+) tests?\)|Tests run: (\d+),  Failures: (\d+))$", ran.stdout)
     if not found:
         tally.count(f"the tests of {kind}", f"status {ran.returncode}: {ran.stdout.strip()}")

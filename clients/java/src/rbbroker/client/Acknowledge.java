@@ -4,8 +4,7 @@ package rbbroker.client;
 public enum Acknowledge {
     /**
      * At once, before the call that took it returns: the job leaves the queue for ever, as an element of
-     * {@link java.util.concurrent.DelayQueue} does. A program that dies while it works on the job takes the job with
-     * it.
+     * {@link java.util.concurrent.DelayQueue} does, also if the program dies while it works on the job.
      */
     ON_TAKE,
 

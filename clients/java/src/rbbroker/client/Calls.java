@@ -9,13 +9,13 @@ import java.util.Collection;
 import java.util.List;
 import java.util.function.Function;
 import java.util.function.Supplier;
+import rbbroker.client.RefusedException.Reason;
 import rbbroker.client.Request.Element;
 import rbbroker.client.Request.Placed;
 import rbbroker.client.Session.Use;
 
 /**
- * Makes the calls of a queue: on some session, again if that is safe, and with the jobs that they give acknowledged as
- * was agreed.
+ * Makes the calls of a queue: on some session, again if that is safe, and acknowledges the jobs that they give.
  *
  * <p>A call that was surely not carried out is made again while the patience lasts. So is one that only looks or takes,
  * even if it is in doubt: a job that was given to a session which is lost comes back by itself.
@@ -24,19 +24,12 @@ final class Calls {
     private static final System.Logger LOG = System.getLogger("rbbroker.client");
     /** The least time from one wait to the next, at a server that gives waits up. */
     private static final long LEAST_WAIT = MILLISECONDS.toNanos(20);
-    /** What is offered and removed at once, to be told the server's moment, and a delay of 146 years for that. */
+    /** What is offered for in 146 years and removed at once, to be told the server's moment. */
     private static final String PROBE = "rbbroker.client-asks-for-the-moment";
-    private static final long LONGEST_DELAY = Long.MAX_VALUE / 2;
 
     private final Options options;
     private final Runs runs;
     private final SessionPool pool;
-
-    /** What one wait brought: a job, or nothing; and whether no other one follows. */
-    private record Waited(Job job, boolean isLast) { }
-
-    /** How many jobs a drain added to the collection, and what the collection threw then. */
-    private record Drained(int count, RuntimeException fault) { }
 
     Calls(Options options) {
         this.options = options;
@@ -57,7 +50,7 @@ final class Calls {
             // A job that is overdue keeps its place before those that are less so. That takes the server's clock, as
             // this session told it: by another server's clock the job might come late.
             boolean isPlaced = delay < 0 && session.contact.isTold;
-            job.isOffered(isPlaced ? session.ask(Request.offerAt(runs.clock.momentOf(deadline), job.payload()))
+            job.isOffered(isPlaced ? session.ask(Request.offerAt(runs.momentOf(deadline), job.payload()))
                 : offerIn(session, Math.max(0, delay), job.payload()), session.contact);
             return null;
         });
@@ -67,14 +60,15 @@ final class Calls {
     Job peek() {
         return make(Use.LOOK, session -> {
             Element element = session.ask(Request.PEEK);
-            return element == null ? null : new Job(element, session.contact, false);
+            return element == null ? null : new Job(element, session.contact, null);
         });
     }
 
-    /** Takes the job of this id out of the queue, if a server has it that surely continues the run of that contact. */
-    boolean remove(long id, Contact contact) {
-        return make(() -> pool.lend(contact), Use.CHANGE,
-            session -> hasRunOf(contact, session) && session.ask(Request.remove(id)));
+    /** Takes a job out of the queue, if a server has it that surely continues the run in which it was offered. */
+    boolean remove(Job job) {
+        Job.Place place = job.place;
+        return place != null && make(() -> pool.lend(place.contact()), Use.CHANGE,
+            session -> hasRunOf(place.contact(), session) && session.ask(Request.remove(place.element().id())));
     }
 
     private boolean hasRunOf(Contact contact, Session session) {
@@ -82,14 +76,9 @@ final class Calls {
             return true;
         }
         if (!session.contact.isTold) {
-            session.ask(Request.remove(offerIn(session, LONGEST_DELAY, PROBE).id()));
+            session.ask(Request.remove(offerIn(session, Long.MAX_VALUE / 2, PROBE).id()));
         }
-        boolean isKnown = runs.isKnownToContinue(session.contact, contact);
-        if (!isKnown) {
-            LOG.log(Level.WARNING, "a job is not removed: the server at {0} may have lost the run that has it",
-                options.address());
-        }
-        return isKnown;
+        return runs.isKnownToContinue(session.contact, contact);
     }
 
     /** Takes a job that has expired, or returns null if there is none. */
@@ -97,23 +86,28 @@ final class Calls {
         return unlessClosed(make(Use.TAKE, session -> taken(session, session.ask(Request.POLL))));
     }
 
-    /** Takes a job, and waits for one up to {@code timeout}. Returns null if none expired by then. */
+    /**
+     * Takes a job, and waits for one up to {@code timeout}. Returns null if none expired by then. An interrupt while
+     * the server is asked is put off: when the reply is there, the thread has the job or none is held for it.
+     */
     Job poll(long timeout) throws InterruptedException {
         long deadline = System.nanoTime() + Math.max(0, timeout);
-        Tries tries = new Tries(Use.WAIT, options.patience());
+        var tries = new Tries(Use.WAIT, options.patience());
         while (true) {
             if (Thread.interrupted()) {
                 throw new InterruptedException();
             }
-            if (deadline - System.nanoTime() <= 0) {
-                return poll();
-            }
             try {
-                Waited waited = waitOnce(deadline);
-                if (waited.isLast) {
-                    return unlessClosed(waited.job);
+                Session session = pool.lend(Use.WAIT, waitUntil(deadline));
+                if (session != null) {
+                    Job job = waitOnce(session, deadline);
+                    if (job != null || waitUntil(deadline) == 0) {
+                        return unlessClosed(job);
+                    }
+                    tries = new Tries(Use.WAIT, options.patience());
+                } else if (waitUntil(deadline) == 0) {
+                    return poll();
                 }
-                tries = new Tries(Use.WAIT, options.patience());
             } catch (BrokerException fault) {
                 tries.pauseAfter(fault);
             }
@@ -125,12 +119,9 @@ final class Calls {
         int count = 0;
         while (count < most) {
             int asked = Math.min(most - count, Session.MOST_HELD);
-            Drained drained = make(Use.TAKE, session -> drain(session, jobs, asked));
-            if (drained.fault != null) {
-                throw drained.fault;
-            }
-            count += drained.count;
-            if (drained.count < asked || options.acknowledge() == Acknowledge.BY_CALL) {
+            int drained = make(Use.TAKE, session -> drain(session, jobs, asked));
+            count += drained;
+            if (drained < asked || options.acknowledge() == Acknowledge.BY_CALL) {
                 break;
             }
         }
@@ -170,49 +161,40 @@ final class Calls {
         return placed;
     }
 
-    /**
-     * Waits at the server once, for a short time. An interrupt meanwhile is put off: when the reply is there, the
-     * thread has the job or none is held for it.
-     */
-    private Waited waitOnce(long deadline) throws InterruptedException {
-        long left = deadline - System.nanoTime();
-        Session session = pool.lend(Use.WAIT, Math.min(left, options.longestWait()));
-        if (session == null) {
-            return new Waited(null, false);
-        }
+    /** How long a wait at the server may last. */
+    private long waitUntil(long deadline) {
+        return Math.max(0, Math.min(deadline - System.nanoTime(), options.longestWait()));
+    }
+
+    /** Waits at the server once. Returns null if it gave no job, after a pause if it gave the wait up at once. */
+    private Job waitOnce(Session session, long deadline) throws InterruptedException {
         long asked = System.nanoTime();
-        left = Math.max(0, deadline - asked);
-        long wait = Math.min(left, options.longestWait());
-        boolean isGivenUp;
+        Job job;
         try {
-            Request.Awaited awaited = session.ask(Request.pollFor(wait));
-            Job job = taken(session, awaited.element());
-            if (job != null) {
-                return new Waited(job, true);
-            }
-            isGivenUp = awaited.isGivenUp();
+            job = taken(session, session.ask(Request.pollFor(waitUntil(deadline))));
         } finally {
             pool.giveBack(session);
         }
-        if (isGivenUp) {
-            NANOSECONDS.sleep(Math.min(left, LEAST_WAIT - (System.nanoTime() - asked)));
+        if (job == null) {
+            NANOSECONDS.sleep(Math.min(waitUntil(deadline), asked + LEAST_WAIT - System.nanoTime()));
         }
-        return new Waited(null, wait == left && !isGivenUp);
+        return job;
     }
 
     /** The job that a session was given by a call that takes one, or null if it was given none. */
     private Job taken(Session session, Element element) {
         Job job = element == null ? null : given(session, element);
         if (job != null && options.acknowledge() == Acknowledge.ON_TAKE) {
-            settle(session, List.of(Request.done(element.id())));
+            settle(session, List.of(Request.answer(element.id(), true)));
         }
         return job;
     }
 
-    private Drained drain(Session session, Collection<? super Job> jobs, int asked) {
+    /** Adds the jobs of one drain. Those that the collection has are acknowledged, if that is due; others come back. */
+    private int drain(Session session, Collection<? super Job> jobs, int asked) {
         List<Element> elements = session.ask(Request.drain(asked));
         if (elements.isEmpty() && session.held.size() >= Session.MOST_HELD) {
-            throw new TooManyHeldException();
+            throw new RefusedException(Reason.TOO_MANY_HELD);
         }
         int count = 0;
         try {
@@ -220,32 +202,25 @@ final class Calls {
                 jobs.add(given(session, element));
                 count++;
             }
-            return new Drained(count, null);
-        } catch (RuntimeException fault) {
-            return new Drained(count, fault);
         } finally {
-            settleDrained(session, elements, count);
+            List<Request<Boolean>> answers = new ArrayList<>();
+            for (Element element : elements.subList(count, elements.size())) {
+                session.held.remove(element.id());
+                answers.add(Request.answer(element.id(), false));
+            }
+            if (options.acknowledge() == Acknowledge.ON_TAKE) {
+                elements.subList(0, count).forEach(it -> answers.add(Request.answer(it.id(), true)));
+            }
+            settle(session, answers);
         }
-    }
-
-    /** Acknowledges the drained jobs that the collection has, if that is due, and fails the others: they come back. */
-    private void settleDrained(Session session, List<Element> elements, int count) {
-        List<Request<Placed>> answers = new ArrayList<>();
-        if (options.acknowledge() == Acknowledge.ON_TAKE) {
-            elements.subList(0, count).forEach(it -> answers.add(Request.done(it.id())));
-        }
-        for (Element element : elements.subList(count, elements.size())) {
-            session.held.remove(element.id());
-            answers.add(Request.fail(element.id()));
-        }
-        settle(session, answers);
+        return count;
     }
 
     /** Answers jobs that the caller has already, or never gets. No fault of that is the caller's. */
-    private void settle(Session session, List<Request<Placed>> answers) {
+    private void settle(Session session, List<Request<Boolean>> answers) {
         try {
             if (!answers.isEmpty()) {
-                session.askAll(answers, 0);
+                session.askAll(answers);
             }
         } catch (BrokerException fault) {
             LOG.log(Level.WARNING, "a job that was taken may be given again: {0}", fault.getMessage());
@@ -254,36 +229,29 @@ final class Calls {
 
     /** The job of an element that a session was given, which holds it unless it is acknowledged when it is taken. */
     private Job given(Session session, Element element) {
-        runs.clock.hasReached(element.expiry(), System.nanoTime());
-        Job job = new Job(element, session.contact, true);
         if (options.acknowledge() == Acknowledge.ON_TAKE) {
-            return job.heldBy(Calls::answerAcknowledged);
+            return new Job(element, session.contact, isDone -> {
+                if (!isDone) {
+                    throw new RefusedException(Reason.NOT_HELD);
+                }
+                return false;
+            });
         }
         session.held.add(element.id());
-        return job.heldBy(isDone -> answer(session, element.id(), isDone));
-    }
-
-    private static boolean answerAcknowledged(boolean isDone) {
-        if (!isDone) {
-            throw new NotHeldException("the job was acknowledged when it was taken");
-        }
-        return false;
+        return new Job(element, session.contact, isDone -> answer(session, element.id(), isDone));
     }
 
     /** Answers a job on the session that holds it. Returns whether it comes back. */
     private boolean answer(Session session, long id, boolean isDone) {
         pool.lend(session, id);
         try {
-            Placed again = session.ask(isDone ? Request.done(id) : Request.fail(id));
+            boolean comesBack = session.ask(Request.answer(id, isDone));
             session.held.remove(id);
-            return again != null;
-        } catch (FullException full) {
-            // Only a failure is refused so. The job can't come back, and its session need not be kept for it.
-            session.held.remove(id);
-            String name = Long.toUnsignedString(id);
-            throw new FullException("the run takes no failed job back, so job " + name + " is gone");
-        } catch (NotHeldException refusal) {
-            session.held.remove(id);
+            return comesBack;
+        } catch (RefusedException refusal) {
+            if (refusal.reason() != Reason.MEMORY) { // else the job is gone, and its session need not be kept for it
+                session.held.remove(id);
+            }
             throw refusal;
         } finally {
             pool.giveBack(session);

@@ -1,7 +1,6 @@
 package rbbroker.client;
 
 import java.util.Map;
-import java.util.concurrent.atomic.AtomicBoolean;
 
 /**
  * What one session shows of its server: since when and until when it was surely there, and how far its clock is ahead
@@ -14,17 +13,19 @@ final class Contact {
     /** The clocks of two machines drift by a nanosecond in this many, at the most. */
     private static final int DRIFT = 4_096;
 
-    final ServerClock clock;
+    final Runs runs;
     /** What was told last of each queue before the session began. */
     final Map<Integer, Told> before;
     private final long since = System.nanoTime();
-    private volatile long until = since;
+    /** When the last request that was answered was sent. */
+    volatile long until = since;
     /** Whether the server's moment was told. */
     volatile boolean isTold;
+    /** Between these the server's clock is ahead. */
     private volatile long least;
     private volatile long most;
-    /** Whether the run that it showed first was lost. */
-    volatile AtomicBoolean isLost;
+    /** How many runs were seen to be lost when its moment was told. */
+    volatile int losses;
     /** A later contact, whose server has all that the one here had. */
     volatile Contact continuedBy;
 
@@ -34,12 +35,11 @@ final class Contact {
         private static final long FIRST_DATE = 1L << 60;
         /** So many queues such a broker may have under one name. Its ids count by this number, from the queue's. */
         private static final long QUEUES = 64;
-        private static final int ONLY_QUEUE = -1;
 
-        /** The number of the queue, which has ids and a clock of its own. */
+        /** The number of the queue, which has ids and a clock of its own, or -1 for the only one. */
         int queue() {
             boolean isDate = Long.compareUnsigned(moment, FIRST_DATE) >= 0;
-            return isDate ? (int) Long.remainderUnsigned(id, QUEUES) : ONLY_QUEUE;
+            return isDate ? (int) Long.remainderUnsigned(id, QUEUES) : -1;
         }
 
         /** Whether the queue of which this is told lost the run in which the other was told of it before. */
@@ -49,14 +49,9 @@ final class Contact {
     }
 
     /** A server has just answered in a session for the first time. Before that this was told last of its queues. */
-    Contact(ServerClock clock, Map<Integer, Told> before) {
-        this.clock = clock;
+    Contact(Runs runs, Map<Integer, Told> before) {
+        this.runs = runs;
         this.before = Map.copyOf(before);
-    }
-
-    /** A request that was sent at this time was answered. */
-    void answered(long sent) {
-        until = sent;
     }
 
     /** The server's clock read {@code moment} at some time between these two. */
@@ -77,7 +72,7 @@ final class Contact {
      */
     boolean continues(Contact earlier) {
         long lasted = earlier.until - earlier.since - Math.max(0, since - earlier.until) / DRIFT;
-        return isTold && earlier.isTold && !earlier.isLost.get() && earlier.most - least < lasted
+        return isTold && earlier.isTold && earlier.losses == earlier.runs.losses && earlier.most - least < lasted
             && least - earlier.most < lasted;
     }
 

@@ -1,38 +1,52 @@
 package rbbroker.client;
 
-/**
- * The server refused the request and changed nothing.
- *
- * <p>The refusals that a caller can meet are subclasses. The others ({@code ERR 1}, {@code 2}, {@code 4} and {@code 8})
- * blame the form of a request, which this package has checked before; a server that sends them is at fault.
- */
-public class RefusedException extends BrokerException {
+import java.util.Arrays;
+import java.util.Map;
+import java.util.stream.Collectors;
+
+/** The server refused the request and changed nothing. */
+public final class RefusedException extends BrokerException {
     private static final long serialVersionUID = 1;
 
-    /** The reply line. */
-    private final String reply;
+    /** Why a server refuses a request. */
+    public enum Reason {
+        /** {@code ERR 3}: the job would expire after 2<sup>64</sup> - 1, the last moment of the server's clock. */
+        RANGE("ERR 3 range", "it would expire after the last moment of the server's clock"),
+        /** {@code ERR 5}: the job was not taken, or was answered before, or was acknowledged when it was taken. */
+        NOT_HELD("ERR 5 not-held", "the job is not held"),
+        /**
+         * {@code ERR 6}: the run has made all the calls that it has room for, and no other server took its place in
+         * time. A job whose failure it refuses is gone from the queue.
+         */
+        FULL("ERR 6 full", "the run has made all the calls that it has room for, and takes no failed job back"),
+        /** {@code ERR 7}: the server has no memory for it now. The same call may be made again. */
+        MEMORY("ERR 7 memory", "the server has no memory for it now"),
+        /** {@code ERR 9}: the session holds 64 jobs, and can be given no more before some are done or fail. */
+        TOO_MANY_HELD("ERR 9 held", "the session holds as many jobs as it may; finish some first");
 
-    RefusedException(String reply, String why, boolean mayPass) {
-        super(reply + ": " + why, mayPass, null);
-        this.reply = reply;
+        private final String reply;
+        private final String text;
+
+        Reason(String reply, String text) {
+            this.reply = reply;
+            this.text = text;
+        }
     }
 
-    /** {@return the reply line of the server, such as {@code ERR 6 full}} */
-    public String reply() {
-        return reply;
+    /** The reasons by the reply lines that tell them. */
+    static final Map<String, Reason> BY_REPLY =
+        Arrays.stream(Reason.values()).collect(Collectors.toMap(it -> it.reply, it -> it));
+
+    /** Why. */
+    private final Reason reason;
+
+    RefusedException(Reason reason) {
+        super(reason.reply + ": " + reason.text, reason == Reason.FULL || reason == Reason.MEMORY, null);
+        this.reason = reason;
     }
 
-    /** The refusal that a reply line tells, or null if it is none. */
-    static RefusedException of(String reply) {
-        return switch (reply) {
-            case ExpiryRangeException.REPLY -> new ExpiryRangeException();
-            case NotHeldException.REPLY -> new NotHeldException("the session holds no job of this id");
-            case FullException.REPLY -> new FullException("the run has made all the calls that it has room for");
-            case NoMemoryException.REPLY -> new NoMemoryException();
-            case TooManyHeldException.REPLY -> new TooManyHeldException();
-            case "ERR 1 syntax", "ERR 2 number", "ERR 4 payload", "ERR 8 line" ->
-                new RefusedException(reply, "the server refused the form of a request", false);
-            default -> null;
-        };
+    /** {@return why the server refused the request} */
+    public Reason reason() {
+        return reason;
     }
 }

@@ -6,6 +6,7 @@ import java.util.Collection;
 import java.util.Iterator;
 import java.util.Objects;
 import java.util.Spliterator;
+import java.util.Spliterators;
 import java.util.concurrent.BlockingQueue;
 import java.util.concurrent.TimeUnit;
 import javax.net.ssl.SSLSocketFactory;
@@ -16,62 +17,32 @@ import javax.net.ssl.SSLSocketFactory;
  * first before the others.
  *
  * <p>Any number of threads, queues and programs may use one server at the same time. All methods are thread-safe. What
- * becomes of a job that is taken depends on when it is {@linkplain Acknowledge acknowledged}. A session holds 64 jobs;
- * a call that would take another throws a {@link TooManyHeldException}.
+ * becomes of a job that is taken depends on when it is {@linkplain Acknowledge acknowledged}.
  *
  * <p><b>Sessions.</b> The queue connects when it is first used. It keeps a session for each thread that waits, up to a
- * number that is set, and one for calls that do not wait. Each keeps one of the server's workers busy. A session that
- * has lasted for {@linkplain Builder#longestSession a while} is left as soon as it holds no job, even if the queue lies
- * idle, so that servers can end and be replaced. A held job must be answered on its own session: if another thread
- * waits there at the time, the answer takes up to {@link Builder#longestWait}. That does not happen where each thread
- * answers the jobs that it took.
+ * number that is set, and one for calls that do not wait. Each keeps one of the server's workers busy, and holds up to
+ * 64 jobs. A session that has lasted for half a minute is left as soon as it holds no job, even if the queue lies idle,
+ * so that servers can end and be replaced. A held job must be answered on its own session: if another thread waits
+ * there at the time, the answer takes up to {@link Builder#longestWait}.
  *
  * <p><b>Lost servers.</b> If there is no server, or its run is full, a call is made again until the
  * {@linkplain Builder#patience patience} is over; it then throws a {@link ServerLostException} or a
- * {@link FullException}. An interrupted thread does not wait for a server. If a server is lost between a request and
+ * {@link RefusedException}. An interrupted thread does not wait for a server. If a server is lost between a request and
  * its reply, the call is in doubt. One that looks at jobs or takes them is made again then too. Any other throws a
- * {@code ServerLostException} that {@linkplain ServerLostException#isInDoubt says so}: nobody can tell whether it was
- * carried out. Refusals are {@link RefusedException}s. Every method that asks the server may throw these, and
- * {@link IllegalStateException} once the queue is closed.
- *
- * <p><b>What can't be had.</b> The server shows no element other than the head, so there is no iteration, no array, no
- * stream and no {@code contains}: they, and what is made of them, throw {@link UnsupportedOperationException}.
+ * {@code ServerLostException} that {@linkplain ServerLostException#isInDoubt says so}. Every method that asks the
+ * server may throw these, and {@link IllegalStateException} once the queue is closed.
  */
 public final class RemoteDelayQueue extends AbstractQueue<Job> implements BlockingQueue<Job>, AutoCloseable {
     private final Options options;
     private final Calls calls;
-
-    /**
-     * Makes a queue with the server at this port of 127.0.0.1, and all else as {@link Builder} has it. It does not
-     * connect yet.
-     *
-     * @param port the server's port, 1 to 65,535
-     * @param acknowledge when the server is told that a job is finished
-     */
-    public RemoteDelayQueue(int port, Acknowledge acknowledge) {
-        this(new Builder(port, acknowledge).options());
-    }
 
     private RemoteDelayQueue(Options options) {
         this.options = options;
         calls = new Calls(options);
     }
 
-    /**
-     * {@return what makes a queue with the server at this port}
-     *
-     * @param port the server's port, 1 to 65,535
-     * @param acknowledge when the server is told that a job is finished
-     */
-    public static Builder builder(int port, Acknowledge acknowledge) {
-        return new Builder(port, acknowledge);
-    }
-
-    /** How a queue deals with its server. */
+    /** How a queue deals with its server, and what makes it. */
     public static final class Builder {
-        /** More than any server lasts, and little enough to be added to a time. */
-        private static final long LONGEST = Long.MAX_VALUE / 8;
-
         private final int port;
         private final Acknowledge acknowledge;
         private String host = "127.0.0.1";
@@ -81,10 +52,13 @@ public final class RemoteDelayQueue extends AbstractQueue<Job> implements Blocki
         private Duration longestSession = Duration.ofSeconds(30);
         private Duration patience = Duration.ofSeconds(30);
 
-        private Builder(int port, Acknowledge acknowledge) {
-            if (port < 1 || port > 65_535) {
-                throw new IllegalArgumentException("a port is 1 to 65535, not " + port);
-            }
+        /**
+         * Begins with the server at this port.
+         *
+         * @param port the server's port, 1 to 65,535
+         * @param acknowledge when the server is told that a job is finished
+         */
+        public Builder(int port, Acknowledge acknowledge) {
             this.port = port;
             this.acknowledge = Objects.requireNonNull(acknowledge);
         }
@@ -102,8 +76,7 @@ public final class RemoteDelayQueue extends AbstractQueue<Job> implements Blocki
 
         /**
          * Connects by TLS, for a server behind stunnel or a proxy like it. The other side's certificate must be
-         * for the {@linkplain #host host}, and of an authority that the factory trusts. A certificate that one side
-         * does not accept is a {@link TlsException}.
+         * for the {@linkplain #host host}, and of an authority that the factory trusts.
          *
          * @param factory what makes the connections, such as that of an {@link javax.net.ssl.SSLContext}; it has this
          *        side's certificate if the other side wants one
@@ -116,8 +89,7 @@ public final class RemoteDelayQueue extends AbstractQueue<Job> implements Blocki
 
         /**
          * How many threads may wait at the server at the same time. Further ones wait here until one of these has its
-         * job or looks anew. The queue keeps at most this many sessions and one more, and each of them keeps one of
-         * the server's workers busy.
+         * job or looks anew. The queue keeps at most this many sessions and one more.
          *
          * @param count 1 or more; 4 if it is not set
          * @return this builder
@@ -139,19 +111,13 @@ public final class RemoteDelayQueue extends AbstractQueue<Job> implements Blocki
          * @return this builder
          */
         public Builder longestWait(Duration time) {
-            longestWait = Objects.requireNonNull(time);
+            longestWait = time;
             return this;
         }
 
-        /**
-         * How long a session lasts before it is left. While the queue is in use, each session that is left is followed
-         * by another, of the 10,000 that a server serves at most.
-         *
-         * @param time more than 0; 30 seconds if it is not set
-         * @return this builder
-         */
-        public Builder longestSession(Duration time) {
-            longestSession = Objects.requireNonNull(time);
+        /** How long a session lasts before it is left, which tests make short. */
+        Builder longestSession(Duration time) {
+            longestSession = time;
             return this;
         }
 
@@ -162,18 +128,14 @@ public final class RemoteDelayQueue extends AbstractQueue<Job> implements Blocki
          * @return this builder
          */
         public Builder patience(Duration time) {
-            patience = Objects.requireNonNull(time);
+            patience = time;
             return this;
         }
 
         /** {@return a queue, which does not connect yet} */
         public RemoteDelayQueue build() {
-            return new RemoteDelayQueue(options());
-        }
-
-        private Options options() {
-            return new Options(host, port, tls, acknowledge, waiters, nanos(longestWait), nanos(longestSession),
-                nanos(patience));
+            return new RemoteDelayQueue(new Options(host, port, tls, acknowledge, waiters, nanos(longestWait),
+                nanos(longestSession), nanos(patience)));
         }
 
         private static long nanos(Duration time) {
@@ -181,7 +143,7 @@ public final class RemoteDelayQueue extends AbstractQueue<Job> implements Blocki
             if (nanos <= 0) {
                 throw new IllegalArgumentException("a time is more than 0, not " + time);
             }
-            return Math.min(nanos, LONGEST);
+            return Math.min(nanos, Long.MAX_VALUE / 8); // which can be added to a time
         }
     }
 
@@ -189,14 +151,8 @@ public final class RemoteDelayQueue extends AbstractQueue<Job> implements Blocki
      * Offers a job, which may be taken once its delay has passed. The job then has the id and the expiry that the
      * server gave it. A job that is offered again, even while the queue has it, is a new element with an id of its own.
      *
-     * <p>A job that is overdue comes before those that are less so, as far as the server's clock goes back. The first
-     * that is offered in a session counts as due when it is accepted, since the reply to it tells of that clock.
-     *
-     * @param job the job to offer
-     * @return {@code true}
-     * @throws NullPointerException if the job is null
-     * @throws ServerLostException if no server was found, or one was lost; in doubt if the job may have been accepted
-     * @throws RefusedException if the server refused the job and goes on doing so
+     * <p>A job that is overdue comes before those that are less so, as far as the server's clock goes back, except the
+     * first that is offered in a session: the reply to it tells of that clock.
      */
     @Override
     public boolean offer(Job job) {
@@ -224,31 +180,18 @@ public final class RemoteDelayQueue extends AbstractQueue<Job> implements Blocki
 
     /**
      * Takes the job that expired first, and waits for one up to a time. Returns {@code null} if none has expired by
-     * then.
-     *
-     * <p>An interrupt is noticed within {@link Builder#longestWait}, and loses no job: if one is given at that moment,
-     * it is returned and the thread stays interrupted.
-     *
-     * @throws InterruptedException if the thread is interrupted, before or while it waits
+     * then. An interrupt is noticed within {@link Builder#longestWait}, and loses no job: if one is given at that
+     * moment, it is returned and the thread stays interrupted.
      */
     @Override
     public Job poll(long timeout, TimeUnit unit) throws InterruptedException {
         return calls.poll(unit.toNanos(timeout));
     }
 
-    /**
-     * Takes the job that expired first, and waits until there is one. An interrupt is noticed as in
-     * {@link #poll(long, TimeUnit)}.
-     *
-     * @throws InterruptedException if the thread is interrupted, before or while it waits
-     */
+    /** Takes the job that expired first, and waits until there is one: as {@link #poll(long, TimeUnit)} does. */
     @Override
     public Job take() throws InterruptedException {
-        Job job;
-        do {
-            job = calls.poll(Long.MAX_VALUE);
-        } while (job == null);
-        return job;
+        return calls.poll(Long.MAX_VALUE); // 292 years
     }
 
     /**
@@ -263,20 +206,13 @@ public final class RemoteDelayQueue extends AbstractQueue<Job> implements Blocki
     /**
      * Takes a job out of the queue, expired or not, wherever it was offered. Which one is told by its {@link Job#id}: a
      * job that was not offered is in no queue, and one that failed has come back as another.
-     *
-     * @param job the job to take out; anything else is in no queue
-     * @return whether it was there
      */
     @Override
     public boolean remove(Object job) {
-        return job instanceof Job it && it.remove(calls);
+        return job instanceof Job it && calls.remove(it);
     }
 
-    /**
-     * Takes each job of a collection out of the queue, one after the other, as {@link #remove(Object)} does.
-     *
-     * @return whether any was there
-     */
+    /** Takes each job of a collection out of the queue, one after the other, as {@link #remove(Object)} does. */
     @Override
     public boolean removeAll(Collection<?> jobs) {
         return jobs.stream().map(this::remove).reduce(false, Boolean::logicalOr);
@@ -308,13 +244,10 @@ public final class RemoteDelayQueue extends AbstractQueue<Job> implements Blocki
     }
 
     /**
-     * Takes up to a number of jobs that have expired, and adds them to a collection in the order of their expiry.
-     *
-     * <p>With {@link Acknowledge#BY_CALL} no more than 64 are taken, since a session holds no more: call it again when
-     * these are answered. With {@link Acknowledge#ON_TAKE} they are taken 64 at a time, and other clients' calls may
-     * come in between. Jobs that the collection refuses by an exception fail, and come back as their next attempts.
-     *
-     * @throws IllegalArgumentException if the collection is this queue
+     * Takes up to a number of jobs that have expired, and adds them to a collection in the order of their expiry. With
+     * {@link Acknowledge#BY_CALL} no more than 64 are taken, since a session holds no more: call it again when these
+     * are answered. With {@link Acknowledge#ON_TAKE} they are taken 64 at a time, and other clients' calls may come in
+     * between. Jobs that the collection refuses by an exception fail, and come back as their next attempts.
      */
     @Override
     public int drainTo(Collection<? super Job> jobs, int most) {
@@ -326,9 +259,8 @@ public final class RemoteDelayQueue extends AbstractQueue<Job> implements Blocki
     }
 
     /**
-     * Ends all sessions. The jobs that they hold fail and come back to the queue. Threads that wait here get an
-     * {@link IllegalStateException}, as does each later call. Returns once all sessions have ended, unless the thread
-     * is interrupted.
+     * Ends all sessions, and waits for that. The jobs that they hold fail and come back to the queue. Threads that wait
+     * here get an {@link IllegalStateException}, as does each later call.
      */
     @Override
     public void close() {
@@ -341,32 +273,18 @@ public final class RemoteDelayQueue extends AbstractQueue<Job> implements Blocki
         return "RemoteDelayQueue[" + options.address() + "]";
     }
 
-    /** Can't be had, and throws {@link UnsupportedOperationException}: the server shows the head alone. */
+    /**
+     * Can't be had, as the server shows the head alone. It throws an {@link UnsupportedOperationException}, and so does
+     * all that is made of it: arrays, streams, {@code contains}.
+     */
     @Override
     public Iterator<Job> iterator() {
-        throw onlyHeadShown();
+        throw new UnsupportedOperationException("the server shows no job other than the head");
     }
 
-    /** Can't be had, and throws {@link UnsupportedOperationException}: the server shows the head alone. */
+    /** Can't be had, as {@link #iterator}. */
     @Override
     public Spliterator<Job> spliterator() {
-        throw onlyHeadShown();
-    }
-
-    /** Can't be had, and throws {@link UnsupportedOperationException}: the server shows the head alone. */
-    @Override
-    public Object[] toArray() {
-        throw onlyHeadShown();
-    }
-
-    /** Can't be had, and throws {@link UnsupportedOperationException}: the server shows the head alone. */
-    @Override
-    public <T> T[] toArray(T[] jobs) {
-        throw onlyHeadShown();
-    }
-
-    private static UnsupportedOperationException onlyHeadShown() {
-        return new UnsupportedOperationException(
-            "the server shows no job other than the head, so that no reply grows with the queue");
+        return Spliterators.spliteratorUnknownSize(iterator(), 0);
     }
 }

@@ -24,8 +24,6 @@ record Request<T>(String line, long longestWait, Pattern form, Reader<T> reader)
     private static final Pattern DRAINED = form("DRAINED ([1-5]?[0-9]|6[0-4])");
     private static final Pattern ITEM = form("ITEM @");
     private static final Pattern REMOVED = form("REMOVED (yes|no)");
-    private static final Pattern DONE = form("DONE #");
-    private static final Pattern FAILED = form("AGAIN # #|DEAD #");
 
     /** Of no effect and no call: the {@code AT} that a server refuses. Its reply tells that the session is served. */
     static final Request<Long> GREETING = of("AT 0", form("ERR 1 syntax|NOW #"), it -> number(it, 1));
@@ -51,9 +49,6 @@ record Request<T>(String line, long longestWait, Pattern form, Reader<T> reader)
     /** What became of an element that the queue accepted: its id, and the moment at which it expires. */
     record Placed(long id, long expiry) { }
 
-    /** What a wait brought: an element, null where none expired in time, or null since the server gave the wait up. */
-    record Awaited(Element element, boolean isGivenUp) { }
-
     /** Adds an element that expires {@code delay} nanoseconds from now. */
     static Request<Placed> offer(long delay, String payload) {
         return of("OFFER " + Long.toUnsignedString(delay) + " " + payload, OFFERED, Request::placed);
@@ -64,10 +59,9 @@ record Request<T>(String line, long longestWait, Pattern form, Reader<T> reader)
         return of("OFFERAT " + Long.toUnsignedString(expiry) + " " + payload, OFFERED, Request::placed);
     }
 
-    /** Takes a job, and waits for one up to {@code timeout} nanoseconds. */
-    static Request<Awaited> pollFor(long timeout) {
-        return new Request<>("POLLFOR " + timeout, timeout, AWAITED,
-            (first, rest) -> new Awaited(element(first), first.group().equals("STOPPED")));
+    /** Takes a job, and waits for one up to {@code timeout} nanoseconds. Returns null if the server gives up before. */
+    static Request<Element> pollFor(long timeout) {
+        return new Request<>("POLLFOR " + timeout, timeout, AWAITED, (first, rest) -> element(first));
     }
 
     /** Takes up to {@code most} jobs that have expired, and no more than the session may hold. */
@@ -81,15 +75,11 @@ record Request<T>(String line, long longestWait, Pattern form, Reader<T> reader)
         });
     }
 
-    /** Finishes the job that is held under this id. Returns null, as it does not come back. */
-    static Request<Placed> done(long id) {
-        return of("DONE " + Long.toUnsignedString(id), DONE, it -> gone(it, 1, id));
-    }
-
-    /** Fails the job that is held under this id. Returns null if it does not come back. */
-    static Request<Placed> fail(long id) {
-        return of("FAIL " + Long.toUnsignedString(id), FAILED,
-            it -> it.group(1) == null ? gone(it, 3, id) : placed(it));
+    /** Says that the job that is held under this id is done, or that it failed. Returns whether it comes back. */
+    static Request<Boolean> answer(long id, boolean isDone) {
+        String name = Long.toUnsignedString(id);
+        return isDone ? of("DONE " + name, form("DONE " + name), it -> false)
+            : of("FAIL " + name, form("AGAIN # #|DEAD " + name), it -> it.group(1) != null && placed(it) != null);
     }
 
     /** Takes the element of this id out of the queue. Returns whether it was there. */
@@ -100,14 +90,13 @@ record Request<T>(String line, long longestWait, Pattern form, Reader<T> reader)
     /** Receives the reply. Throws a {@link RefusedException}, or a {@link ProtocolException} if it is no such reply. */
     T receive(Connection connection) throws IOException {
         String line = connection.receiveLine();
-        RefusedException refusal = RefusedException.of(line);
-        if (refusal != null && !form.matcher(line).matches()) {
-            throw refusal;
+        if (RefusedException.BY_REPLY.containsKey(line)) {
+            throw new RefusedException(RefusedException.BY_REPLY.get(line));
         }
         try {
             return reader.read(matched(form, line), connection);
         } catch (IllegalArgumentException wrongNumber) {
-            throw new ProtocolException(line);
+            throw new ProtocolException("it sent '" + line + "'");
         }
     }
 
@@ -125,7 +114,7 @@ record Request<T>(String line, long longestWait, Pattern form, Reader<T> reader)
     private static MatchResult matched(Pattern form, String line) throws ProtocolException {
         Matcher words = form.matcher(line);
         if (!words.matches()) {
-            throw new ProtocolException(line);
+            throw new ProtocolException("it sent '" + line + "'");
         }
         return words;
     }
@@ -137,14 +126,6 @@ record Request<T>(String line, long longestWait, Pattern form, Reader<T> reader)
 
     private static Placed placed(MatchResult words) {
         return new Placed(number(words, 1), number(words, 2));
-    }
-
-    /** Null, as the element of this id is gone, which the line has to name. */
-    private static Placed gone(MatchResult words, int group, long id) {
-        if (number(words, group) != id) {
-            throw new IllegalArgumentException("another element");
-        }
-        return null;
     }
 
     /** What a line tells of an element, or null if it is another line. */

@@ -3,7 +3,6 @@ package rbbroker.client;
 import java.lang.System.Logger.Level;
 import java.util.HashMap;
 import java.util.Map;
-import java.util.concurrent.atomic.AtomicBoolean;
 
 /**
  * The runs of the server at one address, as the sessions of a queue show them.
@@ -15,16 +14,18 @@ import java.util.concurrent.atomic.AtomicBoolean;
 final class Runs {
     private static final System.Logger LOG = System.getLogger("rbbroker.client");
 
-    final ServerClock clock = new ServerClock();
     private final String address;
+    /** How far the server's clock is surely ahead of {@link System#nanoTime}, if anything is known of it. */
+    private long ahead;
+    private boolean isClockKnown;
     /** The contact whose moment was told for the first time last. */
     private Contact latest;
     /** The one before, unless the latest is known to continue it. */
     private Contact previous;
     /** The greatest id of each queue, with its moment. */
     private final Map<Integer, Contact.Told> greatest = new HashMap<>();
-    /** Whether the run was seen to be lost: false, until another one takes its place. */
-    private AtomicBoolean isLost = new AtomicBoolean();
+    /** How many were seen to be lost. */
+    volatile int losses;
 
     Runs(String address) {
         this.address = address;
@@ -32,19 +33,41 @@ final class Runs {
 
     /** A session has begun: its server has answered. */
     synchronized Contact begin() {
-        return new Contact(clock, greatest);
+        return new Contact(this, greatest);
+    }
+
+    /** A server was lost: the next one has a clock of its own. */
+    synchronized void forgetClock() {
+        isClockKnown = false;
+    }
+
+    /** The nanoseconds until a moment at the server, at the most. If nothing is known they count from moment 0. */
+    synchronized long until(long moment) {
+        long now = isClockKnown ? System.nanoTime() + ahead : 0;
+        long delay = moment - now;
+        boolean isToCome = Long.compareUnsigned(moment, now) >= 0;
+        return isToCome == delay >= 0 ? delay : isToCome ? Long.MAX_VALUE : Long.MIN_VALUE;
+    }
+
+    /** The server's moment at a time that has passed: 0 if it passed before the server's first. */
+    synchronized long momentOf(long time) {
+        long now = System.nanoTime();
+        return Long.compareUnsigned(now + ahead, now - time) < 0 ? 0 : time + ahead;
     }
 
     /** A server gave a new id to an offer, which was sent and answered at these times of {@link System#nanoTime}. */
     synchronized void tell(Contact contact, Contact.Told told, long sent, long received) {
-        clock.learn(told.moment(), sent, received);
         if (!contact.isTold) {
             noticeLoss(told, contact.before.get(told.queue()));
-            contact.isLost = isLost;
+            contact.losses = losses;
             previous = latest;
             latest = contact;
         }
         contact.learn(told.moment(), sent, received);
+        boolean isAnothers = told.moment() - sent - ahead < 0; // as it is behind what was known
+        long least = told.moment() - received;
+        ahead = isClockKnown && !isAnothers && least - ahead < 0 ? ahead : least;
+        isClockKnown = true;
         if (contact == latest && previous != null && contact.continues(previous)) {
             previous.continuedBy = contact;
             previous = null;
@@ -52,10 +75,14 @@ final class Runs {
         greatest.merge(told.queue(), told, (before, now) -> now.isBehind(before) ? before : now);
     }
 
-    /** Whether the server of a contact surely has all that the one of an earlier contact had. */
+    /** Whether the server of a contact surely has all that the one of an earlier contact had. Says so if not. */
     synchronized boolean isKnownToContinue(Contact contact, Contact earlier) {
         Contact last = earlier.last();
-        return last == contact.last() || contact.continues(last) || contact.continues(earlier);
+        boolean isKnown = last == contact.last() || contact.continues(last) || contact.continues(earlier);
+        if (!isKnown) {
+            LOG.log(Level.WARNING, "a job is not removed: the server at {0} may have lost its run", address);
+        }
+        return isKnown;
     }
 
     /** Says so, once, if what a server tells first shows that it lost the run in which the other was told before. */
@@ -68,8 +95,7 @@ final class Runs {
             return; // it was said when another session was told
         }
         greatest.clear();
-        isLost.set(true);
-        isLost = new AtomicBoolean();
+        losses++;
         LOG.log(Level.ERROR, "the server at {0} has lost a run: it gave the id {1} at the moment {2}, after the id {3}"
             + " at {4}. Jobs that were offered since that run began may be gone, and their ids are not used any more",
             address, Long.toUnsignedString(told.id()), Long.toUnsignedString(told.moment()),

@@ -1,40 +1,38 @@
 package rbbroker.client;
 
-import java.io.EOFException;
 import java.io.IOException;
+import java.net.ProtocolException;
+import java.util.Objects;
 import javax.net.ssl.SSLException;
 
 /**
  * There is no server, it serves nobody else at the moment, or it was lost before it answered.
  *
- * <p>{@link #isInDoubt} says whether the server may have carried out the call. What a call in doubt may have done:
+ * <p>The cause is a {@link ProtocolException} if the other side sent a line that answers no such request, and an
+ * {@link SSLException} if there is no TLS with it, such as where one side does not accept the other's certificate. The
+ * same call would meet the same fault then, so it is not made again.
  *
- * <ul>
- * <li>An offer may have been accepted. Offered again, the job may run twice; if not, it may never run.
- * <li>A call that takes jobs may have been given some. They fail with their session, and come back to the queue as
- *     their next attempts, unless these were their last ones.
- * <li>{@link Job#done} may have been heard. If not, the job comes back.
- * <li>{@link Job#fail} fails the job either way, since the session that held it has ended.
- * <li>A removal or a {@code clear} may have been carried out.
- * </ul>
+ * <p>A call {@linkplain #isInDoubt in doubt} may have been carried out. A job whose offer is in doubt may run twice if
+ * it is offered again, and never if it is not. Jobs that a call in doubt was given fail with their session, and come
+ * back to the queue as their next attempts, unless these were their last ones. So does a job whose {@link Job#done} was
+ * not heard. One whose {@link Job#fail} is in doubt has failed either way.
  */
-public class ServerLostException extends BrokerException {
+public final class ServerLostException extends BrokerException {
     private static final long serialVersionUID = 1;
 
     /** Whether the server may have carried out the call. */
     private final boolean isInDoubt;
 
-    ServerLostException(String text, boolean isInDoubt, boolean mayPass, Throwable cause) {
-        super(text + (isInDoubt ? "; the call is in doubt" : ""), mayPass, cause);
+    ServerLostException(String text, boolean isInDoubt, IOException cause) {
+        super(text + ": " + Objects.requireNonNullElse(cause.getMessage(), cause.getClass().getSimpleName())
+            + (isInDoubt ? "; the call is in doubt" : ""), mayPass(cause), cause);
         this.isInDoubt = isInDoubt;
     }
 
-    /** The fault of a connection: of TLS itself, or of one that was lost. */
-    static ServerLostException of(String text, boolean isInDoubt, IOException cause) {
-        String name = cause.getMessage() == null ? cause.getClass().getSimpleName() : cause.getMessage();
-        boolean isTls = cause instanceof SSLException && !(cause.getCause() instanceof EOFException);
-        return isTls ? new TlsException(text + ": " + name, isInDoubt, cause)
-            : new ServerLostException(text + ": " + name, isInDoubt, true, cause);
+    /** Whether the other side is not known to be another one than it must be. */
+    private static boolean mayPass(IOException cause) {
+        boolean isTls = cause instanceof SSLException && !(cause.getCause() instanceof IOException);
+        return !isTls && !(cause instanceof ProtocolException);
     }
 
     /** {@return whether the server may have carried out the call; if not, it surely did not} */

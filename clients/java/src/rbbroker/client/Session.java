@@ -1,15 +1,15 @@
 package rbbroker.client;
 
 import java.io.IOException;
-import java.lang.System.Logger.Level;
-import java.net.ProtocolException;
 import java.net.SocketTimeoutException;
 import java.util.List;
-import java.util.Locale;
 import java.util.Set;
 import java.util.concurrent.ConcurrentHashMap;
 import java.util.concurrent.TimeUnit;
 import java.util.function.BooleanSupplier;
+import java.util.function.Predicate;
+import java.util.stream.Collectors;
+import rbbroker.client.RefusedException.Reason;
 
 /**
  * A session with the server, from its connection to its end. The thread that the pool has lent it to may use it.
@@ -32,18 +32,10 @@ final class Session {
 
     /** How many jobs a session may hold. */
     static final int MOST_HELD = 64;
-
-    private static final System.Logger LOG = System.getLogger("rbbroker.client");
-    /** How long a thread that may be interrupted waits at a time before it looks. */
-    private static final long LOOK_AFTER = TimeUnit.MILLISECONDS.toNanos(50);
-    /** How long the reply to {@code QUIT} is waited for, whatever the patience is. */
-    private static final long FAREWELL = TimeUnit.SECONDS.toNanos(2);
-
     /** How long a session lasts while others may wait for a worker of the server. */
-    private static final long LONGEST_TURN = TimeUnit.SECONDS.toNanos(3);
-    /** How long a session waits for a worker if there is none left. A {@link #LONG_WAIT} is worth a line in the log. */
+    static final long LONGEST_TURN = TimeUnit.SECONDS.toNanos(3);
+    /** How long a session waits for a worker if there is none left. */
     private static final long WAIT = TimeUnit.SECONDS.toNanos(1);
-    private static final long LONG_WAIT = TimeUnit.SECONDS.toNanos(2);
     /** How long a session that has lasted long enough takes no jobs, so that it ends with those that it holds. */
     private static final long LAST_JOBS = TimeUnit.SECONDS.toNanos(5);
 
@@ -65,31 +57,36 @@ final class Session {
     volatile boolean isClosed;
 
     private final Options options;
-    private final Connection connection;
+    private final Connection connection = new Connection();
     private long begun;
-    private volatile boolean isFull;
 
-    /** A session that is to be opened. */
     Session(Options options) {
         this.options = options;
-        connection = options.tls() == null ? new Connection(options) : new TlsConnection(options);
         longest = options.longestSession();
     }
 
-    /**
-     * Connects, and waits until the session is served, or is no longer wanted. If it is interrupted then, nothing has
-     * been asked.
-     */
+    /** Connects, and waits until the session is served, or is no longer wanted. Before that nothing is asked. */
     void open(Runs runs, BooleanSupplier isWanted) throws InterruptedException {
+        long sent = System.nanoTime();
+        long deadline = sent + options.patience();
+        Predicate<Boolean> goesOn = isInterrupted -> !(isInterrupted && use == Use.WAIT) && isWanted.getAsBoolean();
+        String late = "it does not accept the connection";
         try {
-            awaitService(isWanted);
+            connection.open(options, deadline, goesOn);
+            late = "all its workers are busy";
+            connection.send(Request.GREETING.line() + "\n", deadline, goesOn);
+            Request.GREETING.receive(connection);
             begun = System.nanoTime();
+            if (begun - sent >= WAIT) {
+                longest = Math.min(longest, LONGEST_TURN);
+            }
             contact = runs.begin();
-        } catch (ProtocolException fault) {
-            String text = options.address() + " is no broker: it sent " + fault.getMessage();
-            throw new UnknownReplyException(text, false, fault);
         } catch (IOException fault) {
-            throw ServerLostException.of("no server at " + options.address(), false, fault);
+            if (use == Use.WAIT && Thread.interrupted()) {
+                throw new InterruptedException();
+            }
+            throw new ServerLostException("no server at " + options.address(), false,
+                fault instanceof SocketTimeoutException ? new SocketTimeoutException(late) : fault);
         } finally {
             if (!isServed()) {
                 close();
@@ -103,22 +100,18 @@ final class Session {
 
     /** Asks, and gives the answer. A server that is lost meanwhile leaves in doubt what changes anything. */
     <T> T ask(Request<T> request) {
-        return askAll(List.of(request), request.longestWait());
+        return askAll(List.of(request));
     }
 
-    /**
-     * Asks several requests in one piece, which may wait for so long, and gives the last answer. The first that is
-     * refused raises its refusal, when all were answered.
-     */
-    <T> T askAll(List<Request<T>> requests, long longestWait) {
-        StringBuilder text = new StringBuilder();
-        requests.forEach(it -> text.append(it.line()).append('\n'));
+    /** Asks several requests in one piece, and gives the last answer, or throws the first refusal. */
+    <T> T askAll(List<Request<T>> requests) {
+        String text = requests.stream().map(it -> it.line() + "\n").collect(Collectors.joining());
+        long wait = requests.stream().mapToLong(Request::longestWait).sum();
         long sent = System.nanoTime();
         T answer = null;
         RefusedException refusal = null;
-        boolean isAnswered = false;
         try {
-            connection.send(text.toString(), sent + options.patience() + longestWait);
+            connection.send(text, sent + options.patience() + wait, null);
             for (Request<T> it : requests) {
                 try {
                     answer = it.receive(connection);
@@ -126,22 +119,14 @@ final class Session {
                     refusal = refusal == null ? refused : refusal;
                 }
             }
-            isAnswered = true;
-        } catch (ProtocolException fault) {
-            String why = options.address() + " answered '" + fault.getMessage() + "' to " + text.toString().strip();
-            throw new UnknownReplyException(why, use != Use.LOOK, fault);
+            contact.until = sent;
         } catch (IOException fault) {
-            String why = "the server at " + options.address() + " was lost after " + text.toString().strip();
-            throw ServerLostException.of(why, use != Use.LOOK, fault);
-        } finally {
-            if (isAnswered) {
-                contact.answered(sent);
-            } else {
-                close(); // which line answers which request is no longer known
-            }
+            close(); // which line answers which request is no longer known
+            String what = "no answer of the server at " + options.address() + " to " + text.strip();
+            throw new ServerLostException(what, use != Use.LOOK, fault);
         }
         if (refusal != null) {
-            isFull |= refusal instanceof FullException;
+            longest = refusal.reason() == Reason.FULL ? 0 : longest;
             throw refusal;
         }
         return answer;
@@ -151,12 +136,9 @@ final class Session {
     void leave() {
         try {
             if (!isClosed) {
-                long sent = System.nanoTime();
-                connection.send("QUIT\n", sent + Math.min(FAREWELL, options.patience()));
-                Request.QUIT.receive(connection);
-                contact.answered(sent);
+                ask(Request.QUIT);
             }
-        } catch (IOException | RefusedException ignored) {
+        } catch (BrokerException ignored) {
             // it has ended in another way
         } finally {
             close();
@@ -165,22 +147,15 @@ final class Session {
 
     /** Looks whether it is lost, and if so closes it. */
     boolean isLost() {
-        if (!isClosed && connection.isLost()) {
+        if (isServed() && !isClosed && connection.isLost()) {
             close();
         }
         return isClosed;
     }
 
-    /** It lasts no longer than a turn, since others may wait for a worker of the server. Gives whether that is less. */
-    boolean makeWay() {
-        boolean isLess = longest > LONGEST_TURN;
-        longest = Math.min(longest, LONGEST_TURN);
-        return isLess;
-    }
-
     /** Whether it is to be left as soon as it holds no job. */
     boolean isToBeLeft() {
-        return isFull || System.nanoTime() - begun >= longest;
+        return System.nanoTime() - begun >= longest;
     }
 
     /**
@@ -190,42 +165,6 @@ final class Session {
     boolean isLeaving() {
         long over = System.nanoTime() - begun - longest;
         return over >= 0 && !held.isEmpty() && over / LAST_JOBS % 2 == 0;
-    }
-
-    /** Waits until the server has answered a request that costs nothing. */
-    private void awaitService(BooleanSupplier isWanted) throws IOException, InterruptedException {
-        long sent = System.nanoTime();
-        long deadline = sent + options.patience();
-        connection.begin();
-        while (!connection.awaitConnected(LOOK_AFTER)) {
-            goOn(deadline, isWanted, "it does not accept the connection");
-        }
-        connection.send(Request.GREETING.line() + "\n", deadline);
-        while (!connection.awaitInput(LOOK_AFTER)) {
-            goOn(deadline, isWanted, "all its workers are busy (waited " + secondsSince(sent) + ")");
-        }
-        Request.GREETING.receive(connection);
-        long waited = System.nanoTime() - sent;
-        if (waited >= WAIT) {
-            makeWay();
-        }
-        if (waited >= LONG_WAIT) {
-            LOG.log(Level.WARNING, "waited {0} for a worker of the server at {1}", secondsSince(sent),
-                options.address());
-        }
-    }
-
-    private static String secondsSince(long begun) {
-        return String.format(Locale.ROOT, "%.1f s", (System.nanoTime() - begun) / 1e9);
-    }
-
-    private void goOn(long deadline, BooleanSupplier isWanted, String why) throws IOException, InterruptedException {
-        if (use == Use.WAIT && Thread.interrupted()) {
-            throw new InterruptedException();
-        }
-        if (System.nanoTime() - deadline > 0 || !isWanted.getAsBoolean()) {
-            throw new SocketTimeoutException(why);
-        }
     }
 
     /** Hangs up. */

@@ -1,14 +1,14 @@
 package rbbroker.client;
 
-import java.lang.System.Logger.Level;
+import static java.util.concurrent.TimeUnit.NANOSECONDS;
+
+import java.io.EOFException;
 import java.util.ArrayList;
 import java.util.Comparator;
 import java.util.List;
 import java.util.Optional;
-import java.util.concurrent.ScheduledThreadPoolExecutor;
-import java.util.concurrent.ThreadPoolExecutor;
-import java.util.concurrent.TimeUnit;
-import java.util.function.Predicate;
+import java.util.concurrent.CompletableFuture;
+import rbbroker.client.RefusedException.Reason;
 import rbbroker.client.Session.Use;
 
 /**
@@ -18,17 +18,12 @@ import rbbroker.client.Session.Use;
  * that a call that does not wait finds one. A job can be answered on the session that holds it alone: who answers comes
  * before others that want this session.
  *
- * <p>A server may have fewer workers than there are to be sessions. Where it does not serve a further one in the time
- * of a wait, the others have to do for a while.
- *
- * <p>A session that has lasted long enough is left as soon as it is given back and holds no job. One that nobody uses
- * is left by a timer. So a server can end while queues lie idle. The first sessions that take jobs make way early, as
- * nobody knows then whether other clients wait for a worker of the server: those behind would be served after a wait.
+ * <p>Where a server does not serve a further session in the time of a wait, the others have to do for a while. A
+ * session that has lasted long enough is left as soon as it is given back and holds no job, and by a timer if nobody
+ * uses it. So a server can end while queues lie idle. The first sessions that take jobs make way early, as nobody knows
+ * then whether other clients wait for a worker of the server.
  */
 final class SessionPool {
-    private static final System.Logger LOG = System.getLogger("rbbroker.client");
-    /** How long a session that is to end may be kept by jobs before that is worth a line in the log. */
-    private static final long KEPT_LONG = TimeUnit.MINUTES.toNanos(1);
     /** Milliseconds after which a thread looks again, as a session may take jobs again, or a server serve another. */
     private static final long LOOK_AGAIN = 500;
 
@@ -36,7 +31,6 @@ final class SessionPool {
     private final Runs runs;
     /** Those that are served, and those that are being opened, which are lent. */
     private final List<Session> sessions = new ArrayList<>();
-    private final ScheduledThreadPoolExecutor timer;
     /** Threads that wait for a session for a call that does not wait at the server. They come before those that do. */
     private int calling;
     /** Whether a session that took jobs has been left, so that whoever waited then had a turn. */
@@ -48,13 +42,6 @@ final class SessionPool {
     SessionPool(Options options, Runs runs) {
         this.options = options;
         this.runs = runs;
-        timer = new ScheduledThreadPoolExecutor(1, work -> {
-            Thread thread = new Thread(work, "rbbroker-sessions-" + options.port());
-            thread.setDaemon(true);
-            return thread;
-        }, new ThreadPoolExecutor.DiscardPolicy());
-        timer.setKeepAliveTime(1, TimeUnit.SECONDS);
-        timer.allowCoreThreadTimeOut(true);
     }
 
     /** Lends a session for a call that does not wait, and that no interrupt ends. */
@@ -69,20 +56,19 @@ final class SessionPool {
     /** Lends a session for a use, or gives null if none can be had for so long. An interrupt ends a call that waits. */
     Session lend(Use use, long nanos) throws InterruptedException {
         long deadline = System.nanoTime() + nanos;
-        while (true) {
-            Session session = find(use, deadline);
-            if (session == null || session.isServed() || open(session)) {
-                return session;
-            }
-        }
+        Session session;
+        do {
+            session = find(use, deadline);
+        } while (session != null && !session.isServed() && !open(session));
+        return session;
     }
 
     /** Lends the session that shows its server so, if it goes on, or otherwise another one, for a change. */
     Session lend(Contact contact) {
         synchronized (this) {
-            Session session = sessions.stream().filter(it -> it.contact == contact).findFirst().orElse(null);
-            if (session != null && await(session) && !isClosed) {
-                return lent(session, Use.CHANGE);
+            Optional<Session> session = sessions.stream().filter(it -> it.contact == contact).findFirst();
+            if (session.isPresent() && await(session.get())) {
+                return lent(session.get(), Use.CHANGE);
             }
         }
         return lend(Use.CHANGE);
@@ -93,11 +79,10 @@ final class SessionPool {
         boolean goesOn = await(session);
         if (!session.held.contains(id)) {
             notifyAll();
-            throw new NotHeldException("the job has been answered");
-        }
-        if (!goesOn) {
-            throw new ServerLostException("the session that held job " + Long.toUnsignedString(id)
-                + " has ended, and so the job failed", false, true, null);
+            throw new RefusedException(Reason.NOT_HELD);
+        } else if (!goesOn) {
+            var fault = new EOFException("the session that held it has ended");
+            throw new ServerLostException("job " + Long.toUnsignedString(id) + " failed", false, fault);
         }
         lent(session, Use.CHANGE);
     }
@@ -111,7 +96,7 @@ final class SessionPool {
         synchronized (this) {
             session.use = null;
             if (isLost) {
-                forgetLost(it -> it == session);
+                forgetIfLost(session);
             } else if (session.isClosed) {
                 sessions.remove(session);
                 hasMadeWay |= session.taker != 0;
@@ -120,12 +105,9 @@ final class SessionPool {
         }
     }
 
-    /**
-     * Ends all sessions, each once it is given back. The jobs that they hold fail. Waits for that, but not for ever.
-     */
+    /** Ends all sessions, each once it is given back. Waits for that, but not for ever. */
     synchronized void close() {
         isClosed = true;
-        timer.shutdownNow();
         notifyAll();
         for (Session it : sessions.stream().filter(it -> it.use == null).toList()) {
             it.leave();
@@ -134,7 +116,7 @@ final class SessionPool {
         long deadline = System.nanoTime() + options.patience() + options.longestWait();
         try {
             while (!sessions.isEmpty() && deadline - System.nanoTime() > 0) {
-                TimeUnit.NANOSECONDS.timedWait(this, deadline - System.nanoTime());
+                NANOSECONDS.timedWait(this, deadline - System.nanoTime());
             }
         } catch (InterruptedException interrupt) {
             Thread.currentThread().interrupt();
@@ -147,16 +129,16 @@ final class SessionPool {
             if (isClosed) {
                 throw new IllegalStateException("the queue is closed");
             }
-            Optional<Session> session = choose(use);
-            if (session.isPresent()) {
-                return lent(session.get(), use);
-            }
+            Session session = choose(use);
             long left = deadline - System.nanoTime();
-            if (left <= 0) {
+            if (session != null) {
+                if (!forgetIfLost(session)) {
+                    return lent(session, use);
+                }
+            } else if (left <= 0) {
                 return null;
-            }
-            if (use == Use.WAIT) {
-                TimeUnit.NANOSECONDS.timedWait(this, left);
+            } else if (use == Use.WAIT) {
+                NANOSECONDS.timedWait(this, left);
             } else {
                 calling++;
                 awaitChange();
@@ -185,8 +167,7 @@ final class SessionPool {
             awaitChange();
         }
         session.answering--;
-        forgetLost(it -> it == session);
-        return !session.isClosed;
+        return !session.isClosed && !forgetIfLost(session);
     }
 
     /** Marks a session as lent. */
@@ -194,54 +175,55 @@ final class SessionPool {
         session.use = use;
         if (use.takes()) {
             session.taker = Thread.currentThread().getId();
-            if (!hasMadeWay && session.makeWay()) {
-                watch(session);
+            if (!hasMadeWay) {
+                makeWay(session);
             }
         }
         return session;
     }
 
-    /** A session that can be lent, or a new one. */
-    private Optional<Session> choose(Use use) {
+    /** A session lasts no longer than a turn, since others may wait for a worker of the server. */
+    private void makeWay(Session session) {
+        if (session.longest > Session.LONGEST_TURN) {
+            session.longest = Session.LONGEST_TURN;
+            watch(session);
+        }
+    }
+
+    /** A session that can be lent, or a new one, or null. */
+    private Session choose(Use use) {
         if (use == Use.WAIT && sessions.stream().filter(it -> it.use == Use.WAIT).count() >= options.waiters()) {
-            return Optional.empty();
+            return null;
         }
-        forgetLost(it -> true);
-        if (use == Use.WAIT && calling > 0) {
-            return another();
-        }
+        boolean isToYield = use == Use.WAIT && calling > 0;
+        List<Session> free = sessions.stream().filter(it -> !isToYield && isFree(it)).toList();
         if (!use.takes()) {
-            return first(it -> true).or(this::another);
+            return free.isEmpty() ? another() : free.get(0);
         }
         // A thread takes its jobs on one session if it can: so none of them waits for another thread to be answered.
         long thread = Thread.currentThread().getId();
-        return first(it -> it.taker == thread && it.held.size() < Session.MOST_HELD && !it.isLeaving())
-            .or(() -> first(it -> it.held.isEmpty())).or(this::another).or(this::fewestHeld);
-    }
-
-    private Optional<Session> first(Predicate<Session> isRight) {
-        return sessions.stream().filter(SessionPool::isFree).filter(isRight).findFirst();
-    }
-
-    private Optional<Session> fewestHeld() {
-        Comparator<Session> byHeld = Comparator.comparingInt(it -> it.held.size());
-        return sessions.stream().filter(it -> isFree(it) && !it.isLeaving()).min(byHeld);
+        List<Session> staying = free.stream().filter(it -> !it.isLeaving()).toList();
+        return staying.stream().filter(it -> it.taker == thread && it.held.size() < Session.MOST_HELD).findFirst()
+            .or(() -> staying.stream().filter(it -> it.held.isEmpty()).findFirst())
+            .or(() -> Optional.ofNullable(another()))
+            .or(() -> staying.stream().min(Comparator.comparingInt(it -> it.held.size()))).orElse(null);
     }
 
     private static boolean isFree(Session session) {
         return session.use == null && session.answering == 0;
     }
 
-    /** A further session, if there is a place. One that is leaving keeps no place, if that is not many. */
-    private Optional<Session> another() {
-        int leaving = (int) sessions.stream().filter(Session::isLeaving).count();
-        int staying = sessions.size() - Math.min(leaving, options.sessions());
+    /** A further session, or null if there is no place. One that is leaving keeps no place, if that is not many. */
+    private Session another() {
+        long most = options.waiters() + 1;
+        long leaving = Math.min(most, sessions.stream().filter(Session::isLeaving).count());
         boolean isCrowded = hasServed() && System.nanoTime() - crowdedUntil < 0;
-        if (staying >= options.sessions() || isCrowded) {
-            return Optional.empty();
+        if (sessions.size() - leaving >= most || isCrowded) {
+            return null;
         }
-        sessions.add(new Session(options));
-        return Optional.of(sessions.get(sessions.size() - 1));
+        var session = new Session(options);
+        sessions.add(session);
+        return session;
     }
 
     private boolean hasServed() {
@@ -277,10 +259,7 @@ final class SessionPool {
             return isClosed;
         }
         crowdedUntil = System.nanoTime() + options.longestSession();
-        sessions.stream().filter(Session::isServed).forEach(it -> {
-            it.makeWay();
-            watch(it);
-        });
+        sessions.stream().filter(Session::isServed).forEach(this::makeWay);
         return true;
     }
 
@@ -288,19 +267,19 @@ final class SessionPool {
     private synchronized void endOpening(Session session) {
         if (session.isServed()) {
             watch(session);
-            timer.schedule(() -> warnIfKept(session), session.longest + KEPT_LONG, TimeUnit.NANOSECONDS);
         } else {
             sessions.remove(session);
             if (!hasServed()) {
-                runs.clock.forget();
+                runs.forgetClock();
             }
         }
         notifyAll();
     }
 
-    /** Has the timer look after a session when it has lasted long enough. */
+    /** Has a thread look after a session when it has lasted long enough. */
     private void watch(Session session) {
-        timer.schedule(() -> leaveIfIdle(session), session.longest, TimeUnit.NANOSECONDS);
+        CompletableFuture.delayedExecutor(session.longest, NANOSECONDS, work -> new Thread(work).start())
+            .execute(() -> leaveIfIdle(session));
     }
 
     private void leaveIfIdle(Session session) {
@@ -313,21 +292,16 @@ final class SessionPool {
         giveBack(session);
     }
 
-    private static void warnIfKept(Session session) {
-        if (!session.isClosed && !session.held.isEmpty()) {
-            LOG.log(Level.WARNING, "a session should have ended a minute ago, and jobs without an answer keep it: {0}",
-                session.held);
-        }
-    }
-
     /**
-     * Forgets those of these sessions that nobody uses and that have ended, but were not left. Their server may have
-     * ended, and the next one has another clock.
+     * Forgets a session that nobody uses, if it has ended but was not left. Its server may have ended, and the next one
+     * has another clock. Gives whether it did.
      */
-    private void forgetLost(Predicate<Session> these) {
-        if (sessions.removeIf(it -> it.use == null && these.test(it) && it.isLost())) {
-            runs.clock.forget();
+    private boolean forgetIfLost(Session session) {
+        if (session.isLost()) {
+            sessions.remove(session);
+            runs.forgetClock();
             notifyAll();
         }
+        return session.isClosed;
     }
 }

@@ -1,7 +1,5 @@
 package rbbroker.client;
 
-import static java.util.concurrent.TimeUnit.MILLISECONDS;
-
 import java.util.ArrayList;
 import java.util.Collection;
 import java.util.List;
@@ -23,8 +21,6 @@ import org.junit.runners.Parameterized.Parameters;
 public abstract class EveryQueueTest extends QueueTest {
     /** More than any test waits for an element that is not to come. */
     static final long FAR = 600_000;
-
-    private static final int SESSIONS = 60;
 
     /** The JDK's own, and those at a server whose jobs are gone when they are taken, or held until they are done. */
     public enum Kind { JDK, ON_TAKE, BY_CALL }
@@ -48,15 +44,10 @@ public abstract class EveryQueueTest extends QueueTest {
     }
 
     private RemoteDelayQueue newRemoteQueue() throws Exception {
-        Server server = opened(Server.start("--workers", 8, "--sessions", SESSIONS, "--calls", 200_000, "--history",
+        Server server = opened(Server.start("--workers", 8, "--sessions", 60, "--calls", 200_000, "--history",
             path("history")));
-        opened(() -> {
-            server.useUp();
-            List<String> lines = server.end();
-            assertEquals("sessions " + SESSIONS + " faults 0 lost 0", lines.get(0));
-            assertEquals(Server.replay(path("history")), lines.get(1));
-        });
-        return opened(new RemoteDelayQueue(server.port(), Acknowledge.valueOf(kind.name())));
+        opened(() -> server.assertEnds(0, path("history")));
+        return opened(new RemoteDelayQueue.Builder(server.port(), Acknowledge.valueOf(kind.name())).build());
     }
 
     final boolean isRemote() {
@@ -102,10 +93,5 @@ public abstract class EveryQueueTest extends QueueTest {
 
     static List<String> numbers(int count) {
         return IntStream.range(0, count).mapToObj(it -> String.format("%04d", it)).toList();
-    }
-
-    static void assertAtLeast(long millis, long begun) {
-        long passed = System.nanoTime() - begun;
-        assertTrue(passed + " ns are less than " + millis + " ms", passed >= MILLISECONDS.toNanos(millis));
     }
 }

@@ -9,11 +9,9 @@ import java.net.Socket;
 import java.nio.charset.StandardCharsets;
 import java.util.List;
 import java.util.concurrent.CopyOnWriteArrayList;
-import java.util.concurrent.ThreadLocalRandom;
 import java.util.concurrent.TimeUnit;
 import java.util.stream.Stream;
 import javax.net.ServerSocketFactory;
-import javax.net.ssl.SSLContext;
 import javax.net.ssl.SSLSocket;
 
 /** A server that plays a script for each connection, in the order in which they come, and hangs up at its end. */
@@ -33,7 +31,7 @@ final class FakeServer implements AutoCloseable {
     }
 
     private FakeServer(ServerSocketFactory factory, Iterable<Script> scripts) throws IOException {
-        door = openDoor(factory);
+        door = factory.createServerSocket(0, 200, InetAddress.getLoopbackAddress());
         playing = QueueTest.start(() -> {
             for (Script script : scripts) {
                 Socket socket = door.accept();
@@ -44,14 +42,9 @@ final class FakeServer implements AutoCloseable {
         });
     }
 
-    /** A server that passes on what its clients and the server at another port say, and knows the clients by TLS. */
-    static FakeServer before(int port, SSLContext side) throws IOException {
-        return new FakeServer(side.getServerSocketFactory(), passing(port));
-    }
-
-    /** A server that passes on what its clients and the server at another port say. */
-    static FakeServer before(int port) throws IOException {
-        return new FakeServer(ServerSocketFactory.getDefault(), passing(port));
+    /** A server that passes on what its clients, which connect by this factory, and the server at another port say. */
+    static FakeServer before(int port, ServerSocketFactory factory) throws IOException {
+        return new FakeServer(factory, () -> Stream.<Script>generate(() -> talk -> talk.passTo(port)).iterator());
     }
 
     int port() {
@@ -77,24 +70,6 @@ final class FakeServer implements AutoCloseable {
         for (Socket it : sockets) {
             it.close();
         }
-    }
-
-    /** Listens at a port that nobody else uses. */
-    private static ServerSocket openDoor(ServerSocketFactory factory) throws IOException {
-        for (int tries = 0; ; tries++) {
-            try {
-                int port = ThreadLocalRandom.current().nextInt(22_000, 22_500);
-                return factory.createServerSocket(port, 200, InetAddress.getLoopbackAddress());
-            } catch (IOException inUse) {
-                if (tries == 20) {
-                    throw inUse;
-                }
-            }
-        }
-    }
-
-    private static Iterable<Script> passing(int port) {
-        return () -> Stream.<Script>generate(() -> talk -> talk.passTo(port)).iterator();
     }
 
     private static Void play(Script script, Socket socket) throws Exception {
@@ -139,23 +114,9 @@ final class FakeServer implements AutoCloseable {
             return hear("AT 0").say("ERR 1 syntax");
         }
 
-        /** Answers the first request, a poll, with the element 4. */
-        Talk give() throws IOException {
-            return greet().hear("POLL").say("ITEM 4 0 1 a");
-        }
-
         /** Expects a line that begins so. */
         Talk hear(String begin) throws IOException {
             heard(begin);
-            return this;
-        }
-
-        /** Expects this word with a number of at least 1 and at most {@code most}. */
-        Talk hearNumber(String word, long most) throws IOException {
-            long number = Long.parseLong(heard(word + " "));
-            if (number < 1 || number > most) {
-                throw new AssertionError("heard " + word + " " + number);
-            }
             return this;
         }
 
@@ -185,11 +146,6 @@ final class FakeServer implements AutoCloseable {
             }
         }
 
-        /** Expects that the client leaves. */
-        void hearFarewell() throws IOException {
-            hear("QUIT").say("BYE").hearNothing();
-        }
-
         Talk say(String line) throws IOException {
             return sayBytes(line + "\n");
         }
@@ -205,7 +161,7 @@ final class FakeServer implements AutoCloseable {
         }
 
         /** Expects a line that begins so. Returns the rest. */
-        private String heard(String begin) throws IOException {
+        String heard(String begin) throws IOException {
             String line = lines.readLine();
             if (line == null || !line.startsWith(begin)) {
                 throw new AssertionError("heard " + line + " in place of " + begin);

@@ -16,7 +16,7 @@ public final class HostileProducer {
      * @throws InterruptedException never, as nobody interrupts this thread
      */
     public static void main(String[] words) throws InterruptedException {
-        try (RemoteDelayQueue queue = RemoteDelayQueue.builder(Integer.parseInt(words[0]), Acknowledge.BY_CALL)
+        try (RemoteDelayQueue queue = new RemoteDelayQueue.Builder(Integer.parseInt(words[0]), Acknowledge.BY_CALL)
                 .waiters(1).longestSession(Duration.ofSeconds(1)).patience(Duration.ofMinutes(10)).build()) {
             for (int number = 0; number < Integer.parseInt(words[1]); number++) {
                 int delay = ThreadLocalRandom.current().nextInt(-5, 500);

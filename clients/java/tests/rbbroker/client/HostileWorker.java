@@ -19,7 +19,7 @@ public final class HostileWorker {
     private final FileOutputStream log;
 
     private HostileWorker(int port, String log) throws IOException {
-        queue = RemoteDelayQueue.builder(port, Acknowledge.BY_CALL).waiters(THREADS)
+        queue = new RemoteDelayQueue.Builder(port, Acknowledge.BY_CALL).waiters(THREADS)
             .longestWait(Duration.ofMillis(100)).longestSession(Duration.ofSeconds(2)).patience(Duration.ofMinutes(10))
             .build();
         this.log = new FileOutputStream(log, true);
@@ -73,7 +73,10 @@ public final class HostileWorker {
             return "done";
         } catch (ServerLostException fault) {
             return fault.isInDoubt() ? "doubt" : "back";
-        } catch (FullException full) {
+        } catch (RefusedException refusal) {
+            if (refusal.reason() != RefusedException.Reason.FULL) {
+                throw refusal;
+            }
             return "gone";
         }
     }

@@ -6,8 +6,12 @@ import static java.util.concurrent.TimeUnit.MINUTES;
 
 import java.util.List;
 import java.util.Map;
+import java.util.concurrent.CopyOnWriteArrayList;
 import java.util.function.LongSupplier;
 import java.util.logging.Level;
+import java.util.logging.LogRecord;
+import java.util.logging.Logger;
+import java.util.logging.SimpleFormatter;
 import org.junit.Test;
 
 /** Ids of a run that may be lost: which server they are used at. */
@@ -34,10 +38,11 @@ public class LostRunTest extends QueueTest {
         FakeServer.Script second = talk -> {
             talk.greet().accept(id, AHEAD - behind.getAsLong()).hear("REMOVE " + id).say("REMOVED yes");
             rest.play(talk);
+            talk.hear("QUIT").say("BYE").hearNothing();
         };
         try (FakeServer server = new FakeServer(this::playFirst, second)) {
             boolean isRemoved;
-            try (RemoteDelayQueue queue = RemoteDelayQueue.builder(server.port(), Acknowledge.BY_CALL).build()) {
+            try (RemoteDelayQueue queue = new RemoteDelayQueue.Builder(server.port(), Acknowledge.BY_CALL).build()) {
                 Job job = in(600_000, "a");
                 queue.offer(job);
                 assertEquals(5, job.id());
@@ -52,18 +57,18 @@ public class LostRunTest extends QueueTest {
     }
 
     private boolean isAsked(long id, LongSupplier behind) throws Exception {
-        FakeServer.Script asked = talk -> talk.hear("REMOVE 5").say("REMOVED yes").hearFarewell();
+        FakeServer.Script asked = talk -> talk.hear("REMOVE 5").say("REMOVED yes");
         return removed(id, behind, asked);
     }
 
     private boolean isNotAsked(long id, LongSupplier behind) throws Exception {
-        return !removed(id, behind, FakeServer.Talk::hearFarewell);
+        return !removed(id, behind, talk -> { });
     }
 
     @Test
     public void theSameServerIsAskedForTheJob() throws Exception {
         assertTrue(isAsked(6, () -> 0));
-        assertFalse(removed(6, () -> 0, talk -> talk.hear("REMOVE 5").say("REMOVED no").hearFarewell()));
+        assertFalse(removed(6, () -> 0, talk -> talk.hear("REMOVE 5").say("REMOVED no")));
     }
 
     @Test
@@ -112,6 +117,27 @@ public class LostRunTest extends QueueTest {
             assertEquals(List.of(), log.lines(Level.SEVERE));
             runs.tell(runs.begin(), new Contact.Told(64 * 2, date + 300), now, now);
             assertEquals(1, log.lines(Level.SEVERE).size());
+        }
+    }
+
+    /** What the package logs, until this is closed. */
+    private static final class Log implements AutoCloseable {
+        private final Logger logger = Logger.getLogger("rbbroker.client");
+        private final List<LogRecord> records = new CopyOnWriteArrayList<>();
+
+        Log() {
+            logger.setFilter(records::add);
+        }
+
+        /** The lines of a level. */
+        List<String> lines(Level level) {
+            var formatter = new SimpleFormatter();
+            return records.stream().filter(it -> it.getLevel().equals(level)).map(formatter::formatMessage).toList();
+        }
+
+        @Override
+        public void close() {
+            logger.setFilter(null);
         }
     }
 }

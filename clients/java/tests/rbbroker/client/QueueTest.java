@@ -14,6 +14,7 @@ import java.util.concurrent.FutureTask;
 import org.junit.After;
 import org.junit.Assert;
 import org.junit.Rule;
+import org.junit.function.ThrowingRunnable;
 import org.junit.rules.TemporaryFolder;
 import org.junit.rules.Timeout;
 
@@ -50,6 +51,10 @@ public abstract class QueueTest extends Assert {
 
     static Job in(long millis, String payload) {
         return new Job(payload, millis, MILLISECONDS);
+    }
+
+    static void assertRefused(RefusedException.Reason reason, ThrowingRunnable call) {
+        assertEquals(reason, assertThrows(RefusedException.class, call).reason());
     }
 
     /** What a thread of its own does. */

@@ -1,13 +1,9 @@
 package rbbroker.client;
 
-import static java.nio.charset.StandardCharsets.US_ASCII;
 import static java.util.concurrent.TimeUnit.MILLISECONDS;
 import static java.util.concurrent.TimeUnit.NANOSECONDS;
 import static java.util.concurrent.TimeUnit.SECONDS;
 
-import java.io.BufferedReader;
-import java.io.InputStreamReader;
-import java.net.Socket;
 import java.time.Duration;
 import java.util.ArrayList;
 import java.util.Collections;
@@ -15,6 +11,7 @@ import java.util.List;
 import java.util.stream.IntStream;
 import java.util.stream.Stream;
 import org.junit.Test;
+import rbbroker.client.RefusedException.Reason;
 
 /**
  * What a queue at a server has beyond the JDK's: jobs that are held, sessions that end, servers that follow each other.
@@ -25,19 +22,12 @@ public class ServedTest extends QueueTest {
     private Server server;
     private boolean isToEnd;
 
-    /** Starts a server that ends in good order when its queues, of which this gives one, have used all its sessions. */
+    /** Starts a server that ends in good order when its queues, of which this gives one, are closed. */
     private RemoteDelayQueue serve(int workers, int sessions, Object... more) throws Exception {
         Object[] options = {"--workers", workers, "--sessions", sessions, "--history", path("history")};
         server = opened(Server.start(Stream.of(options, POLICY, more).flatMap(Stream::of).toArray()));
         isToEnd = true;
-        opened(() -> assertEnded(0));
-        return byCall();
-    }
-
-    /** The same with a server whose queues leave some sessions, which are used up when they are closed. */
-    private RemoteDelayQueue serveMore(int workers, int sessions, Object... more) throws Exception {
-        serve(workers, sessions, more);
-        opened(() -> server.useUp());
+        opened(() -> assertEnds(0));
         return byCall();
     }
 
@@ -47,18 +37,16 @@ public class ServedTest extends QueueTest {
         server = opened(Server.startAt(server.port(), options));
     }
 
-    /** Expects that the server has ended in good order, with this many jobs lost, unless that was seen before. */
-    private void assertEnded(int lost) throws Exception {
+    /** Expects that the server ends in good order, with this many jobs lost, unless that was seen before. */
+    private void assertEnds(int lost) throws Exception {
         if (isToEnd) {
             isToEnd = false;
-            List<String> lines = server.end();
-            assertTrue(lines.get(0), lines.get(0).matches("sessions \\d+ faults 0 lost " + lost));
-            assertEquals(lines.get(1), Server.replay(path("history"), POLICY));
+            server.assertEnds(lost, path("history"), POLICY);
         }
     }
 
     private RemoteDelayQueue.Builder builder() {
-        return RemoteDelayQueue.builder(server.port(), Acknowledge.BY_CALL);
+        return new RemoteDelayQueue.Builder(server.port(), Acknowledge.BY_CALL);
     }
 
     private RemoteDelayQueue byCall() {
@@ -66,7 +54,7 @@ public class ServedTest extends QueueTest {
     }
 
     private RemoteDelayQueue onTake(long longestSession) {
-        return opened(RemoteDelayQueue.builder(server.port(), Acknowledge.ON_TAKE)
+        return opened(new RemoteDelayQueue.Builder(server.port(), Acknowledge.ON_TAKE)
             .longestSession(Duration.ofMillis(longestSession)).build());
     }
 
@@ -95,34 +83,15 @@ public class ServedTest extends QueueTest {
     // Jobs.
 
     @Test
-    public void aJobThatFailsComesBackUntilItsLastAttempt() throws Exception {
-        RemoteDelayQueue queue = serve(2, 1);
-        queue.offer(due("letter"));
-        for (int attempt = 1; attempt <= 3; attempt++) {
-            Job job = queue.take();
-            assertEquals("letter", job.payload());
-            assertEquals(attempt, job.attempt());
-            assertEquals(attempt < 3, job.fail());
+    public void rows() throws Exception {
+        for (String row : Steps.rows("served.txt")) {
+            String[] columns = row.split(" \\| ");
+            serve(1, 30, "--calls", columns[0]);
+            try (RemoteDelayQueue queue = builder().patience(Duration.ofSeconds(1)).build()) {
+                new Steps(queue).play(columns[2]);
+            }
+            assertEnds(Integer.parseInt(columns[1]));
         }
-        assertNull(queue.poll(20, MILLISECONDS));
-    }
-
-    @Test
-    public void aJobIsAnsweredOnceByWhoeverHasIt() throws Exception {
-        RemoteDelayQueue queue = serveMore(2, 2);
-        Job offered = due("a");
-        assertThrows(NotHeldException.class, offered::done);
-        queue.offer(offered);
-        assertThrows(NotHeldException.class, offered::done);
-        assertThrows(NotHeldException.class, queue.peek()::fail);
-        Job job = queue.take();
-        start(() -> {
-            job.done();
-            return null;
-        }).get(30, SECONDS);
-        assertThrows(NotHeldException.class, job::done);
-        assertThrows(NotHeldException.class, job::fail);
-        assertEquals(0, queue.size());
     }
 
     @Test
@@ -132,7 +101,7 @@ public class ServedTest extends QueueTest {
             queue.offer(due("a"));
             Job job = queue.take();
             job.done();
-            assertThrows(NotHeldException.class, job::fail);
+            assertRefused(Reason.NOT_HELD, job::fail);
             queue.addAll(List.of(due("b"), due("c")));
             assertEquals(2, queue.drainTo(new ArrayList<>()));
         }
@@ -197,37 +166,13 @@ public class ServedTest extends QueueTest {
         while (jobs.size() < 128) {
             jobs.add(queue.take());
         }
-        assertThrows(TooManyHeldException.class, queue::take);
-        assertThrows(TooManyHeldException.class, queue::poll);
-        assertThrows(TooManyHeldException.class, () -> queue.poll(1, SECONDS));
-        assertThrows(TooManyHeldException.class, () -> queue.drainTo(new ArrayList<>()));
+        assertRefused(Reason.TOO_MANY_HELD, queue::take);
+        assertRefused(Reason.TOO_MANY_HELD, queue::poll);
+        assertRefused(Reason.TOO_MANY_HELD, () -> queue.poll(1, SECONDS));
+        assertRefused(Reason.TOO_MANY_HELD, () -> queue.drainTo(new ArrayList<>()));
         assertEquals(1, queue.size());
         jobs.forEach(Job::done);
         queue.take().done();
-    }
-
-    @Test
-    public void momentsOf64Bits() throws Exception {
-        RemoteDelayQueue queue = serve(2, 2);
-        try (Socket socket = server.connect()) {
-            BufferedReader lines = new BufferedReader(new InputStreamReader(socket.getInputStream(), US_ASCII));
-            String offers = "OFFERAT 18446744073709551615 b\nOFFERAT 9223372036854775808 a\n";
-            socket.getOutputStream().write(offers.getBytes(US_ASCII));
-            assertEquals("OFFERED 0 18446744073709551615", lines.readLine());
-            assertEquals("OFFERED 1 9223372036854775808", lines.readLine());
-            queue.offer(in(600_000, "soon"));
-            Job soon = queue.peek();
-            assertTrue(soon.getDelay(SECONDS) > 500);
-            assertTrue(queue.remove(soon));
-            Job earlier = queue.peek();
-            assertEquals("a", earlier.payload());
-            assertTrue(soon.compareTo(earlier) < 0);
-            assertTrue(earlier.getDelay(NANOSECONDS) > Long.MAX_VALUE - SECONDS.toNanos(120));
-            assertTrue(queue.remove(earlier));
-            assertTrue(earlier.compareTo(queue.peek()) < 0);
-            assertEquals(Long.MAX_VALUE, queue.peek().getDelay(NANOSECONDS));
-            assertNull(queue.poll());
-        }
     }
 
     @Test
@@ -246,29 +191,21 @@ public class ServedTest extends QueueTest {
     // Sessions.
 
     @Test
-    public void anIdleQueueLeavesItsServer() throws Exception {
-        serve(1, 1);
+    public void aSessionIsKeptWhileItHoldsAJobAndAnIdleQueueLeavesItsServer() throws Exception {
+        serve(1, 2);
         RemoteDelayQueue queue = opened(builder().longestSession(Duration.ofMillis(300)).build());
         queue.offer(due("a"));
-        queue.take().done();
-        assertEnded(0);
-    }
-
-    @Test
-    public void aSessionIsKeptWhileItHoldsAJob() throws Exception {
-        serve(1, 1);
-        RemoteDelayQueue queue = opened(builder().longestSession(Duration.ofMillis(100)).build());
-        queue.offer(due("a"));
         Job job = queue.take();
-        Thread.sleep(500);
+        Thread.sleep(600);
         assertEquals(0, queue.size());
         job.done();
-        assertEnded(0);
+        assertEquals(0, queue.size()); // in the second session, which a timer ends
+        assertEnds(0);
     }
 
     @Test
     public void aThreadThatWaitsGoesFromSessionToSession() throws Exception {
-        serveMore(2, 6);
+        serve(2, 6);
         RemoteDelayQueue queue = opened(builder().longestSession(Duration.ofMillis(200))
             .longestWait(Duration.ofMillis(20)).build());
         List<Work<String>> taken = startTaking(queue, 1);
@@ -302,17 +239,8 @@ public class ServedTest extends QueueTest {
     }
 
     @Test
-    public void aThreadThatHoldsJobsNeedsOneWorkerOfTheServer() throws Exception {
-        RemoteDelayQueue queue = serve(1, 1);
-        offer(queue, 3);
-        List<Job> jobs = List.of(queue.take(), queue.take(), queue.poll());
-        assertEquals(0, queue.size());
-        jobs.forEach(Job::done);
-    }
-
-    @Test
     public void aServerWithFewerWorkersThanThreads() throws Exception {
-        RemoteDelayQueue queue = serveMore(1, 20);
+        RemoteDelayQueue queue = serve(1, 20);
         List<Work<String>> taken = startTaking(queue, 3);
         Thread.sleep(500);
         queue.addAll(List.of(due("a"), due("b"), due("c")));
@@ -321,7 +249,7 @@ public class ServedTest extends QueueTest {
 
     @Test
     public void aJobIsAnsweredWhileTheThreadThatTookItWaits() throws Exception {
-        serveMore(1, 50); // the wait may outlast a session, which another one follows
+        serve(1, 50); // the wait may outlast a session, which another one follows
         RemoteDelayQueue queue = opened(builder().longestWait(Duration.ofMillis(100)).build());
         queue.offer(due("a"));
         Job job = queue.take();
@@ -335,7 +263,7 @@ public class ServedTest extends QueueTest {
 
     @Test
     public void aQueueThatIsClosedWhileAThreadWaits() throws Exception {
-        RemoteDelayQueue queue = serveMore(2, 2);
+        RemoteDelayQueue queue = serve(2, 2);
         Work<Throwable> wait = start(() -> assertThrows(Throwable.class, queue::take));
         Thread.sleep(300);
         queue.close();
@@ -344,44 +272,7 @@ public class ServedTest extends QueueTest {
         assertThrows(IllegalStateException.class, queue::size);
     }
 
-    @Test
-    public void manyQueuesAtOneServer() throws Exception {
-        serve(4, 4);
-        List<RemoteDelayQueue> queues = List.of(byCall(), byCall(), byCall(), byCall());
-        queues.forEach(it -> it.offer(due("a")));
-        for (RemoteDelayQueue it : queues) {
-            it.take().done();
-        }
-        assertEquals(0, queues.get(0).size());
-    }
-
     // Servers.
-
-    @Test
-    public void aFullRun() throws Exception {
-        serve(1, 30, "--calls", 3);
-        RemoteDelayQueue queue = opened(builder().patience(Duration.ofMillis(500)).build());
-        offer(queue, 2);
-        Job job = queue.take();
-        assertThrows(FullException.class, () -> queue.offer(due("c")));
-        assertThrows(FullException.class, queue::size);
-        assertThrows(FullException.class, queue::take);
-        assertThrows(FullException.class, job::fail);
-        assertThrows(NotHeldException.class, job::fail);
-        queue.close();
-        server.useUp();
-        assertEnded(1);
-    }
-
-    @Test
-    public void aDoneInAFullRunIsHeard() throws Exception {
-        serveMore(1, 2, "--calls", 2);
-        RemoteDelayQueue queue = opened(builder().patience(Duration.ofMillis(500)).build());
-        queue.offer(due("a"));
-        Job job = queue.take();
-        assertThrows(FullException.class, queue::size);
-        job.done();
-    }
 
     @Test
     public void whatOneServerLeftTheNextOneGives() throws Exception {
@@ -389,11 +280,10 @@ public class ServedTest extends QueueTest {
         RemoteDelayQueue queue = opened(builder().longestSession(Duration.ofMillis(200)).build());
         queue.addAll(List.of(due("a"), in(1_000, "b")));
         queue.take().done();
-        Work<Boolean> offered = start(() -> queue.offer(in(3_000, "c")));
+        Work<Boolean> offered = start(() -> queue.offer(in(8_000, "c")));
         Thread.sleep(200);
         assertFalse(offered.isDone());
-        server.useUp();
-        assertEnded(0);
+        assertEnds(0);
         serveNext("--workers", 2, "--sessions", 50, "--from", path("history"));
         assertTrue(offered.get(30, SECONDS));
         for (String payload : List.of("b", "c")) {
@@ -402,34 +292,22 @@ public class ServedTest extends QueueTest {
             job.done();
         }
         queue.close();
-        server.useUp();
         assertTrue(server.end().get(1).contains("\"given\":2,\"left\":0,\"offered\":1,\"opening\":1"));
     }
 
     @Test
-    public void aServerThatIsKilled() throws Exception {
+    public void aServerThatIsKilledWhileAThreadHoldsAJobAndOneWaits() throws Exception {
         RemoteDelayQueue queue = serve(2, 2);
-        offer(queue, 2);
+        queue.offer(due("a"));
         Job job = queue.take();
+        List<Work<String>> taken = startTaking(queue, 1);
+        Thread.sleep(300);
         server.kill();
         ServerLostException fault = assertThrows(ServerLostException.class, job::done);
         assertFalse(fault.getMessage(), fault.isInDoubt());
-        serveNext("--sessions", 2);
-        queue.offer(due("c"));
-        Job other = queue.take();
-        assertEquals("c", other.payload());
-        other.done();
-    }
-
-    @Test
-    public void aThreadThatWaitsWhileItsServerIsKilled() throws Exception {
-        RemoteDelayQueue queue = serve(2, 2);
-        Work<String> taken = start(() -> queue.take().payload());
-        Thread.sleep(300);
-        server.kill();
         serveNext("--sessions", 4);
-        queue.offer(due("a"));
-        assertEquals("a", taken.get(30, SECONDS));
+        queue.offer(due("c"));
+        assertEquals(List.of("c"), allOf(taken, 30));
     }
 
     // Runs that are lost or go on.
@@ -454,7 +332,7 @@ public class ServedTest extends QueueTest {
 
     @Test
     public void aJobIsRemovedThoughItsSessionHasEndedAlsoByAnotherQueue() throws Exception {
-        serveMore(2, 50);
+        serve(2, 50);
         RemoteDelayQueue queue = onTake(400);
         Job job = in(600_000, "a");
         Job another = in(600_000, "b");
@@ -468,7 +346,7 @@ public class ServedTest extends QueueTest {
 
     @Test
     public void aJobIsRemovedThoughItsServerWasReplaced() throws Exception {
-        serve(2, 50);
+        serve(2, 5);
         RemoteDelayQueue queue = onTake(8_000);
         Job job = in(600_000, "a");
         queue.offer(job);
@@ -476,15 +354,14 @@ public class ServedTest extends QueueTest {
             assertEquals(1, queue.size());
             Thread.sleep(1_000);
         }
-        server.useUp();
-        assertEnded(0);
+        server.end(); // soon, as the next one goes on where this one ended
         serveNext("--sessions", 50, "--from", path("history"));
         assertTrue(queue.remove(job));
     }
 
     @Test
     public void aJobThatWasShownIsRemovedWhileOthersWait() throws Exception {
-        serveMore(4, 50);
+        serve(4, 50);
         RemoteDelayQueue other = byCall();
         RemoteDelayQueue queue = opened(builder().waiters(2).build());
         other.offer(in(600_000, "a"));

@@ -6,7 +6,6 @@ import static org.junit.Assert.assertTrue;
 import java.io.BufferedReader;
 import java.io.IOException;
 import java.lang.ProcessBuilder.Redirect;
-import java.net.InetSocketAddress;
 import java.net.Socket;
 import java.nio.file.Path;
 import java.util.List;
@@ -29,7 +28,7 @@ final class Server implements AutoCloseable {
 
     private Server(int port, Object... options) throws IOException {
         this.port = port;
-        process = run(Redirect.DISCARD, Stream.concat(Stream.of(PROGRAM, "serve", "--port", port), Stream.of(options)));
+        process = run(Stream.concat(Stream.of(PROGRAM, "serve", "--port", port), Stream.of(options)));
         output = process.inputReader();
     }
 
@@ -58,20 +57,11 @@ final class Server implements AutoCloseable {
         return port;
     }
 
-    /** Connects, for a client that speaks the lines itself. */
-    Socket connect() throws IOException {
-        Socket socket = new Socket();
-        socket.connect(new InetSocketAddress("127.0.0.1", port), PATIENCE * 1_000);
-        socket.setTcpNoDelay(true);
-        socket.setSoTimeout(PATIENCE * 1_000);
-        return socket;
-    }
-
     /** Uses up the sessions that are left, so that the server ends once those that go on have ended. */
-    void useUp() throws Exception {
+    private void useUp() throws Exception {
         long deadline = System.nanoTime() + TimeUnit.SECONDS.toNanos(PATIENCE);
         while (System.nanoTime() < deadline) {
-            try (Socket socket = connect()) {
+            try (var socket = new Socket("127.0.0.1", port)) {
                 assertTrue(socket.isConnected());
             } catch (IOException gone) {
                 return;
@@ -80,8 +70,17 @@ final class Server implements AutoCloseable {
         throw new IOException("the server listens on and on");
     }
 
-    /** Waits until it ends with status 0. Returns the two lines that it writes then: its counts and its audit. */
+    /** Expects that it ends in good order, with this many jobs lost, and a history that its own replay finds legal. */
+    void assertEnds(int lost, Path history, Object... policy) throws Exception {
+        List<String> lines = end();
+        assertTrue(lines.get(0), lines.get(0).matches("sessions \\d+ faults 0 lost " + lost));
+        Stream<?> replay = Stream.of(PROGRAM, "replay", history, "--chains");
+        assertEquals(lines.get(1), said(Stream.concat(replay, Stream.of(policy))));
+    }
+
+    /** Uses up its sessions, and waits until it ends with status 0. Returns its two last lines: counts and audit. */
     List<String> end() throws Exception {
+        useUp();
         assertTrue("the server goes on", process.waitFor(PATIENCE, TimeUnit.SECONDS));
         assertEquals(0, process.exitValue());
         return output.lines().toList();
@@ -97,14 +96,9 @@ final class Server implements AutoCloseable {
         kill();
     }
 
-    /** Checks that a history is legal and its retries right, by the program's own replay. Returns the audit line. */
-    static String replay(Path history, Object... policy) throws Exception {
-        return said(Stream.concat(Stream.of(PROGRAM, "replay", history, "--chains"), Stream.of(policy)));
-    }
-
     /** What a command says that succeeds. */
     static String said(Stream<?> words) throws Exception {
-        Process process = run(Redirect.DISCARD, words);
+        Process process = run(words);
         String said = new String(process.getInputStream().readAllBytes()).strip();
         assertTrue("it goes on: " + said, process.waitFor(10 * PATIENCE, TimeUnit.SECONDS));
         assertEquals(said, 0, process.exitValue());
@@ -112,8 +106,9 @@ final class Server implements AutoCloseable {
     }
 
     /** Runs a command, which does not outlive the tests. */
-    static Process run(Redirect errors, Stream<?> words) throws IOException {
-        Process process = new ProcessBuilder(words.map(String::valueOf).toList()).redirectError(errors).start();
+    private static Process run(Stream<?> words) throws IOException {
+        var builder = new ProcessBuilder(words.map(String::valueOf).toList());
+        Process process = builder.redirectError(Redirect.DISCARD).start();
         Runtime.getRuntime().addShutdownHook(new Thread(process::destroyForcibly));
         return process;
     }

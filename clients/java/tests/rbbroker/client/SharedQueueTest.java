@@ -18,69 +18,42 @@ public class SharedQueueTest extends EveryQueueTest {
 
     private final Queue<Job> got = new ConcurrentLinkedQueue<>();
 
-    private static <T> Work<T> startAndWait(Callable<T> task) throws InterruptedException {
-        Work<T> work = start(task);
+    // Waits.
+
+    @Test
+    public void aThreadThatWaitsGetsWhatExpiresFirst() throws Exception {
+        for (Callable<Job> wait : List.<Callable<Job>>of(queue::take, () -> queue.poll(60, SECONDS),
+                () -> queue.poll(Long.MAX_VALUE, SECONDS))) {
+            queue.add(in(1_000, "expires"));
+            assertEquals("expires", startAndWait(wait).get(30, SECONDS));
+            Work<String> taken = startAndWait(wait);
+            queue.add(due("offered"));
+            assertEquals("offered", taken.get(30, SECONDS));
+            queue.add(in(FAR, "late"));
+            taken = startAndWait(wait);
+            queue.add(in(50, "earlier"));
+            assertEquals("earlier", taken.get(30, SECONDS));
+            assertEquals(1, queue.size());
+            queue.clear();
+        }
+    }
+
+    private Work<String> startAndWait(Callable<Job> wait) throws InterruptedException {
+        Work<String> work = start(() -> payload(wait.call()));
         Thread.sleep(300);
         assertFalse(work.isDone());
         return work;
     }
 
-    // Waits.
-
     @Test
-    public void takeWaitsForAnElementThatIsOffered() throws Exception {
-        Work<String> taken = startAndWait(this::take);
-        queue.add(due("a"));
-        assertEquals("a", taken.get(30, SECONDS));
-    }
-
-    @Test
-    public void takeWaitsForAnElementThatExpires() throws Exception {
-        queue.add(in(1_000, "a"));
-        Work<String> taken = startAndWait(this::take);
-        assertEquals("a", taken.get(30, SECONDS));
-    }
-
-    @Test
-    public void takeIsWokenByAnElementThatExpiresEarlier() throws Exception {
-        queue.add(in(FAR, "late"));
-        Work<String> taken = startAndWait(this::take);
-        queue.add(in(50, "early"));
-        assertEquals("early", taken.get(30, SECONDS));
-        assertEquals(1, queue.size());
-    }
-
-    @Test
-    public void aTimedPollWaitsForAnElementThatIsOffered() throws Exception {
-        for (long timeout : List.of(60L, Long.MAX_VALUE)) {
-            Work<String> polled = startAndWait(() -> payload(queue.poll(timeout, SECONDS)));
-            queue.add(due("a"));
-            assertEquals("a", polled.get(30, SECONDS));
-        }
-    }
-
-    @Test
-    public void eachWaitingThreadGetsAnElement() throws Exception {
-        List<Work<String>> taken = startTaking();
-        Thread.sleep(100);
-        numbers(6).forEach(it -> queue.add(in(50, it)));
-        assertEquals(numbers(6), allOf(taken, 60).stream().sorted().toList());
-    }
-
-    @Test
-    public void noOfferWaitsForThreadsThatWait() throws Exception {
-        List<Work<String>> taken = startTaking();
+    public void eachWaitingThreadGetsAnElementAndNoOfferWaitsForIt() throws Exception {
+        List<Work<String>> taken = Stream.generate(() -> start(this::take)).limit(6).toList();
         Thread.sleep(300);
         assertTrue(taken.stream().noneMatch(Work::isDone));
         long begun = System.nanoTime();
         numbers(6).forEach(it -> queue.add(in(4_000, it)));
         assertTrue(System.nanoTime() - begun < SECONDS.toNanos(3));
-        allOf(taken, 60);
-    }
-
-    /** Has six threads take an element each. */
-    private List<Work<String>> startTaking() {
-        return Stream.generate(() -> start(this::take)).limit(6).toList();
+        assertEquals(numbers(6), allOf(taken, 60).stream().sorted().toList());
     }
 
     // Interrupts.
@@ -98,20 +71,14 @@ public class SharedQueueTest extends EveryQueueTest {
     }
 
     @Test
-    public void anInterruptEndsATake() throws Exception {
+    public void anInterruptEndsAWait() throws Exception {
         assertInterruptible(queue::take);
+        assertInterruptible(() -> queue.poll(FAR, MILLISECONDS));
         queue.add(in(FAR, "late"));
         assertInterruptible(queue::take);
         queue.add(due("a"));
         assertEquals("a", take());
         assertEquals(1, queue.size());
-    }
-
-    @Test
-    public void anInterruptEndsATimedPoll() throws Exception {
-        assertInterruptible(() -> queue.poll(FAR, MILLISECONDS));
-        queue.add(due("a"));
-        assertEquals("a", take());
     }
 
     @Test
@@ -129,15 +96,8 @@ public class SharedQueueTest extends EveryQueueTest {
     @Test
     public void whatDoesNotWaitMindsNoInterrupt() throws Exception {
         Thread.currentThread().interrupt();
-        queue.add(due("a"));
-        Job late = in(FAR, "late");
-        queue.add(late);
-        assertEquals(2, queue.size());
-        assertEquals("a", queue.peek().payload());
-        assertEquals("a", payload(queue.poll()));
-        assertNull(queue.poll());
-        assertTrue(queue.remove(late));
-        queue.clear();
+        new Steps(queue, this::settle)
+            .play("add a 0, add late 600000, size = 2, peek = a, poll = a, poll = null, remove late, clear");
         assertTrue(Thread.interrupted());
     }
 

@@ -3,7 +3,8 @@ package rbbroker.client;
 import static java.util.concurrent.TimeUnit.SECONDS;
 
 import java.time.Duration;
-import java.util.List;
+import javax.net.ssl.SSLException;
+import javax.net.ssl.SSLSocketFactory;
 import org.junit.BeforeClass;
 import org.junit.ClassRule;
 import org.junit.Test;
@@ -20,7 +21,7 @@ public class TlsTest extends QueueTest {
 
     @BeforeClass
     public static void makeCertificates() throws Exception {
-        certificates = new Certificates(FOLDER.getRoot().toPath());
+        certificates = new Certificates(FOLDER.getRoot().toPath().resolve("store.p12"));
     }
 
     private Server serve(int sessions) throws Exception {
@@ -29,41 +30,35 @@ public class TlsTest extends QueueTest {
 
     /** A proxy that shows this certificate and wants one of the authority's, in front of a server at this port. */
     private FakeServer proxy(String name, int port) throws Exception {
-        return opened(FakeServer.before(port, certificates.context(name, "authority")));
+        return opened(FakeServer.before(port, certificates.context(name, "authority").getServerSocketFactory()));
     }
 
-    private RemoteDelayQueue queue(int port, String name, String authority) throws Exception {
-        return opened(certificates.builder(port, name, authority).patience(PATIENCE).build());
+    private RemoteDelayQueue.Builder builder(int port, String name, String authority) throws Exception {
+        SSLSocketFactory factory = certificates.context(name, authority).getSocketFactory();
+        return new RemoteDelayQueue.Builder(port, Acknowledge.BY_CALL).tls(factory).patience(PATIENCE);
     }
 
     private RemoteDelayQueue queue(FakeServer proxy) throws Exception {
-        return queue(proxy.port(), "client", "authority");
+        return opened(builder(proxy.port(), "client", "authority").build());
     }
 
     /** Expects that a call meets a fault of TLS at once, and asks the server nothing. */
-    private static void assertRefused(String says, RemoteDelayQueue queue) {
+    private void assertRefused(String says, RemoteDelayQueue.Builder builder) {
+        RemoteDelayQueue queue = opened(builder.build());
         long begun = System.nanoTime();
-        TlsException fault = assertThrows(TlsException.class, () -> queue.offer(due("a")));
+        ServerLostException fault = assertThrows(ServerLostException.class, () -> queue.offer(due("a")));
         assertFalse(fault.isInDoubt());
+        assertTrue(fault.getCause() instanceof SSLException);
         assertTrue(fault.getMessage(), fault.getMessage().matches("no server at [^ ]*: .*" + says + ".*"));
-        assertThrows(TlsException.class, queue::take);
+        assertThrows(ServerLostException.class, queue::take);
         assertTrue(System.nanoTime() - begun < PATIENCE.toNanos() * 2 / 3);
     }
 
     @Test
     public void certificatesThatAreRight() throws Exception {
         RemoteDelayQueue queue = queue(proxy("server", serve(50).port()));
-        Job late = in(600_000, "late");
-        queue.addAll(List.of(due("a"), late));
-        Job job = queue.take();
-        assertEquals("a", job.payload());
-        assertTrue(job.fail());
-        Job again = queue.take();
-        assertEquals(2, again.attempt());
-        again.done();
-        assertTrue(queue.remove(late));
-        assertEquals(0, queue.size());
-        assertNull(queue.poll());
+        new Steps(queue).play("add a 0, add late 600000, take = a, fail, take = a, attempt = 2, done, remove late, "
+            + "size = 0, poll = null");
     }
 
     @Test
@@ -94,33 +89,32 @@ public class TlsTest extends QueueTest {
     @Test
     public void certificatesThatTheClientRefuses() throws Exception {
         int port = proxy("server", 1).port();
-        assertRefused("unable to find valid certification path", queue(port, "client", "stranger"));
-        assertRefused("validity check failed", queue(proxy("expired", 1)));
-        RemoteDelayQueue astray = opened(certificates.builder(port, "client", "authority").host("localhost").build());
-        assertRefused("No (name matching|subject alternative).*", astray);
+        assertRefused("unable to find valid certification path", builder(port, "client", "stranger"));
+        assertRefused("validity check failed", builder(proxy("expired", 1).port(), "client", "authority"));
+        assertRefused("No (name matching|subject alternative)", builder(port, "client", "authority").host("localhost"));
     }
 
     @Test
     public void aClientWithoutACertificateOrWithAStrangers() throws Exception {
         int port = proxy("server", serve(50).port()).port();
-        assertRefused("(certificate|alert).*", queue(port, null, "authority"));
-        assertRefused("(certificate|alert).*", queue(port, "stranger", "authority"));
+        assertRefused("(certificate|alert)", builder(port, null, "authority"));
+        assertRefused("(certificate|alert)", builder(port, "stranger", "authority"));
     }
 
     @Test
     public void aServerWithoutTls() throws Exception {
         FakeServer.Script plain = talk -> talk.sayBytes("ERR 8 line\nERR 8 line\n").hearAll();
-        assertRefused("", queue(opened(new FakeServer(plain, plain)).port(), "client", "authority"));
+        assertRefused("", builder(opened(new FakeServer(plain, plain)).port(), "client", "authority"));
     }
 
     @Test
     public void nobodyListens() throws Exception {
         FakeServer proxy = proxy("server", 1);
         proxy.close();
-        RemoteDelayQueue queue = opened(certificates.builder(proxy.port(), "client", "authority")
-            .patience(Duration.ofSeconds(1)).build());
+        RemoteDelayQueue queue =
+            opened(builder(proxy.port(), "client", "authority").patience(Duration.ofSeconds(1)).build());
         ServerLostException fault = assertThrows(ServerLostException.class, queue::size);
-        assertSame(ServerLostException.class, fault.getClass());
+        assertFalse(fault.getCause() instanceof SSLException);
         assertTrue(fault.getMessage(), fault.getMessage().contains("no server at 127.0.0.1:" + proxy.port()));
     }
 }
