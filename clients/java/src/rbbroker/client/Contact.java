@@ -21,7 +21,7 @@ final class Contact {
     volatile long until = since;
     /** Whether the server's moment was told. */
     volatile boolean isTold;
-    /** Between these the server's clock is ahead. */
+    /** How far the server's clock is ahead is between these two. */
     private volatile long least;
     private volatile long most;
     /** How many runs were seen to be lost when its moment was told. */
