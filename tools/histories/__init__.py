@@ -3,7 +3,7 @@
     grammar.py, text.py      the lines of a text, one after the other, each of which must be of its form
     acts.py                  what an event may be, and what it gave
     history.py, reader.py, reported_queue.py  a history in columns, with the queue that it describes
-    files.py, series.py      a file, which may be compressed, and those of runs that follow one another
+    files.py                 a file, which may be compressed, and those of runs that follow one another
     faults.py                why a history can't be read
 
 tools/report takes the columns, in which all must be as a queue does it. tools/verify and the tests

@@ -9,15 +9,13 @@ from __future__ import annotations
 from array import array
 from bisect import bisect_left, bisect_right
 from dataclasses import dataclass, field
-from itertools import compress, count
-from typing import Any, Iterable, Iterator, NamedTuple, TypeVar
+from itertools import count
+from typing import Any, Iterator, NamedTuple
 
-from histories.acts import DRAIN, GIVES, GIVES_ONE
+from histories.acts import GIVES
 
 # Takes the place of a row or an event if there is none.
 NONE = -1
-
-Value = TypeVar("Value")
 
 
 def column(kind: str) -> Any:
@@ -72,23 +70,9 @@ class Events:
     moments: array[int] = column("Q")  # at which the calls took effect
     acts: bytearray = field(default_factory=bytearray)
     subjects: array[int] = column("i")
-    late: dict[int, int] = field(default_factory=dict)  # when those offers of later attempts were asked that waited
 
     def __len__(self) -> int:
         return len(self.acts)
-
-    def asked(self, event: int) -> int:
-        """The moment that was handed in with the offer of a later attempt."""
-        return self.late.get(event, self.moments[event])
-
-    def with_act(self, act: int, column: Iterable[Value], part: slice = slice(None)) -> Iterator[Value]:
-        """Of the values of some events those of the events with this act."""
-        return compress(column, self.acts[part].translate(bytes(it == act for it in range(256))))
-
-    def given(self, part: slice) -> int:
-        """How many elements these events gave."""
-        return (sum(map(self.acts[part].count, GIVES_ONE))
-                + sum(self.with_act(DRAIN, self.subjects[part], part)))
 
 
 class Run(NamedTuple):
@@ -98,10 +82,7 @@ class Run(NamedTuple):
     version: int
     opened_at: int  # the moment of the last event before, or a later one
     end: int  # the moment of the last event, or the opening's if there is none
-    events: slice
-    kept: int  # how many elements its opening has
-    offered: int
-    left: int  # how many elements are in the queue at its end
+    first: int  # its first event
 
 
 @dataclass
@@ -143,7 +124,18 @@ class History:
 
     def run_of(self, event: int) -> int:
         """Which of the runs an event belongs to, from 1."""
-        return bisect_right([run.events.start for run in self.runs], event)
+        return bisect_right([run.first for run in self.runs], event)
+
+    def left_by(self, act: int) -> int:
+        """How many elements left by this act."""
+        acts = self.events.acts
+        return sum(event != NONE and acts[event] == act for event in self.elements.left_in)
+
+    def late(self, row: int) -> int | None:
+        """How late an element was given, if it was."""
+        event = self.elements.left_in[row]
+        is_given = event != NONE and self.events.acts[event] in GIVES
+        return self.events.moments[event] - self.elements.expiries[row] if is_given else None
 
     def gifts(self) -> Iterator[tuple[int, int, int]]:
         """The rows of the elements that were given, in their order, each with the event and how late that was."""

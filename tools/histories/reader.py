@@ -47,11 +47,9 @@ class Reader:
         else:
             history.next_id = self._queue.next_id = head.next_id
             _take(text.kept(), self._queue.keep)
-        self._last, rows = head.opened_at, len(history.elements)
+        self._last = head.opened_at
         _take(text.events(), self._add)
-        history.runs.append(Run(
-            name, head.version, head.opened_at, self._last, slice(first, len(history.events)), head.kept,
-            len(history.elements) - rows, len(self._queue)))
+        history.runs.append(Run(name, head.version, head.opened_at, self._last, first))
 
     def _continue(self, head: Head) -> None:
         """Tests an `open` line against what the run before left."""
@@ -93,8 +91,6 @@ class Reader:
                 raise Wrong(f"the moment is {moment}, and has to be {latest}, the greater of the one asked and the"
                             " last")
         act, subject = self._told(line, moment, event)
-        if asked != at and act == OFFER and self.history.elements.attempts[subject] > 1:
-            events.late[event] = int(asked)
         events.seats.append(int(seat))
         events.moments.append(moment)
         events.acts.append(act)

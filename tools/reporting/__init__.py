@@ -1,12 +1,12 @@
 """The parts of tools/report: the figures of a history, which tools/histories reads into columns, and how they are shown
 on a terminal and on a page.
 
-    calls.py, depth.py, lateness.py, jobs.py, retries.py  figures
+    depth.py, lateness.py, jobs.py             figures
     chains.py, findings.py, figures.py         what looks wrong, and all figures of a history
-    columns.py, dates.py, units.py             long series sorted or made short, and numbers as people read them
+    dates.py, units.py                         moments and numbers as people read them
     tables.py, report_tables.py                what the terminal and the page show alike
     terminal.py                                the report as text
-    svg.py, time_axis.py, span_axis.py, time_plots.py  the plots of the page
+    svg.py, time_axis.py, span_axis.py, plots.py  the plots of the page
     lives.py                                   the lives of jobs, as the page has them
     head.py, page.py, page.html, page.css, page.js  the page, and what it does in a browser
     readings.js                                tells what a plot shows, also on the page of tools/service

@@ -6,7 +6,6 @@ from dataclasses import dataclass
 
 from histories import acts
 from histories.history import NONE, History, column
-from reporting.columns import in_rising_order
 
 
 @dataclass
@@ -22,17 +21,8 @@ class Depth:
         self.standing.append(standing)
         self.expired.append(expired)
 
-    @property
-    def deepest(self) -> tuple[int, int]:
-        """The greatest number of elements, and the moment at which it was first reached."""
-        return self._greatest(self.standing)
-
-    @property
-    def most_expired(self) -> tuple[int, int]:
-        """The greatest number of expired elements, and the moment at which it was first reached."""
-        return self._greatest(self.expired)
-
-    def _greatest(self, values: array[int]) -> tuple[int, int]:
+    def greatest(self, values: array[int]) -> tuple[int, int]:
+        """The greatest of these values, and the moment at which it was first reached."""
         greatest = max(values)
         return greatest, self.moments[values.index(greatest)]
 
@@ -40,9 +30,9 @@ class Depth:
 def _expiries_on_the_way(history: History) -> array[int]:
     """When elements in the queue that had been offered before expired, in rising order."""
     elements, moments, start, end = history.elements, history.events.moments, history.start, history.end
-    return in_rising_order(array("Q", (
+    return array("Q", sorted(
         expiry for expiry, offered, left in zip(elements.expiries, elements.offered_in, elements.left_in)
-        if (start if offered == NONE else moments[offered]) < expiry <= (end if left == NONE else moments[left]))))
+        if (start if offered == NONE else moments[offered]) < expiry <= (end if left == NONE else moments[left])))
 
 
 def depth_of(history: History) -> Depth:

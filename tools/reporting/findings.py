@@ -7,25 +7,19 @@ from __future__ import annotations
 
 from array import array
 from heapq import nsmallest
-from typing import TYPE_CHECKING, Iterator, NamedTuple, Sequence
+from typing import Iterable, Iterator, NamedTuple, Sequence
 
+from histories.acts import CLEAR, POLL, POLL_NONE
 from histories.history import NONE, History
-from reporting.calls import Calls
 from reporting.chains import broken_chains
-from reporting.jobs import Jobs, given_events, lives
-from reporting.retries import AT_ONCE, Policy, Retries
+from reporting.depth import Depth
+from reporting.jobs import Attempts, Jobs
 from reporting.units import counted, percent, span
 
-if TYPE_CHECKING:
-    from reporting.figures import Figures
-
-BURST_GIFTS, BURST_SPAN = 3, 1_000_000  # a job given this often within this many nanoseconds
+AT_ONCE, JOBS_AT_ONCE = 1_000_000, 10  # nanoseconds from a return until it is due, and jobs that came back so soon
 IDLE_POLLS, IDLE_SHARE = 100, 0.9  # this many polls, of which this share found nothing
 DEEP_END, DEEP_SHARE = 100, 0.9  # this many elements at the end, and this share of the greatest number
-JOBS_AT_ONCE = 10  # this many jobs that came back at once
 MOST_NAMED = 5
-
-NOT_WRITTEN = "this history is not one that the program wrote"
 
 
 class Finding(NamedTuple):
@@ -35,77 +29,60 @@ class Finding(NamedTuple):
     origins: Sequence[int] = ()
 
 
-def findings_of(figures: Figures) -> Iterator[Finding]:
-    """All that looks wrong."""
-    history, depth = figures.history, figures.depth
+def findings_of(history: History, depth: Depth, jobs: Jobs, last: int | None) -> Iterator[Finding]:
+    """All that looks wrong. The last attempt of a job may be known."""
     for fault, roots in broken_chains(history).items():
-        yield Finding(f"{_were(len(roots), 'job')} {fault}: {NOT_WRITTEN}, or its opening is not",
-                      _named(history, roots))
-    yield from _bursts(history, figures.jobs)
-    yield from _returns(history, figures.policy, figures.retries)
+        yield Finding(f"{_were(len(roots), 'job')} {fault}: this history is not one that the program wrote, or its"
+                      " opening is not", _named(history, roots))
+    yield from _at_once(history)
+    yield from _beyond(jobs.attempts, last)
     yield from _left(history)
-    yield from _calls(figures.calls["clear"], figures.calls["poll"])
-    at_end, (deepest, _) = depth.standing[-1], depth.deepest
+    yield from _calls(history)
+    at_end, deepest = depth.standing[-1], max(depth.standing)
     if at_end >= max(DEEP_END, DEEP_SHARE * deepest):
         yield Finding(f"the queue was about as deep at the end ({at_end:,}) as ever ({deepest:,}): more came than left")
 
 
-def _bursts(history: History, jobs: Jobs) -> Iterator[Finding]:
-    """Jobs that were given three times within a millisecond."""
-    moments, roots = history.events.moments, []
-    often = [root for root, count in enumerate(jobs.given) if count >= BURST_GIFTS]
-    for root, rows in lives(history, often).items():
-        when = [moments[event] for event, _ in given_events(history, rows)]
-        if any(last - first <= BURST_SPAN for first, last in zip(when, when[BURST_GIFTS - 1:])):
-            roots.append(root)
-    if roots:
-        says = f"{_were(len(roots), 'job')} given {BURST_GIFTS} times or more within {span(BURST_SPAN)}"
-        yield Finding(says, _named(history, roots))
-
-
-def _returns(history: History, policy: Policy, retries: Retries) -> Iterator[Finding]:
-    """Jobs that came back at once, of which a few do not look wrong if no delay was told; and returns and attempts that
-    the report's own options contradict."""
-    jobs, is_tiny = retries.jobs_at_once, policy.delay is not None and policy.delay <= AT_ONCE
-    if len(jobs) >= (1 if is_tiny else JOBS_AT_ONCE):
-        why = "either the delay is tiny, or the next moment of their rate had passed"
-        if policy.delay is not None:
-            why = f"the delay of {span(policy.delay)} leaves no time for what failed to recover"
-        elif policy.rate is not None:
-            why = "the next moment of their rate had passed or was near"
+def _at_once(history: History) -> Iterator[Finding]:
+    """Jobs that were due again at once when they came back. Few that did so once do not look wrong."""
+    elements, moments = history.elements, history.events.moments
+    returns = [elements.roots[row] for row, event in history.returns()
+               if elements.expiries[row] <= moments[event] + AT_ONCE]
+    jobs = list(dict.fromkeys(returns))
+    if len(jobs) >= JOBS_AT_ONCE or len(jobs) < len(returns):
         yield Finding(
-            f"{counted(len(jobs), 'job')} came back at once, {counted(retries.at_once, 'time')} in all, at most"
-            f" {span(retries.greatest_wait)} after failing; {retries.reached_by:,} reached attempt {retries.reached},"
-            f" the quickest {span(retries.soonest)} after its first gift; {why}", _named(history, jobs))
-    if retries.misfits:
-        option = f"--delay {policy.delay}" if policy.rate is None else f"--rate {policy.rate}"
-        yield Finding(f"{retries.misfits:,} of {counted(retries.returns, 'return')} have another expiry than {option}"
-                      f" gives: the run had another policy, or {NOT_WRITTEN}")
-    if retries.beyond:
-        yield Finding(f"{counted(len(retries.beyond), 'job')} had attempts beyond --attempts {policy.attempts}: the run"
-                      f" allowed more, or {NOT_WRITTEN}", _named(history, retries.beyond))
+            f"{counted(len(jobs), 'job')} came back at once, {len(returns):,} times in all: due at most {span(AT_ONCE)}"
+            " after failing; the delay is tiny, or the next moment of their rate had passed", _named(history, jobs))
+
+
+def _beyond(attempts: Iterable[Attempts], last: int | None) -> Iterator[Finding]:
+    """Attempts that the report's own option contradicts."""
+    beyond = sum(it.offered for it in attempts if last is not None and it.attempt > last)
+    if beyond:
+        yield Finding(f"{_were(beyond, 'element')} of attempts beyond --attempts {last}: the run allowed more")
 
 
 def _left(history: History) -> Iterator[Finding]:
     """Elements that never left, of which those are named that had expired first."""
     elements, end = history.elements, history.end
-    expired = array("i", (row for row, event in enumerate(elements.left_in)
-                          if event == NONE and elements.expiries[row] <= end))
-    left = elements.left_in.count(NONE)
+    left = array("i", (row for row, event in enumerate(elements.left_in) if event == NONE))
+    expired = array("i", (row for row in left if elements.expiries[row] <= end))
     if left:
         longest = nsmallest(MOST_NAMED, expired, key=elements.expiries.__getitem__)
         since = f", the earliest {span(end - elements.expiries[longest[0]])} before" if longest else ""
-        yield Finding(f"{counted(left, 'element')} never left the queue; {len(expired):,} of them had expired at the"
-                      f" end{since}", list(dict.fromkeys(elements.origins[row] for row in longest)))
+        yield Finding(f"{counted(len(left), 'element')} never left the queue; {len(expired):,} of them had expired at"
+                      f" the end{since}", list(dict.fromkeys(elements.origins[row] for row in longest)))
 
 
-def _calls(clears: Calls, polls: Calls) -> Iterator[Finding]:
+def _calls(history: History) -> Iterator[Finding]:
     """Elements that were discarded, and polls in vain."""
-    if clears.elements:
-        yield Finding(f"{_were(clears.elements, 'element')} discarded by {counted(clears.calls, 'clear')}")
-    if polls.calls >= IDLE_POLLS and polls.nothing >= IDLE_SHARE * polls.calls:
-        yield Finding(f"{percent(polls.nothing, polls.calls)} of {polls.calls:,} polls found nothing; a take or a timed"
-                      " poll waits, and is one call")
+    acts, cleared = history.events.acts, history.left_by(CLEAR)
+    if cleared:
+        yield Finding(f"{_were(cleared, 'element')} discarded by {counted(acts.count(CLEAR), 'clear')}")
+    idle, polls = acts.count(POLL_NONE), acts.count(POLL_NONE) + acts.count(POLL)
+    if polls >= IDLE_POLLS and idle >= IDLE_SHARE * polls:
+        yield Finding(f"{percent(idle, polls)} of {polls:,} polls found nothing; a take or a timed poll waits, and is"
+                      " one call")
 
 
 def _were(number: int, noun: str) -> str:

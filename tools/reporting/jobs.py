@@ -1,4 +1,4 @@
-"""The jobs of a history: which elements are attempts of one, how often each was given, and the life of a job.
+"""The jobs of a history: which elements are attempts of one, how often they were given, and which were given latest.
 
 A job is named by the row of its first element, its *root*.
 """
@@ -6,12 +6,13 @@ from __future__ import annotations
 
 from array import array
 from collections import Counter
-from typing import Iterable, Iterator, NamedTuple
+from heapq import nlargest
+from operator import itemgetter
+from typing import Iterable, NamedTuple, Sequence
 
-from histories.acts import GIVES, KEYWORDS
-from histories.history import NONE, History
-from reporting.dates import Dates
-from reporting.units import number, span
+from histories.history import History
+
+MOST_LATEST = 100
 
 
 class NoJob(Exception):
@@ -27,29 +28,30 @@ class Attempts(NamedTuple):
 
 
 class Jobs(NamedTuple):
-    """For each row, if it is a root, how many elements its job has and how many were given; 0 for other rows."""
+    """All jobs by their roots, and some of them."""
 
-    elements: array[int]
-    given: array[int]
+    elements: array[int]  # for each row, if it is a root, how many its job has; 0 for other rows
     attempts: list[Attempts]
     roots: array[int]
-    again: array[int]  # the roots of the jobs that were offered again, those with the most elements first
+    again: list[int]  # that were offered again, those with the most elements first
+    latest: list[int]  # that were given latest, the latest first
+    last_given: list[int]  # that were given their last attempt, if that is known
 
 
-def jobs_of(history: History) -> Jobs:
-    """Counts the elements of each job, and the attempts of all."""
-    elements, acts = history.elements, history.events.acts
-    counts, given = (array("i", bytes(4 * len(elements))) for _ in range(2))
-    offered, attempts_given = Counter(elements.attempts), Counter[int]()
-    for root, attempt, left in zip(elements.roots, elements.attempts, elements.left_in):
+def jobs_of(history: History, last: int | None) -> Jobs:
+    """Counts the elements of each job, and the attempts of all. The last attempt may be known."""
+    roots, attempts = history.elements.roots, history.elements.attempts
+    counts = array("i", bytes(4 * len(roots)))
+    for root in roots:
         counts[root] += 1
-        if left != NONE and acts[left] in GIVES:
-            given[root] += 1
-            attempts_given[attempt] += 1
-    attempts = [Attempts(it, offered[it], attempts_given[it]) for it in sorted(offered)]
-    roots = array("i", (row for row, count in enumerate(counts) if count))
-    again = sorted((root for root in roots if counts[root] > 1), key=lambda root: -counts[root])
-    return Jobs(counts, given, attempts, roots, array("i", again))
+    offered, given = Counter(attempts), Counter(attempts[row] for row, _, _ in history.gifts())
+    again = sorted((root for root, count in enumerate(counts) if count > 1), key=lambda root: -counts[root])
+    latest = nlargest(MOST_LATEST, history.gifts(), key=itemgetter(2))
+    last_given = (roots[row] for row, _, _ in history.gifts() if attempts[row] == last)
+    return Jobs(
+        counts, [Attempts(it, offered[it], given[it]) for it in sorted(offered)],
+        array("i", (root for root, count in enumerate(counts) if count)), again,
+        list(dict.fromkeys(roots[row] for row, _, _ in latest)), list(dict.fromkeys(last_given)))
 
 
 def lives(history: History, roots: Iterable[int]) -> dict[int, list[int]]:
@@ -61,61 +63,15 @@ def lives(history: History, roots: Iterable[int]) -> dict[int, list[int]]:
     return found
 
 
-def life(history: History, origin: int) -> list[int]:
-    """The rows of the job of this origin."""
-    root = history.root_of(origin)
-    if root is None:
-        raise NoJob(f"no job of origin {origin}")
-    return lives(history, [root])[root]
-
-
-def with_payload(history: History, text: str) -> list[int]:
-    """The roots of the jobs with this payload or, if it ends with a `*`, with one that begins with what is before."""
-    wanted, begins = text.encode(), text.endswith("*")
-    wanted = wanted[:-1] if begins else wanted
-    elements, payloads, start = history.elements, history.elements.payloads, 0
-    found: dict[int, None] = {}
+def jobs_named(history: History, word: str) -> Sequence[int]:
+    """The roots of the jobs that have this origin or this payload."""
+    elements, wanted, start = history.elements, word.encode(), 0
+    of_origin = history.root_of(int(word)) if word.isascii() and word.isdigit() else None
+    found = {} if of_origin is None else {of_origin: None}
     for end, root in zip(elements.payload_ends, elements.roots):
-        if payloads.startswith(wanted, start, end) and (begins or end - start == len(wanted)):
+        if end - start == len(wanted) and elements.payloads.startswith(wanted, start):
             found[root] = None
         start = end
     if not found:
-        raise NoJob(f"no job of payload {text}")
+        raise NoJob(f"no job of origin or payload {word}")
     return list(found)
-
-
-def given_events(history: History, rows: Iterable[int]) -> list[tuple[int, int]]:
-    """The events that gave these rows, each with the row, in their order."""
-    found = ((history.elements.left_in[row], row) for row in rows)
-    return sorted((event, row) for event, row in found if event != NONE and history.events.acts[event] in GIVES)
-
-
-class Job(NamedTuple):
-    """What tables tell of a job. A number that it does not have is -1."""
-
-    origin: int
-    payload: str
-    elements: int
-    given: int
-    left_by: str  # the act by which its last element left
-    left_at: int
-    latest: int  # how late it was given at most
-    passed: int  # from its first expiry to its last gift, unless that came before
-
-    def texts(self, dates: Dates | None) -> list[str]:
-        """All but the first two as people read them."""
-        at = "" if self.left_at < 0 else dates.text(self.left_at) if dates else str(self.left_at)
-        spans = ("–" if it < 0 else span(it) for it in (self.latest, self.passed))
-        return [number(self.elements), number(self.given), self.left_by, at, *spans]
-
-
-def told_jobs(history: History, roots: Iterable[int]) -> Iterator[Job]:
-    """What is told of these jobs."""
-    elements, events = history.elements, history.events
-    for root, rows in lives(history, roots).items():
-        given, left = given_events(history, rows), elements.left_in[rows[-1]]
-        latest = max((events.moments[event] - elements.expiries[row] for event, row in given), default=-1)
-        # A text may tell any first expiry, also one that comes after all were given.
-        passed = max(-1, events.moments[given[-1][0]] - elements.firsts[root]) if given else -1
-        by, at = ("in the queue", -1) if left == NONE else (KEYWORDS[events.acts[left]], events.moments[left])
-        yield Job(elements.origins[root], elements.payload(root), len(rows), len(given), by, at, latest, passed)

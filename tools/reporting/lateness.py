@@ -2,10 +2,9 @@
 from __future__ import annotations
 
 from array import array
-from typing import Iterator, Sequence
+from typing import Sequence
 
 from histories.history import History
-from reporting.columns import Buckets, in_rising_order
 
 # What is told of all, by the share of them that were no later.
 RANKS = {"median": 0.5, "90th percentile": 0.9, "99th percentile": 0.99, "99.9th percentile": 0.999, "greatest": 1.0}
@@ -13,7 +12,7 @@ RANKS = {"median": 0.5, "90th percentile": 0.9, "99th percentile": 0.99, "99.9th
 
 def lateness_of(history: History) -> array[int]:
     """How late each element was that a poll, a take, a timed poll or a drain gave, in rising order."""
-    return in_rising_order(array("Q", (late for _, _, late in history.gifts())))
+    return array("Q", sorted(late for _, _, late in history.gifts()))
 
 
 def rank(values: Sequence[int], share: float) -> int:
@@ -25,13 +24,3 @@ def rank(values: Sequence[int], share: float) -> int:
 def ranks(rising: Sequence[int]) -> dict[str, int]:
     """What is told of how late elements were, if any was given."""
     return {name: rank(rising, share) for name, share in RANKS.items()} if rising else {}
-
-
-def lateness_in(buckets: Buckets, history: History) -> Iterator[list[int]]:
-    """How late those given in each bucket were, in rising order."""
-    found = [array("Q") for _ in range(len(buckets))]
-    start, moments = buckets.edges[0], history.events.moments
-    length, number = buckets.edges[-1] - start, len(buckets)
-    for _, event, late in history.gifts():
-        found[(moments[event] - start) * number // length].append(late)
-    return map(sorted, found)

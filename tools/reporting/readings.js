@@ -2,7 +2,6 @@
 // Tells what a plot shows at the pointer, or at the place to which the arrow keys led.
 
 const SHARES = 1000;
-const LEAP = 20;
 
 function set(element, attributes) {
   Object.entries(attributes).forEach(([name, value]) => element.setAttribute(name, value));
@@ -11,21 +10,18 @@ function set(element, attributes) {
 class Readings {
   constructor(drawing, readings) {
     this.drawing = drawing;
-    this.readings = readings;
     this.picture = drawing.firstElementChild;
     this.place = -1;
     this.box = drawing.appendChild(document.createElement("div"));
     this.box.className = "reading";
-    this.box.hidden = true;
     this.cursor = this.picture.appendChild(document.createElementNS("http://www.w3.org/2000/svg", "line"));
     set(this.cursor, { class: "cursor", y1: 20, y2: this.picture.getAttribute("height") - 48 });
+    set(drawing, { tabindex: 0, role: "slider", "aria-label": this.picture.getAttribute("aria-label"),
+      "aria-valuemin": 1 });
     this.hide();
-    drawing.tabIndex = 0;
-    set(drawing, { role: "slider", "aria-label": this.picture.getAttribute("aria-label"), "aria-valuemin": 1,
-      "aria-valuemax": readings.length });
-    this.say(0);
+    this.renew(readings);
     for (const [kind, react] of Object.entries({ pointermove: this.point, pointerdown: this.point,
-      pointerleave: this.hide, keydown: this.press, focus: this.focus, blur: this.hide })) {
+      pointerleave: this.hide, keydown: this.press, blur: this.hide })) {
       drawing.addEventListener(kind, (event) => react.call(this, event));
     }
   }
@@ -33,31 +29,18 @@ class Readings {
   point(event) {
     const { left, width } = this.picture.getBoundingClientRect();
     const share = (event.clientX - left) / width * SHARES;
-    if (share < 0 || share > SHARES) {
-      this.hide();
-      return;
-    }
-    this.tell(Math.max(0, this.readings.findLastIndex(([from]) => from <= share)));
+    this.tell(this.readings.findLastIndex(([from]) => from <= share));
   }
 
   press(event) {
-    const last = this.readings.findLastIndex(([, says]) => says !== "");
-    const steps = { ArrowRight: 1, ArrowUp: 1, ArrowLeft: -1, ArrowDown: -1, PageUp: LEAP, PageDown: -LEAP,
-      Home: -this.readings.length, End: this.readings.length };
-    if (event.key === "Escape") {
-      this.hide();
-    } else if (Object.hasOwn(steps, event.key) && !event.ctrlKey && !event.altKey && !event.metaKey) {
+    const steps = { ArrowRight: 1, ArrowLeft: -1, Home: -this.readings.length, End: this.readings.length };
+    if (Object.hasOwn(steps, event.key)) {
       event.preventDefault();
-      this.tell(Math.min(Math.max(0, this.place + steps[event.key]), last));
+      this.tell(Math.min(Math.max(0, this.place + steps[event.key]), this.readings.length - 1));
     }
   }
 
-  focus() {
-    if (this.drawing.matches(":focus-visible") && this.readings.length > 0) {
-      this.tell(Math.max(0, this.place));
-    }
-  }
-
+  // Shows what is read at a place, if anything is.
   tell(place) {
     const [from, says] = this.readings[place] ?? [0, ""];
     if (says === "") {
@@ -67,12 +50,11 @@ class Readings {
     this.place = place;
     const until = place + 1 < this.readings.length ? this.readings[place + 1][0] : SHARES;
     const share = (from + until) / 2 / SHARES;
-    set(this.cursor, { x1: 100 * share + "%", x2: 100 * share + "%" });
-    this.cursor.removeAttribute("visibility");
+    set(this.cursor, { x1: 100 * share + "%", x2: 100 * share + "%", visibility: "visible" });
     this.box.textContent = says;
+    this.box.className = share < 0.5 ? "reading right" : "reading";  // it covers nothing beside the cursor
     this.box.hidden = false;
     this.say(place);
-    this.put(share);
   }
 
   // What is shown from now on, in a plot that is drawn again.
@@ -92,17 +74,8 @@ class Readings {
     set(this.drawing, { "aria-valuenow": place + 1, "aria-valuetext": says.replaceAll("\n", ", ") });
   }
 
-  // Puts the box beside the cursor, at the side that has more room.
-  put(share) {
-    const { left, width } = this.picture.getBoundingClientRect();
-    const at = left - this.drawing.getBoundingClientRect().left + share * width;
-    const place = share < 0.5 ? at + 12 : at - 12 - this.box.offsetWidth;
-    const greatest = this.drawing.clientWidth - this.box.offsetWidth;
-    this.box.style.left = Math.max(0, Math.min(place, greatest)) + "px";
-  }
-
   hide() {
     this.box.hidden = true;
-    this.cursor.setAttribute("visibility", "hidden");
+    set(this.cursor, { visibility: "hidden" });
   }
 }

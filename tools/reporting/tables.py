@@ -6,14 +6,14 @@ from typing import Iterable, NamedTuple, Sequence
 
 class Table(NamedTuple):
     """A table with its title and the notes below it. The first `left` columns are words, the others numbers. If its
-    rows are jobs, `jobs` is what it is called on a page."""
+    rows are jobs, each begins with an origin and a payload."""
 
     title: str
     heading: Sequence[str]
     rows: Sequence[Sequence[str]]
     left: int = 1
     notes: Sequence[str] = ()
-    jobs: str = ""
+    is_of_jobs: bool = False
 
     @property
     def lines(self) -> list[str]:

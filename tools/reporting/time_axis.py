@@ -1,18 +1,19 @@
 """The axis of time that all plots have: from a history's first event to its last, over all its runs."""
 from __future__ import annotations
 
-import math
+from array import array
+from bisect import bisect_left
 from typing import Iterable, Iterator
 
 from histories.history import History
 from reporting import svg
-from reporting.columns import Buckets
-from reporting.dates import Dates, date_text
-from reporting.svg import BOTTOM, SHARES, TOP, Reading, Scale, Tick
-from reporting.units import SECOND, unit_of
+from reporting.dates import Clock
+from reporting.svg import SHARES, Scale, Tick
+from reporting.units import SECOND, span, unit_of
 
 MINUTE, HOUR, DAY = 60 * SECOND, 3600 * SECOND, 86_400 * SECOND
-MOST_TICKS = 10
+MOST_BUCKETS = 200
+MOST_STEPS = 5  # so that words fit on a page for which page.css shows them all
 
 # Steps from one date to the next. All divide the day, or are days.
 DATE_STEPS = (
@@ -24,60 +25,57 @@ DATE_STEPS = (
 
 
 class TimeAxis:
-    """Places moments, and tells them: as dates if they are known, otherwise as time since the first event."""
+    """Cuts the time into equal stretches, the buckets, and places them. `edges` are one more than there are buckets; a
+    bucket has its first edge and lacks its second. Moments are told as dates if these are known, otherwise as time
+    since the first event."""
 
-    def __init__(self, history: History, dates: Dates | None, most_buckets: int = 1) -> None:
-        self.scale = Scale(history.start, history.end, 0, SHARES)
-        self.buckets = Buckets.over(history.start, history.end, most_buckets)
-        self._history, self._dates = history, dates
-        self._size, self._unit = unit_of(max(1, history.end - history.start))
+    def __init__(self, history: History, clock: Clock, most: int = MOST_BUCKETS) -> None:
+        self._start, self._end, self._clock = history.start, history.end, clock
+        length = self._end + 1 - self._start
+        self.count = min(most, length)
+        self.edges = [self._start + length * place // self.count for place in range(self.count + 1)]
+        self.width = length / self.count
+        self._scale = Scale(self._start, self._end + 1, 0, SHARES)
+        self.places = [*map(self._scale.at, self.edges)]
+        self._size, self._unit = unit_of(max(1, length - 1))
+
+    def bucket(self, moment: int) -> int:
+        """The bucket of a moment."""
+        return (moment - self._start) * self.count // (self._end + 1 - self._start)
+
+    def slices(self, moments: array[int]) -> list[slice]:
+        """The places of each bucket's entries in a column of rising moments."""
+        places = [bisect_left(moments, edge) for edge in self.edges]
+        return [slice(low, high) for low, high in zip(places, places[1:])]
 
     def drawn(self) -> str:
-        """The axis, and a line where each further run begins."""
-        places = [svg.share(self.scale.at(run.opened_at)) for run in self._history.runs[1:]]
-        runs = "".join(svg.line("run", (at, TOP), (at, BOTTOM)) for at in places)
-        if self._dates is None:
-            return svg.x_axis(self._ticks(), f"time since the first event ({self._unit})") + runs
-        title = f"UTC, from {self._dates.text(self._history.start, 0)} on"
-        return svg.x_axis(self._date_ticks(self._dates), title) + runs
+        """The axis."""
+        if self._clock.offset is None:
+            return svg.x_axis(self._ticks(), f"time since the first event ({self._unit})")
+        return svg.x_axis(self._ticks(), f"UTC, from {self._clock.text(self._start, 0)} on")
 
-    def told(self, moment: int, width: float) -> str:
-        """A moment, as exactly as a stretch of time of this width needs it."""
-        if self._dates is None:
-            digits = max(0, math.ceil(math.log10(self._size / max(1.0, width))))
-            return f"{(moment - self._history.start) / self._size:,.{digits}f} {self._unit}"
-        return self._dates.text(moment, 0 if width >= SECOND else 3 if width >= 1_000_000 else 9) + " UTC"
+    def _told(self, moment: int) -> str:
+        return span(moment - self._start) if self._clock.offset is None else f"{self._clock.text(moment)} UTC"
 
-    def readings(self, lines: Iterable[Iterable[str]]) -> list[Reading]:
-        """What is said of each bucket: its moment, and these lines."""
-        return [Reading(self.scale.at(edge), "\n".join([self.told(edge, self.buckets.width), *some]))
-                for edge, some in zip(self.buckets.edges, lines)]
+    def readings(self, lines: Iterable[Iterable[str]]) -> list[tuple[float, str]]:
+        """What is said of each bucket, by its place: its moment, and these lines."""
+        return [(place, "\n".join([self._told(edge), *some]))
+                for place, edge, some in zip(self.places, self.edges, lines)]
 
-    def _ticks(self) -> list[Tick]:
-        # Tenths of a unit are asked for, so that a length of three seconds has more than four ticks.
-        start, tenth = self._history.start, max(1, self._size // 10)
-        steps = svg.steps_of((self._history.end - start) // tenth, 10)
-        return [Tick(self.scale.at(start + it * tenth), f"{it * tenth / self._size:g}") for it in steps]
-
-    def _date_ticks(self, dates: Dates) -> list[Tick]:
-        step = next(it for it in DATE_STEPS if it * MOST_TICKS >= self._history.end - self._history.start)
-        return [Tick(self.scale.at(moment), _label(dates.date(moment), step)) for moment in self._round(dates, step)]
-
-    def _round(self, dates: Dates, step: int) -> Iterator[int]:
-        """The moments with round dates, part by part."""
-        start, end = self._history.start, self._history.end
-        for place, (opened_at, offset) in enumerate(dates.parts):
-            low = max(start, opened_at) if place else start
-            high = dates.parts[place + 1].moment - 1 if place + 1 < len(dates.parts) else end
-            first = -(-(low + offset) // step) * step - offset
-            yield from range(first, min(high, end) + 1, step)
+    def _ticks(self) -> Iterator[Tick]:
+        """The moments with round dates, or of round times since the first event."""
+        offset = self._clock.offset
+        zero = -self._start if offset is None else offset
+        step = next(it for it in DATE_STEPS if it * MOST_STEPS >= self._end - self._start)
+        for time in range(-(-(self._start + zero) // step) * step, self._end + zero + 1, step):
+            label = f"{time / self._size:g}" if offset is None else _label(self._clock.text(time - zero, 9), step)
+            yield Tick(self._scale.at(time - zero), label)
 
 
-def _label(date: int, step: int) -> str:
-    """A date with what changes from one step to the next."""
-    whole = date_text(date, 9)
-    if step >= DAY or not date % DAY:
-        return whole[:10] if step >= 100 * DAY else whole[5:10]
+def _label(date: str, step: int) -> str:
+    """What changes of a date from one step to the next."""
+    if step >= DAY or date.endswith("00:00:00.000000000"):
+        return date[:10] if step >= 100 * DAY else date[5:10]
     if step >= MINUTE:
-        return whole[11:16]
-    return whole[11:19] if step >= SECOND else whole[17:20 + len(str(SECOND // step - 1))]
+        return date[11:16]
+    return date[11:19] if step >= SECOND else date[17:20 + len(str(SECOND // step - 1))]

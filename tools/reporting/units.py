@@ -33,12 +33,6 @@ def number(value: int) -> str:
     return f"{value:,}"
 
 
-def compact(value: int) -> str:
-    """A round number as a label of an axis."""
-    power = max((it for it in (3, 2) if value >= 1000**it * 10), default=0)
-    return f"{value // 1000**power:,} {' MG'[power - 1]}" if power else number(value)
-
-
 def counted(value: int, one: str, many: str = "") -> str:
     """A number with its noun."""
     return f"{value:,} {one if value == 1 else many or one + 's'}"

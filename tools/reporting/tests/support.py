@@ -1,6 +1,7 @@
 """What several tests need: the figures of a text, the tool within this process or as a command, and a browser."""
 from __future__ import annotations
 
+import re
 import subprocess
 import tempfile
 import unittest
@@ -11,12 +12,11 @@ from checking.testing import RoomTest, call_tool, run_tool
 from histories.tests.support import read
 from reporting import tests
 from reporting.figures import Figures, figures_of
-from reporting.retries import Policy
 from reporting.tests.browser import Browser
 
 
-def figures(text: str, policy: Policy = Policy()) -> Figures:
-    return figures_of("run.txt", read(text), policy=policy)
+def figures(text: str, last: int | None = None) -> Figures:
+    return figures_of("run.txt", read(text), last)
 
 
 class ReportTest(RoomTest):
@@ -85,6 +85,11 @@ class ReportPageTest(PageTest):
         """Leads to it by the key that leads from one thing on the page to the next."""
         self.browser.value("document.querySelector('h1').tabIndex = -1; document.querySelector('h1').focus()")
         self.browser.press("Tab")
+
+
+def counts(lines: Sequence[str]) -> list[int]:
+    """How many elements a report has at the start, offered, given, removed, cleared, and left at the end."""
+    return [int(it.replace(",", "")) for it in re.findall(r"(\d[\d,]*) [a-z]", lines[1])]
 
 
 def call(*words: str) -> tuple[int, str, str]:

@@ -17,13 +17,8 @@ DAMAGED = RUN.replace("size 1", "size 2")
 REFUSED = [
     ("", "the following arguments are required"), ("run.txt more", "more: No such file or directory"),
     ("run.txt --ht x", "unrecognized arguments: --ht"),
-    *((f"run.txt {option} {word}", f"argument {option}: {word!r} is no ") for option, word in (
-        ("--job", "-1"), ("--job", "1_0"), ("--job", "٣"), ("--job", str(2**64)), ("--attempts", "0"),
-        ("--attempts", "1001"), ("--delay", "-1"), ("--delay", str(2**64)), ("--rate", "1s"), ("--payload", "é"),
-        ("--payload", "a" * 65), ("--began", "now"))),
-    ("run.txt --delay 1 --rate 1", "not allowed with"), ("run.txt --payload a --job 1", "not allowed with"),
+    *((f"run.txt --attempts {it}", f"{it!r} is no number") for it in ("0", "1001", "1_0", "٣", "1s")),
     ("run.txt --html run.txt", "--html names a history itself"),
-    ("run.txt --began @1 --began @2", "--began is given once, or once for each history"),
 ]
 
 
@@ -37,14 +32,13 @@ class CommandTest(ReportTest):
         self.assertEqual((ran.returncode, ran.stderr), (0, ""))
         for line in (
             f"{self.history}: history 3, 11 events, 2 seats, from 100 to 310 ns (210 ns)",
-            "2 elements at the start, 2 offered, 4 given, 0 left at the end",
-            "  poll         2         1              1",
-            "  elements in the queue         3    100 ns           0",
-            "  of these expired              2    100 ns           0",
+            "2 elements at the start, 2 offered, 4 given, 0 removed, 0 cleared, 0 left at the end",
+            "  elements in the queue         3       100           0",
+            "  of these expired              2       100           0",
             "  median               20 ns    20 ns",
             "        2                2      2",
             "Jobs: 3; offered again: 1 (33.3 %)",
-            "     2      4        0      3              1            0               50 ns",
+            "  3       c               2      2         drain  310      20 ns",
         ):
             self.assertIn(line, ran.stdout.splitlines())
         self.assertEqual(ran.stdout.splitlines()[-2:], ["What looks wrong", "  nothing"])
@@ -74,8 +68,7 @@ class CommandTest(ReportTest):
         damaged, page, none = self.file("damaged.txt", DAMAGED), self.path("page.html"), self.path("none")
         for words, status, says in (
             ((damaged, "--html", page), 1, f"{damaged}: line 8: the queue holds 1, not 2"),
-            ((self.history, "--job", "7"), 1, f"{self.history}: no job of origin 7"),
-            ((self.history, "--payload", "mail"), 1, f"{self.history}: no job of payload mail"),
+            ((self.history, "--job", "7"), 1, "no job of origin or payload 7"),
             ((none,), 2, f"{none}: No such file or directory"),
             ((self.room,), 2, f"{self.room}: Is a directory"),
             ((self.history, "--html", f"{none}/page.html"), 2, f"{none}/page.html: No such file or directory"),
@@ -90,8 +83,6 @@ class CommandTest(ReportTest):
             with self.subTest(words=words):
                 told = [self.history if it == "run.txt" else it for it in words.split()]
                 self.assertIn(says, self.refused(2, *told))
-        for word in ("", "a b"):
-            self.assertIn("is no payload", self.refused(2, self.history, "--payload", word))
         self.assertEqual(Path(self.history).read_text("utf-8"), RUN)
 
     def test_a_reader_that_has_seen_enough(self) -> None:
@@ -114,34 +105,18 @@ class CommandTest(ReportTest):
     def test_last_attempts_are_listed(self) -> None:
         history = self.file("failing.txt", text_of(*failing(3, 2, 5_000_000)))
         lines = self.lines(history, "--attempts", "2")
-        self.assertEqual(lines[-6], "Given attempt 2, the last: 3 jobs")
-        self.assertRegex(lines[-5], r"^  origin  payload  elements  given  last left by  at \(ns\)  ")
-        told = [line.split()[:6] for line in lines[-4:-1]]
+        at = lines.index("Given attempt 2, the last: 3 jobs")
+        told = [line.split()[:6] for line in lines[at + 2:at + 5]]
         self.assertEqual(told, [[str(job), f"job-{job}", "2", "2", "take", "5000000"] for job in range(3)])
         says = "  Each is done or dead: the end of a job has no event, so a history does not tell which."
-        self.assertEqual(lines[-1], says)
-        self.assertEqual(self.lines(history, "--attempts", "3")[-1], "Given attempt 3, the last: 0 jobs")
+        self.assertEqual(lines[at + 5], says)
+        self.assertIn("Given attempt 3, the last: 0 jobs", self.lines(history, "--attempts", "3"))
 
-
-class PayloadTest(ReportTest):
-    def setUp(self) -> None:
-        super().setUp()
-        payloads = ["mail-1", "mail-12", "mail-1", "bill", "mail-*", "ail-1"]
-        lines: list[str] = [offer(id, 0, payload) for id, payload in enumerate(payloads)]
-        self.path_of_run = self.file("run.txt", text_of(*lines, "1 9 9 take 3", "1 9 9 remove 4 yes"))
-
-    def test_one_job(self) -> None:
-        for payload, says in (("bill", "job 3: payload bill, first expiry 0, 1 element"),
-                              ("bi*", "job 3: payload bill, first expiry 0, 1 element"),
-                              ("mail-**", "job 4: payload mail-*, first expiry 0, 1 element")):
-            lines = self.lines(self.path_of_run, "--payload", payload)
-            self.assertEqual(lines, self.lines(self.path_of_run, "--job", says[4]))
-            self.assertEqual(lines[0], says)
-
-    def test_several_jobs(self) -> None:
-        for payload, origins in (("mail-1", "02"), ("mail-1*", "012"), ("*", "012345")):
-            lines = self.lines(self.path_of_run, "--payload", payload)
-            self.assertEqual(lines[0], f"{len(origins)} jobs of payload {payload}")
-            self.assertEqual("".join(line.split()[0] for line in lines[2:]), origins)
-        told = [line.split()[3:6] for line in lines[5:7]]
-        self.assertEqual(told, [["1", "take", "9"], ["0", "remove", "9"]])
+    def test_the_lives_of_jobs_of_one_payload(self) -> None:
+        lines = [offer(id, 0, payload) for id, payload in enumerate(["mail", "bill", "mail", "letter"])]
+        path = self.file("payloads.txt", text_of(*lines, "1 9 9 take 2", "1 9 9 remove 0 yes"))
+        self.assertEqual(self.lines(path, "--job", "bill"), self.lines(path, "--job", "1"))
+        told = self.lines(path, "--job", "mail")
+        self.assertEqual(told[0], "2 jobs of origin or payload mail")
+        self.assertEqual([line.split()[:6] for line in told[2:]],
+                         [["0", "mail", "1", "0", "remove", "9"], ["2", "mail", "1", "1", "take", "9"]])

@@ -1,13 +1,11 @@
-"""What looks wrong in a history: by itself, and by the options that the report was told; what the program never
+"""What looks wrong in a history: by itself, and by the last attempt that the report was told; what the program never
 writes."""
 from __future__ import annotations
 
 import unittest
 
-from histories.grammar import GREATEST
 from histories.tests.support import RUN, offer, text_of
 from reporting.findings import Finding
-from reporting.retries import Policy
 from reporting.tests.support import figures
 
 MILLISECOND = 1_000_000
@@ -19,15 +17,14 @@ def attempts_of_one_job(*moments: int) -> list[str]:
             for line in ("1 {at} {at} offer {place} {at} 0 {first} {attempt} a", "1 {at} {at} take {place}")]
 
 
-def failing(jobs: int, attempts: int, delay: int, pause: int = 0) -> list[str]:
-    """Jobs that are offered at once, and then taken in turn by one seat that fails each, a pause after it took it."""
+def failing(jobs: int, attempts: int, delay: int) -> list[str]:
+    """Jobs that are offered at once, and then taken in turn by one seat that fails each."""
     lines = [offer(job, 0, f"job-{job}") for job in range(jobs)]
     queue, moment, id = [(0, job, job, 1) for job in range(jobs)], 0, jobs
     while queue:
         expiry, job, own, attempt = queue.pop(0)
         moment = max(moment, expiry)
         lines.append(f"1 {moment} {moment} take {own}")
-        moment += pause
         if attempt < attempts:
             lines.append(f"1 {moment} {moment} offer {id} {moment + delay} {job} 0 {attempt + 1} job-{job}")
             queue.append((moment + delay, job, id, attempt + 1))
@@ -35,14 +32,24 @@ def failing(jobs: int, attempts: int, delay: int, pause: int = 0) -> list[str]:
     return lines
 
 
-BURST = "1 job was given 3 times or more within 1.00 ms"
+def at_once(jobs: str, times: int) -> str:
+    return (f"{jobs} came back at once, {times} times in all: due at most 1.00 ms after failing; the delay is tiny, or"
+            " the next moment of their rate had passed")
+
+
+# Ten jobs of a rate whose next moment, 500, had passed when they were given at 900.
+PASSED = [*(offer(job, 0) for job in range(10)), "1 900 900 drain 10 " + " ".join(map(str, range(10))),
+          *(f"1 900 900 offer {10 + job} 500 {job} 0 2 a" for job in range(10))]
 
 # Events, and all that looks wrong in them.
 FINDINGS: list[tuple[list[str], list[str]]] = [
-    (attempts_of_one_job(0, 5, 1_000_000), [BURST]),
-    (attempts_of_one_job(0, 2_000_000, 2_000_001, 2_000_002), [BURST]),
-    (attempts_of_one_job(0, 5, 1_000_001), []),
+    (attempts_of_one_job(0, 5, 1_000_000), [at_once("1 job", 2)]),
     (attempts_of_one_job(0, 5), []),
+    (failing(10, 2, MILLISECOND), [at_once("10 jobs", 10)]),
+    (failing(10, 2, MILLISECOND + 1), []),
+    (failing(9, 2, MILLISECOND), []),
+    (PASSED, [at_once("10 jobs", 10), "10 elements never left the queue; 10 of them had expired at the end, the"
+                                      " earliest 400 ns before"]),
     ([offer(0, 5), offer(1, 10), offer(2, 11), "1 10 10 size 3"],
      ["3 elements never left the queue; 2 of them had expired at the end, the earliest 5 ns before"]),
     ([offer(0, 5), offer(1, 9), "1 0 0 clear"], ["2 elements were discarded by 1 clear"]),
@@ -55,45 +62,6 @@ FINDINGS: list[tuple[list[str], list[str]]] = [
       "the queue was about as deep at the end (100) as ever (100): more came than left"]),
     ([offer(id, 5) for id in range(99)], ["99 elements never left the queue; 0 of them had expired at the end"]),
 ]
-
-# Ten jobs of a rate whose next moment, 500, had passed when they were given at 900.
-PASSED = [*(offer(job, 0) for job in range(10)), "1 900 900 drain 10 " + " ".join(map(str, range(10))),
-          *(f"1 900 900 offer {10 + job} 500 {job} 0 2 a" for job in range(10))]
-
-# 200 jobs wait while each is failed after a tenth of a millisecond: none is given thrice within one.
-DEAD_SOON = failing(200, 3, 1000, pause=100_000)
-THREE = failing(3, 3, 5 * MILLISECOND)
-
-# Events, what the report is told, and a part of what looks wrong, or nothing.
-SAID: list[tuple[list[str], Policy, str]] = [
-    # Attempt 3 of the first job is offered when all 200 had failed once, and it a second time: after 201 pauses.
-    (DEAD_SOON, Policy(), "200 jobs came back at once, 400 times in all, at most 1.00 µs after failing; 200 reached"
-                          " attempt 3, the quickest 20.1 ms after its first gift; either the delay is tiny"),
-    (DEAD_SOON, Policy(delay=1000), "the delay of 1.00 µs leaves no time for what failed to recover"),
-    (failing(10, 2, MILLISECOND), Policy(),
-     "10 jobs came back at once, 10 times in all, at most 1.00 ms after failing"),
-    (failing(10, 2, MILLISECOND + 1), Policy(), ""),
-    (failing(9, 2, MILLISECOND), Policy(), ""),
-    # A tiny delay that was told looks wrong for one job.
-    (failing(1, 2, 1000), Policy(), ""),
-    (failing(1, 2, 1000), Policy(delay=1000), "1 job came back at once, 1 time in all"),
-    (PASSED, Policy(rate=500), "10 jobs came back at once, 10 times in all, at most 0 ns after failing; 10 reached"
-                               " attempt 2, the quickest 0 ns after its first gift; the next moment of their rate had"
-                               " passed or was near"),
-    (THREE, Policy(attempts=2), "3 jobs had attempts beyond --attempts 2: the run allowed more, or this history is not"
-                                " one that the program wrote"),
-    (THREE, Policy(attempts=3), ""),
-    (THREE, Policy(delay=5 * MILLISECOND), ""),
-    (THREE, Policy(delay=5_000_001), "6 of 6 returns have another expiry than --delay 5000001 gives: the run had"
-                                     " another policy, or this history is not one that the program wrote"),
-    # With a first expiry of 0 the second attempts are at the rate, and the third ones too.
-    (THREE, Policy(rate=5 * MILLISECOND), ""),
-    (THREE, Policy(rate=1), "6 of 6 returns have another expiry than --rate 1 gives"),
-]
-
-# A call that was asked at 5 took effect at 9: the delay counts from 5.
-ASKED = [offer(0, 0), "1 0 0 take 0", "2 9 9 size 0", "1 5 9 offer 1 5000005 0 0 2 a"]
-LATEST = [offer(0, 0), "1 9 9 take 0", f"1 9 9 offer 1 {GREATEST} 0 0 2 a"]
 
 AGAIN = "1 9 9 offer 1 9 0 5 2 a"  # the second attempt of job 0
 
@@ -125,22 +93,13 @@ class FindingsTest(unittest.TestCase):
         for events, says in FINDINGS:
             self.assertEqual([it.says for it in figures(text_of(*events)).findings], says)
 
-    def test_what_looks_wrong_by_what_is_told(self) -> None:
-        for events, policy, part in SAID:
-            with self.subTest(part=part, policy=policy):
-                said = "; ".join(it.says for it in figures(text_of(*events), policy).findings)
-                self.assertIn(part, said)
-                self.assertNotIn("given 3 times or more", said)
-                self.assertEqual(bool(said), bool(part))
-
     def test_what_the_program_never_writes(self) -> None:
         for fault, texts in NEVER_WRITTEN.items():
             says = f"1 job was {fault}: this history is not one that the program wrote, or its opening is not"
             for events in texts:
                 with self.subTest(fault=fault, events=events):
-                    text = text_of(*events)
                     origin = int(events[0].split(" ")[6])
-                    self.assertEqual(figures(text).findings[0], Finding(says, [origin]))
+                    self.assertEqual(figures(text_of(*events)).findings[0], Finding(says, [origin]))
 
     def test_an_opening_that_no_run_leaves(self) -> None:
         twice = RUN.replace("keep 2 150 1 120 2 b", "keep 2 150 0 90 2 a")
@@ -149,15 +108,13 @@ class FindingsTest(unittest.TestCase):
 
     def test_last_attempts(self) -> None:
         begun = (offer(0, 0), "1 0 0 take 0", "1 0 0 offer 1 5 0 0 2 a")
-        for events, attempts, last in [
+        for events, last, given in [
             (failing(3, 3, 1000), 3, [0, 1, 2]), (failing(3, 3, 1000), 4, []), (failing(3, 3, 1000), None, []),
             *(([*begun, end], 2, []) for end in ("1 9 9 size 1", "1 9 9 remove 1 yes", "1 9 9 clear")),
         ]:
-            self.assertEqual(figures(text_of(*events), Policy(attempts=attempts)).retries.last_given, last)
+            self.assertEqual(figures(text_of(*events), last).jobs.last_given, given)
 
-    def test_returns_that_do_not_fit(self) -> None:
-        for events, policy, misfits in (
-            (ASKED, Policy(delay=5_000_000), 0), (ASKED, Policy(delay=4_999_996), 1),
-            (LATEST, Policy(delay=GREATEST), 0), (LATEST, Policy(rate=GREATEST), 0),
-        ):
-            self.assertEqual(figures(text_of(*events), policy).retries.misfits, misfits, policy)
+    def test_attempts_beyond_the_last(self) -> None:
+        says = Finding("3 elements were of attempts beyond --attempts 2: the run allowed more")
+        self.assertIn(says, figures(text_of(*failing(3, 3, 5 * MILLISECOND)), 2).findings)
+        self.assertEqual(figures(text_of(*failing(3, 3, 5 * MILLISECOND)), 3).findings, [])

@@ -1,4 +1,4 @@
-"""The page as a text: what a payload may spell, how many points the plots have, and which jobs it has."""
+"""The page as a text: what a payload may spell, what it needs, and which jobs it has."""
 from __future__ import annotations
 
 import json
@@ -67,17 +67,13 @@ class PageTest(unittest.TestCase):
         text = page(figures(hostile_text()))
         outline = Outline(text)
         counts = {tag: outline.count(tag) for tag in ("script", "style", "title", "img", "b")}
-        # A figure in bold on each of nine cards.
-        self.assertEqual(counts, {"script": 2, "style": 1, "title": 1, "img": 0, "b": 9})
+        self.assertEqual(counts, {"script": 2, "style": 1, "title": 1, "img": 0, "b": 0})
         self.assertEqual(outline.texts["code"], HOSTILE)
         self.assertEqual([job[0] for job in lives_in(text).values()], HOSTILE)
         handlers = [name for _, attributes in outline.tags for name in attributes if name.startswith("on")]
         self.assertEqual(handlers, [])
         name = page(figures_of("</title><img src=x>\udcff&", read(RUN)))
         self.assertEqual(Outline(name).count("img"), 0)
-
-    def test_a_first_expiry_after_all_were_given(self) -> None:
-        self.assertIn("<td>–</td>", page_of(f"1 0 0 offer 0 0 0 {2**64 - 1} 1 a", "1 0 0 poll 0"))
 
     def test_it_needs_nothing_else_and_no_script_but_its_own_may_run(self) -> None:
         tags = Outline(page(figures(RUN))).tags
@@ -86,29 +82,13 @@ class PageTest(unittest.TestCase):
         self.assertIn("default-src 'none'", policy or "")
         self.assertNotIn("unsafe", policy or "")
 
-    def test_the_plots_have_as_many_points_as_the_captions_say(self) -> None:
-        rising = page_of(*[offer(id, 50 * id, at=id) for id in range(3000)])
-        for text, says in ((page(figures(RUN)), "standing 10 points, expired 10 points, of 10 changes."), (rising, "")):
-            self.assertIn(says, text)
-            standing, expired = re.findall(r"standing ([\d,]+) points?, expired ([\d,]+) points?", text)[0]
-            for kind, told in (("standing", standing), ("expired", expired)):
-                path = re.findall(f'<path class="line {kind}" d="([^"]*)"', text)[0]
-                self.assertEqual(1 + path.count("V"), int(told.replace(",", "")))
-
-    def test_a_long_run_is_thinned(self) -> None:
-        text = page_of(*[offer(id, 9_000_000, at=1000 * id) for id in range(3000)])
-        points = int(re.findall(r"standing ([\d,]+) points", text)[0].replace(",", ""))
-        self.assertTrue(400 <= points <= 1600)
-        self.assertIn("Of each 7.50 µs the first, the least, the greatest and the last value are drawn", text)
-
     def test_the_lives_of_jobs(self) -> None:
         lives = lives_in(page(figures(RUN)))
         self.assertEqual(set(lives), {"0", "1", "3"})
-        told, sorted_by = ["2", "2", "drain", "310", "20 ns", "210 ns"], [2, 2, "drain", 310, 20, 210]
-        self.assertEqual(lives["3"], ["c", "100", told, sorted_by, [
+        self.assertEqual(lives["3"], ["c", "100", [
             ["1", "3", "100", "1", "100", "120", "2", "take", "20 ns"],
             ["2", "4", "160", "1", "300", "310", "1", "drain", "10 ns"]]])
-        self.assertEqual(lives["1"][4], [["2", "2", "before", "", "150", "170", "2", "pollfor", "20 ns"]])
+        self.assertEqual(lives["1"][2], [["2", "2", "before", "", "150", "170", "2", "pollfor", "20 ns"]])
         # Numbers that a browser can't tell exactly are text.
         self.assertEqual(lives_in(page_of(offer(0, 2**64 - 1)))["0"][1], str(2**64 - 1))
 
@@ -118,9 +98,9 @@ class PageTest(unittest.TestCase):
             text = page_of(*lines)
         lives = lives_in(text)
         self.assertIn("40", lives)
-        self.assertLessEqual(sum(len(job[4]) for job in lives.values()), 10)
+        self.assertLessEqual(sum(len(job[2]) for job in lives.values()), 10)
         self.assertIn(f"the lives of {len(lives)} of 50 jobs", text)
-        self.assertIn("tools/report run.txt --job ORIGIN", text)
+        self.assertIn("tools/report --job", text)
 
     def test_a_job_of_too_many_elements_leaves_room_for_others(self) -> None:
         lines = [f"1 0 0 offer {id} 0 0 0 1 a" for id in range(11)] + [offer(11, 0)]

@@ -1,4 +1,4 @@
-"""The axes of the plots, and what they say of each place."""
+"""The axes of the plots, what they draw, and what they say of each place."""
 from __future__ import annotations
 
 import re
@@ -6,13 +6,12 @@ import unittest
 
 from histories.tests.support import RUN, offer, read, text_of
 from reporting import svg
-from reporting.columns import Buckets
-from reporting.dates import Dates, nanoseconds_of
+from reporting.dates import Clock, nanoseconds_of
+from reporting.plots import calls_plot, depth_plot, lateness_in, lateness_plot, offers_in, plots_of
 from reporting.span_axis import SpanAxis
-from reporting.svg import ROOMS, SHARES, Scale, Tick
+from reporting.svg import SHARES, Scale, Tick
 from reporting.tests.support import figures
 from reporting.time_axis import TimeAxis
-from reporting.time_plots import depth_plot, lateness_plot, rates_of, rates_plot
 from reporting.units import SECOND, mark
 
 EIGHT = "2026-11-26T08:00:00Z"
@@ -49,89 +48,80 @@ class SpanAxisTest(unittest.TestCase):
             self.assertTrue(all(below - above >= 17 for above, below in zip(places, places[1:])), places)
 
     def test_a_backlog_of_nine_minutes_has_ticks_where_the_data_lies(self) -> None:
-        told = ["10 min", "5 min", "2 min", "1 min", "30 s", "20 s"]
+        told = ["10 min", "5 min", "2 min", "1 min", "30 s", "15 s"]
         self.assertEqual(labels(SpanAxis(20 * SECOND, 540 * SECOND).ticks()), told)
-        plot = lateness_plot(figures(backlog()))
+        plot = plots_of(figures(backlog()))[-1]
         self.assertEqual(re.findall(r'class="y">([^<]*)<', plot.drawing)[0], "10 min")
-        self.assertIn("Equal steps are equal ratios.", plot.caption)
-        self.assertNotIn("power", plot.caption)
-        # The last of 180 buckets begins at 595.7 s, and has the gifts at 596 to 599 s.
-        self.assertEqual(plot.readings[-1].says, "9.93 min\nmedian 9.95 min\ngreatest 9.98 min\nof 4 gifts")
-
-
-class FittingTest(unittest.TestCase):
-    def shown(self, ticks: list[Tick], place: int) -> list[Tick]:
-        """The ticks that a page shows which has this place among those of ROOMS."""
-        kinds = [kind for kind, _ in ROOMS[:place + 1]]
-        return [tick for tick in svg.fitting(ticks) if tick.kind in kinds]
-
-    def test_labels_do_not_touch_on_a_page_of_any_width(self) -> None:
-        rows = [[Tick(round(place * SHARES / max(1, length - 1), 1), label) for place in range(length)]
-                for length, label in ((11, "0.5"), (40, "976–1000"), (3, "1"), (20, "100 ms"), (1, "0"), (0, ""))]
-        for ticks in [*rows, [Tick(place, "08:00:00") for place in (0, 3, 3.1, 250, 260, 500, 750, 751, 1000)]]:
-            for place, (_, room) in enumerate(ROOMS):
-                shown = self.shown(ticks, place)
-                for before, after in zip(shown, shown[1:]):
-                    apart = (after.place - before.place) * room / SHARES
-                    self.assertGreater(apart, 7 * (len(before.label) + len(after.label)) / 2, (room, before, after))
-
-    def test_a_wide_page_shows_what_a_narrow_one_does_and_more(self) -> None:
-        ticks = [Tick(place * 50, f"{place}0:00") for place in range(21)]
-        counts = [len(self.shown(ticks, place)) for place in range(len(ROOMS))]
-        self.assertEqual(counts, sorted(set(counts)))
-        self.assertEqual(svg.fitting(ticks)[0], ticks[0])
+        # The last of 200 buckets begins at 596.005 s, and has the gifts at 597 to 599 s.
+        self.assertEqual(plot.readings[-1][1], "9.93 min\nmedian 9.97 min\ngreatest 9.98 min\nof 3 gifts")
 
 
 class TimeAxisTest(unittest.TestCase):
-    def axis(self, seconds: float, began: str = EIGHT, start: int = 0) -> TimeAxis:
-        """The axis of a run of so many seconds, without dates if none is told."""
-        end = start + round(seconds * SECOND)
+    def axis(self, nanoseconds: float, began: str = EIGHT, start: int = 0, most: int = 200) -> TimeAxis:
+        """The axis of a run of so many nanoseconds, without dates if none is told."""
+        end = start + round(nanoseconds)
         history = read(text_of(*(f"1 {at} {at} size 0" for at in (start, end))))
-        return TimeAxis(history, Dates.of(history, [nanoseconds_of(began)]) if began else None)
+        return TimeAxis(history, Clock(nanoseconds_of(began)) if began else Clock(), most)
 
-    def shown(self, axis: TimeAxis) -> list[str]:
-        return re.findall(r'class="x(?: from-\d+)?">([^<]*)<', axis.drawn())
+    def test_buckets_hold_each_moment_once(self) -> None:
+        for start, end, most in ((0, 0, 9), (5, 7, 9), (0, 99, 7), (2**64 - 3, 2**64 - 1, 2)):
+            axis = self.axis(end - start, "", start, most)
+            self.assertEqual((axis.edges[0], axis.edges[-1]), (start, end + 1))
+            self.assertEqual(len(set(axis.edges)), axis.count + 1)
+            self.assertLessEqual(axis.count, most)
+            self.assertEqual([axis.bucket(it) for it in (start, end)], [0, axis.count - 1])
 
-    def test_dates_at_the_axis(self) -> None:
-        for axis, part, told in (
-            (self.axis(600), slice(3), ["08:00", "08:01", "08:02"]), (self.axis(40), slice(-1, None), ["08:00:40"]),
-            (self.axis(0.5), slice(2), ["00.00", "00.05"]), (self.axis(0), slice(9), ["00.000000000"]),
+    def test_labels_at_the_axis(self) -> None:
+        for axis, told in (
+            (self.axis(600 * SECOND), "08:00 08:02 08:04 08:06 08:08 08:10"),
+            (self.axis(40 * SECOND), "08:00:00 08:00:10 08:00:20 08:00:30 08:00:40"),
+            (self.axis(SECOND / 2), "00.0 00.1 00.2 00.3 00.4 00.5"), (self.axis(0), "00.000000000"),
+            (self.axis(2 * 86_400 * SECOND, "2026-11-29T20:00Z"), "11-30 12:00 12-01 12:00"),
+            (self.axis(3 * SECOND, "", 50), "0 1 2 3"), (self.axis(600 * SECOND, ""), "0 2 4 6 8 10"),
         ):
-            self.assertEqual(self.shown(axis)[part], told)
-        self.assertLessEqual({"12-01", "12:00"}, {*self.shown(self.axis(3 * 86_400, "2026-11-29T20:00Z"))})
+            shown = re.findall(r'class="x(?: wide)?">([^<]*)<', axis.drawn())
+            self.assertEqual(" ".join(shown), told)
         self.assertIn("UTC, from 2026-11-29 20:00:00 on", self.axis(9, "2026-11-29T20:00Z").drawn())
 
-    def test_a_moment_is_told_as_exactly_as_its_bucket(self) -> None:
-        for began, start, after, width, told in (
-            ("", 50, 130_000_000, 11_000_000, "0.13 s"), ("", 50, SECOND // 8, 5_000_000, "0.125 s"),
-            (EIGHT, 0, SECOND // 8, 11_000_000, "2026-11-26 08:00:00.125 UTC"),
-        ):
-            self.assertEqual(self.axis(2, began, start).told(start + after, width), told)
 
-
-class ReadingsTest(unittest.TestCase):
-    def test_rates(self) -> None:
-        # The events at 100 to 120, 160 to 170, 200, and 310, of which element 4 is a return.
-        self.assertEqual(rates_of(read(RUN), Buckets([100, 160, 200, 311])), ([1, 0, 0], [2, 1, 1], [0, 1, 0]))
-        plot = rates_plot(figures(RUN))
+class PlotsTest(unittest.TestCase):
+    def test_what_happened_in_each_bucket(self) -> None:
+        # In thirds of 211 nanoseconds the events at 100 to 170, 200, and 310, of which element 4 is a return.
+        history = read(RUN)
+        axis = TimeAxis(history, Clock(), 3)
+        self.assertEqual((offers_in(axis, history), lateness_in(axis, history)),
+                         (([1, 0, 0], [1, 0, 0]), [[20, 20, 30], [], [10]]))
+        plot = calls_plot(history, axis, [3, 0, 1])
         self.assertIn("In all 1 offer, 4 gifts and 1 return.", plot.caption)
-        self.assertEqual(plot.title, "Offers, gifts and returns a nanosecond")
-        plot = rates_plot(figures(backlog()))
-        self.assertEqual(plot.title, "Offers, gifts and returns a second")
-        # 599 s in 180 stretches: the first has 600 offers and 4 gifts, the others 3 or 4 gifts each.
-        self.assertEqual(plot.readings[0].says, "0.00 min\n180 offers\n1.2 gifts\n0 returns a second")
+        self.assertEqual(plot.readings[0][1], "0 ns\n1 offer\n3 gifts\n1 return")
+        self.assertEqual([it.heights for it in plot.lines],
+                         [[157.3, 222.0, 222.0], [28.0, 222.0, 157.3], [157.3, 222.0, 222.0]])
+        late = lateness_plot(lateness_in(axis, history), axis)
+        self.assertEqual([it[1].split("\n")[1] for it in late.readings], ["median 20 ns", "nothing was given",
+                                                                          "median 10 ns"])
+
+    def test_no_peak_is_lost(self) -> None:
+        """A thousand elements stand for a nanosecond."""
+        figured = figures(text_of(*(offer(id, 50) for id in range(1000)), "1 1 1 clear", "1 9999 9999 size 0"))
+        plot = depth_plot(figured.depth, TimeAxis(figured.history, Clock(), 10))
+        standing = plot.lines[0].heights
+        self.assertEqual((standing[0], {*standing[1:]}), (svg.TOP, {svg.BOTTOM}))
+        self.assertIn('<path class="line standing" d="M0.0 28.0H100.0V222.0H200.0', plot.drawing)
+
+    def test_a_line_is_broken_where_there_is_no_value(self) -> None:
+        self.assertEqual(svg.stairs([0, 1, 2, 3, 4], [7, 8, None, 9]), "M0 7H1V8H2M3 9H4")
 
     def test_depth(self) -> None:
-        told = dict(it.says.split("\n", 1) for it in depth_plot(figures(RUN)).readings)
+        depth, history = figures(RUN).depth, read(RUN)
+        told = dict(says.split("\n", 1) for _, says in depth_plot(depth, TimeAxis(history, Clock(), 211)).readings)
         for moment, standing, expired in (("0", "2 to 3", "1 to 2"), ("20", "1 to 3", "0 to 2"), ("21", "1", "0"),
                                           ("50", "1", "0 to 1"), ("210", "0 to 1", "0 to 1")):
             self.assertEqual(told[f"{moment} ns"], f"{standing} in the queue\n{expired} of these expired")
 
     def test_readings_rise(self) -> None:
-        for draw in (depth_plot, rates_plot, lateness_plot):
-            places = [it.place for it in draw(figures(RUN)).readings]
-            self.assertEqual(places, sorted(places))
-            self.assertEqual(places[0], 0)
+        for plot in plots_of(figures(RUN)):
+            places = [place for place, _ in plot.readings]
+            self.assertEqual((places, places[0]), (sorted(places), 0))
 
     def test_scale_of_one_value(self) -> None:
         self.assertEqual(Scale(5, 5, 0, SHARES).at(5), 0)
