@@ -10,6 +10,7 @@ import time
 from typing import Any, BinaryIO
 
 PATIENCE = 2.0  # seconds before anything is said
+ERASE = "\r\033[K"  # back to the left, and the line is empty
 
 
 class Progress:
@@ -17,29 +18,22 @@ class Progress:
 
     def __init__(self) -> None:
         self._begin = time.monotonic() + PATIENCE if sys.stderr.isatty() else math.inf
-        self._width = 0
 
     def __enter__(self) -> Progress:
         return self
 
     def __exit__(self, *_: object) -> None:
-        if self._width:
-            self._write("")
-            self._write("")  # which puts the cursor back to the left
+        self.say("")
 
     def say(self, what: str) -> None:
         """Says what is done now."""
         if time.monotonic() >= self._begin:
-            self._write(what[:shutil.get_terminal_size().columns - 1])
+            sys.stderr.write(ERASE + what[:shutil.get_terminal_size().columns - 1])
+            sys.stderr.flush()
 
     def reading(self, path: str) -> BinaryIO:
         """Opens a file of which is said how much has been read, if it has a size."""
         return io.BufferedReader(_ToldFile(path, self))
-
-    def _write(self, line: str) -> None:
-        sys.stderr.write("\r" + line.ljust(self._width))
-        sys.stderr.flush()
-        self._width = len(line)
 
 
 class _ToldFile(io.FileIO):

@@ -1,4 +1,4 @@
-"""The words of a tool's command line, and its end where nobody takes its output."""
+"""The words of a tool's command line, its exit status, and its end where nobody takes its output."""
 from __future__ import annotations
 
 import argparse
@@ -29,15 +29,23 @@ def number(kind: Callable[[str], Number], least: Number, most: Number) -> Callab
     return read
 
 
-def whole_number(least: int, most: int, told: str = "") -> Callable[[str], int]:
-    """Reads a number of digits alone, from `least` to `most`, which may be told in other words."""
-
-    def read(word: str) -> int:
-        if not (word.isascii() and word.isdigit() and least <= int(word) <= most):
-            raise argparse.ArgumentTypeError(f"{word!r} is no number from {least} to {told or f'{most:,}'}")
-        return int(word)
-
-    return read
+def exit_status(name: str, work: Callable[[], int]) -> int:
+    """The exit status of a tool by its work, or 2 behind a line that says why it can't be done."""
+    for stream in (sys.stdout, sys.stderr):
+        stream.reconfigure(errors="backslashreplace")  # type: ignore[attr-defined]
+    try:
+        return work()
+    except BrokenPipeError:
+        give_up_output()  # whoever read it has seen enough
+        says = "cannot write output"
+    except OSError as fault:
+        says = f"{fault.filename or 'output'}: {fault.strerror}"
+    except MemoryError:
+        says = "out of memory"
+    except KeyboardInterrupt:
+        return 130
+    print(f"{name}: {says}", file=sys.stderr)
+    return 2
 
 
 def give_up_output() -> None:

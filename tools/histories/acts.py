@@ -17,8 +17,6 @@ KEYWORDS: tuple[str, ...] = tuple(keyword for keyword, told in BY_KEYWORD.items(
 
 GIVES_ONE = frozenset((POLL, TAKE, POLLFOR))
 GIVES = GIVES_ONE | {DRAIN}  # a drain as many as it says
-FINDS_ONE = GIVES_ONE | {PEEK, REMOVE}
-FINDS_NONE = frozenset((POLL_NONE, POLLFOR_NONE, PEEK_NONE, REMOVE_NONE))
 
 # Where the ids of the elements that an act gave stand among its words, by the first of these.
 IDS: dict[str, slice] = {"poll": slice(1, 2), "take": slice(1, 2), "pollfor": slice(3, 4), "drain": slice(2, None)}

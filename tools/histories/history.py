@@ -63,13 +63,11 @@ class Elements:
 
 @dataclass
 class Events:
-    """The columns of the events. A subject is the element's row, the number that a drain gave or a size counted, or
-    NONE."""
+    """The columns of the events."""
 
     seats: array[int] = column("Q")
     moments: array[int] = column("Q")  # at which the calls took effect
     acts: bytearray = field(default_factory=bytearray)
-    subjects: array[int] = column("i")
 
     def __len__(self) -> int:
         return len(self.acts)

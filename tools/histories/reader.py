@@ -13,7 +13,7 @@ from typing import BinaryIO, Callable, Iterable, Match, TypeVar
 from histories.acts import BY_KEYWORD, CLEAR, DRAIN, GIVES_ONE, OFFER, PEEK, PEEK_NONE, REMOVE, SIZE
 from histories.faults import Damaged, Wrong
 from histories.grammar import GREATEST, OFFERED_GROUPS, Head
-from histories.history import NONE, History, Run
+from histories.history import History, Run
 from histories.reported_queue import ReportedQueue
 from histories.text import Text
 
@@ -90,38 +90,35 @@ class Reader:
             if moment != latest:
                 raise Wrong(f"the moment is {moment}, and has to be {latest}, the greater of the one asked and the"
                             " last")
-        act, subject = self._told(line, moment, event)
+        events.acts.append(self._told(line, moment, event))
         events.seats.append(int(seat))
         events.moments.append(moment)
-        events.acts.append(act)
-        events.subjects.append(subject)
         self._last = moment
 
-    def _told(self, line: Match[bytes], moment: int, event: int) -> tuple[int, int]:
-        """What an event does to the queue: its act and its subject. The last group that matched has the act's name."""
+    def _told(self, line: Match[bytes], moment: int, event: int) -> int:
+        """The act of an event, which does that to the queue. The last group that matched has the act's name."""
         queue, keyword = self._queue, line.lastgroup or ""
         if keyword == "offer":
-            return OFFER, queue.offer(line.group(*OFFERED_GROUPS), event)
-        answer, subject = line[keyword], NONE
+            queue.offer(line.group(*OFFERED_GROUPS), event)
+            return OFFER
+        answer = line[keyword]
         act = BY_KEYWORD[keyword][answer in NOTHING]
         if keyword == "pollfor":
             in_range(line["start"])
             in_range(line["timeout"])
         if act in GIVES_ONE:
-            return act, queue.give(int(answer), moment, event)
-        if act == PEEK:
-            subject = queue.stands(int(answer))
-        elif act == PEEK_NONE:
-            queue.count(0)
-        elif keyword == "remove":
-            subject = queue.remove(in_range(line["removed"]), act == REMOVE, event)
+            queue.give(int(answer), moment, event)
         elif act == DRAIN:
-            subject = queue.drain(in_range(line["most"]), answer.split(), moment, event)
+            queue.drain(in_range(line["most"]), answer.split(), moment, event)
+        elif keyword == "remove":
+            queue.remove(in_range(line["removed"]), act == REMOVE, event)
         elif act == CLEAR:
-            subject = queue.clear(event)
-        elif act == SIZE:
-            subject = queue.count(int(answer))
-        return act, subject
+            queue.clear(event)
+        elif act == PEEK:
+            queue.stands(int(answer))
+        elif act in (PEEK_NONE, SIZE):
+            queue.count(int(answer) if act == SIZE else 0)
+        return act
 
 
 def in_range(word: bytes) -> int:

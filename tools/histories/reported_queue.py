@@ -39,54 +39,48 @@ class ReportedQueue:
         self._history.kept += 1
         self._add(id, line.groups(), NONE)
 
-    def offer(self, words: ElementWords, event: int) -> int:
-        """Adds an element that was offered. Returns its row."""
+    def offer(self, words: ElementWords, event: int) -> None:
+        """Adds an element that was offered."""
         id = int(words[0])
         if id != self.next_id:
             raise Wrong(f"element {id} is offered, and the next id is {self.next_id}")
         self.next_id += 1
-        return self._add(id, words, event)
+        self._add(id, words, event)
 
-    def give(self, id: int, moment: int, event: int) -> int:
-        """An element leaves because it has expired. Returns its row."""
+    def give(self, id: int, moment: int, event: int) -> None:
+        """An element leaves because it has expired."""
         row = self.stands(id)
         if self._expiries[row] > moment:
             raise Wrong(f"element {id} is given at {moment}, and expires at {self._expiries[row]}")
         self._left_in[row] = event
         self._number -= 1
-        return row
 
-    def drain(self, most: int, ids: Sequence[bytes], moment: int, event: int) -> int:
-        """Several elements leave because they have expired. Returns how many."""
+    def drain(self, most: int, ids: Sequence[bytes], moment: int, event: int) -> None:
+        """Several elements leave because they have expired."""
         if len(ids) > most:
             raise Wrong(f"a drain of at most {most} gives {len(ids)}")
         for id in ids:
             self.give(int(id), moment, event)
-        return len(ids)
 
-    def remove(self, id: int, found: bool, event: int) -> int:
-        """An element is taken out, or was not there. Returns its row, or NONE if there never was one."""
+    def remove(self, id: int, found: bool, event: int) -> None:
+        """An element is taken out, or was not there."""
         row = self._history.row_of(id)
         if found != (row is not None and self._left_in[row] == NONE):
             raise Wrong(f"element {id} was {'not ' if found else ''}in the queue")
         if found and row is not None:
             self._left_in[row] = event
             self._number -= 1
-        return NONE if row is None else row
 
-    def clear(self, event: int) -> int:
-        """All elements leave. Returns how many there were."""
+    def clear(self, event: int) -> None:
+        """All elements leave."""
         for row in self.rows():
             self._left_in[row] = event
-        self._cleared = self._rows
-        were, self._number = self._number, 0
-        return were
+        self._cleared, self._number = self._rows, 0
 
-    def count(self, size: int) -> int:
+    def count(self, size: int) -> None:
         """Checks that this many elements are in the queue, possibly none."""
         if size != self._number:
             raise Wrong(f"the queue holds {self._number}, not {size}")
-        return size
 
     def stands(self, id: int) -> int:
         """Checks that an element is in the queue. Returns its row."""
@@ -95,7 +89,7 @@ class ReportedQueue:
             raise Wrong(f"element {id} is not in the queue")
         return row
 
-    def _add(self, id: int, words: ElementWords, event: int) -> int:
+    def _add(self, id: int, words: ElementWords, event: int) -> None:
         own, expiry, origin_word, first, attempt, payload = words
         elements, row = self._elements, self._rows
         origin = id if origin_word == own else int(origin_word)
@@ -114,7 +108,6 @@ class ReportedQueue:
         elements.payload_ends.append(len(elements.payloads))
         self._rows += 1
         self._number += 1
-        return row
 
     def _root(self, row: int, origin: int) -> int:
         """The first row with this origin, which may be the new one."""

@@ -4,8 +4,8 @@ from __future__ import annotations
 from array import array
 from dataclasses import dataclass
 
-from histories import acts
 from histories.history import NONE, History, column
+from reporting.lateness import in_rising_order
 
 
 @dataclass
@@ -27,39 +27,33 @@ class Depth:
         return greatest, self.moments[values.index(greatest)]
 
 
-def _expiries_on_the_way(history: History) -> array[int]:
-    """When elements in the queue that had been offered before expired, in rising order."""
-    elements, moments, start, end = history.elements, history.events.moments, history.start, history.end
-    return array("Q", sorted(
-        expiry for expiry, offered, left in zip(elements.expiries, elements.offered_in, elements.left_in)
-        if (start if offered == NONE else moments[offered]) < expiry <= (end if left == NONE else moments[left])))
-
-
 def depth_of(history: History) -> Depth:
     """Follows the queue from event to event. An element that expires between two events counts from that moment on."""
-    depth, events, expiries = Depth(), history.events, history.elements.expiries
-    note = depth.note
-    standing, expired = history.kept, sum(it <= history.start for it in expiries[:history.kept])
-    note(history.start, standing, expired)
-    coming = _expiries_on_the_way(history)
-    place, count = 0, len(coming)
-    for moment, act, subject in zip(events.moments, events.acts, events.subjects):
-        while place < count and coming[place] <= moment:
+    depth, elements, moments = Depth(), history.elements, history.events.moments
+    standings, dues = (array("i", bytes(4 * len(moments))) for _ in range(2))  # by how much an event changes them
+    standing, expired, coming = history.kept, 0, array("Q")
+    for expiry, offered, left in zip(elements.expiries, elements.offered_in, elements.left_in):
+        came, went = history.start if offered == NONE else moments[offered], history.end
+        if offered != NONE:
+            standings[offered] += 1
+        if left != NONE:
+            went = moments[left]
+            standings[left] -= 1
+            dues[left] -= expiry <= went
+        if came < expiry <= went:
+            coming.append(expiry)
+        elif expiry <= came and offered != NONE:
+            dues[offered] += 1
+        elif expiry <= came:
             expired += 1
-            note(coming[place], standing, expired)
+    depth.note(history.start, standing, expired)
+    coming, place = in_rising_order(coming), 0
+    for moment, change, due in zip(moments, standings, dues):
+        while place < len(coming) and coming[place] <= moment:
+            expired += 1
+            depth.note(coming[place], standing, expired)
             place += 1
-        if act == acts.OFFER:
-            standing += 1
-            expired += expiries[subject] <= moment
-        elif act in acts.GIVES:
-            given = subject if act == acts.DRAIN else 1
-            standing, expired = standing - given, expired - given
-        elif act == acts.REMOVE:
-            standing -= 1
-            expired -= expiries[subject] <= moment
-        elif act == acts.CLEAR:
-            standing = expired = 0
-        else:
-            continue
-        note(moment, standing, expired)
+        if change or due:
+            standing, expired = standing + change, expired + due
+            depth.note(moment, standing, expired)
     return depth

@@ -28,5 +28,4 @@ class Figures(NamedTuple):
 def figures_of(name: str, history: History, last: int | None = None, clock: Clock = Clock()) -> Figures:
     """Counts everything."""
     depth, jobs = depth_of(history), jobs_of(history, last)
-    findings = [*findings_of(history, depth, jobs, last)]
-    return Figures(name, history, clock, last, depth, lateness_of(history), jobs, findings)
+    return Figures(name, history, clock, last, depth, lateness_of(history), jobs, [*findings_of(history, depth)])

@@ -7,13 +7,12 @@ from __future__ import annotations
 
 from array import array
 from heapq import nsmallest
-from typing import Iterable, Iterator, NamedTuple, Sequence
+from typing import Iterator, NamedTuple, Sequence
 
 from histories.acts import CLEAR, POLL, POLL_NONE
 from histories.history import NONE, History
 from reporting.chains import broken_chains
 from reporting.depth import Depth
-from reporting.jobs import Attempts, Jobs
 from reporting.units import counted, percent, span
 
 AT_ONCE, JOBS_AT_ONCE = 1_000_000, 10  # nanoseconds from a return until it is due, and jobs that came back so soon
@@ -29,13 +28,12 @@ class Finding(NamedTuple):
     origins: Sequence[int] = ()
 
 
-def findings_of(history: History, depth: Depth, jobs: Jobs, last: int | None) -> Iterator[Finding]:
-    """All that looks wrong. The last attempt of a job may be known."""
+def findings_of(history: History, depth: Depth) -> Iterator[Finding]:
+    """All that looks wrong."""
     for fault, roots in broken_chains(history).items():
         yield Finding(f"{_were(len(roots), 'job')} {fault}: this history is not one that the program wrote, or its"
                       " opening is not", _named(history, roots))
     yield from _at_once(history)
-    yield from _beyond(jobs.attempts, last)
     yield from _left(history)
     yield from _calls(history)
     at_end, deepest = depth.standing[-1], max(depth.standing)
@@ -53,13 +51,6 @@ def _at_once(history: History) -> Iterator[Finding]:
         yield Finding(
             f"{counted(len(jobs), 'job')} came back at once, {len(returns):,} times in all: due at most {span(AT_ONCE)}"
             " after failing; the delay is tiny, or the next moment of their rate had passed", _named(history, jobs))
-
-
-def _beyond(attempts: Iterable[Attempts], last: int | None) -> Iterator[Finding]:
-    """Attempts that the report's own option contradicts."""
-    beyond = sum(it.offered for it in attempts if last is not None and it.attempt > last)
-    if beyond:
-        yield Finding(f"{_were(beyond, 'element')} of attempts beyond --attempts {last}: the run allowed more")
 
 
 def _left(history: History) -> Iterator[Finding]:

@@ -12,7 +12,7 @@ from reporting import svg
 from reporting.depth import Depth
 from reporting.figures import Figures
 from reporting.lateness import rank
-from reporting.span_axis import SpanAxis
+from reporting.span_axis import span_ticks
 from reporting.time_axis import TimeAxis
 from reporting.units import counted, number, span
 
@@ -109,13 +109,11 @@ def lateness_in(axis: TimeAxis, history: History) -> list[list[int]]:
 
 def lateness_plot(late: Sequence[Sequence[int]], axis: TimeAxis) -> Plot:
     """How late elements were given: the median and the greatest of each bucket."""
-    some = [it for it in late if it]
-    y = SpanAxis(min((rank(it, 0.5) for it in some), default=0), max((it[-1] for it in some), default=0))
+    y = svg.count_scale(it[-1] for it in late if it)
     return Plot(
         "lateness", "Lateness over time",
         [Line("median", "median", [y.at(rank(it, 0.5)) if it else None for it in late]),
          Line("greatest", "greatest", [y.at(it[-1]) if it else None for it in late])],
-        svg.y_axis(y.ticks(), "lateness"), axis,
-        f"Of what was given in each {span(round(axis.width))}. Equal steps are equal ratios.",
+        svg.y_axis(span_ticks(y), "lateness"), axis, f"Of what was given in each {span(round(axis.width))}.",
         axis.readings([f"median {span(rank(it, 0.5))}", f"greatest {span(it[-1])}", f"of {counted(len(it), 'gift')}"]
                       if it else ["nothing was given"] for it in late))

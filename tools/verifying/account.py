@@ -4,7 +4,8 @@ from __future__ import annotations
 import re
 from typing import Callable, Dict, List, Match, NamedTuple, Optional, Sequence, Tuple
 
-from verifying.history import ANY, NONE, Element, History
+from histories.history import NONE, Element
+from verifying.history import ANY, History
 
 MOST_HELD = 64
 
@@ -37,7 +38,7 @@ class Account:
         self._history, self._rules = history, rules
         self.held: Dict[int, Optional[Element]] = {}  # by id, in the order in which they were fetched
         self.has_left = False  # by QUIT
-        self.last_attempt = ""  # of a job, as a DEAD says
+        self.last_attempt = 0  # of a job, as a DEAD says
         self.was_full = False  # so was the run, as a refusal says
         self._is_over = False  # by a lease that was over, as a refusal says
 
@@ -66,9 +67,6 @@ class Account:
         id = int(words[0])
         return Expected(f"{_look(asked, timeout)} {words[0]}", self._history.exits[id], self._fetched(id, words))
 
-    def _none(self, asked: str, timeout: Optional[str]) -> Expected:
-        return Expected(f"{_look(asked, timeout)} none")
-
     def _head(self, *words: str) -> Expected:
         return Expected(f"peek {words[0]}", NONE, _flaw(words, self._history.element(int(words[0]))))
 
@@ -88,7 +86,7 @@ class Account:
         if job is None:  # it was not offered, which was told when it was fetched
             raise Strange
         first = f" {job.first}" if self._history.version == 3 else ""
-        act = f"offer {id} {expiry} {job.origin}{first} {int(job.attempt) + 1} {job.payload}"
+        act = f"offer {id} {expiry} {job.origin}{first} {job.attempt + 1} {job.payload}"
         return Expected(act, self._history.offers[int(id)])
 
     def _settled(self, id: str) -> Optional[Element]:
@@ -103,7 +101,7 @@ class Account:
 
     def _dead(self, id: str) -> None:
         job = self._settled(id)
-        self.last_attempt = job.attempt if job else ""
+        self.last_attempt = job.attempt if job else 0
 
     def _now(self, asked: str, now: str) -> None:
         _test(int(now) >= int(asked))
@@ -121,9 +119,6 @@ class Account:
 
     def _full(self) -> None:
         self.was_full = True
-
-    def _unchanged(self) -> None:
-        """Such a reply says nothing about a job or a call."""
 
     def _fetched(self, id: int, words: Sequence[str]) -> str:
         """The flaw of a line that gives an element, which is held from then on."""
@@ -145,8 +140,8 @@ def _flaw(words: Sequence[str], element: Optional[Element]) -> str:
     """What a line that shows an element says about it, and the history does not."""
     if element is None:
         return f"element {words[0]} was not offered"
-    was = element.id, element.expiry, element.attempt, element.payload
-    return "" if words == was else f"it says {' '.join(words)}, and was {' '.join(was)}"
+    says, was = " ".join(words), f"{element.id} {element.expiry} {element.attempt} {element.payload}"
+    return "" if says == was else f"it says {says}, and was {was}"
 
 
 def _compiled(form: str) -> Callable[[str], Optional[Match[str]]]:
@@ -159,25 +154,26 @@ ELEMENT = f"({N}) ({N}) ({N}) ({W})"
 
 # What reads a reply: a request with its reply, by their form, whose groups it takes.
 Read = Callable[..., Optional[Expected]]
+UNCHANGED: Read = lambda _: None  # such a reply says nothing about a job or a call
 REPLIES: Dict[str, Read] = {
     f"(OFFER|OFFERAT) ({N}) ({W})\nOFFERED ({N}) ({N})": Account._offered,
     f"(TAKE|POLL|POLLFOR ({N}))\nITEM {ELEMENT}": Account._item,
-    f"(POLL|PEEK|POLLFOR ({N}))\nNONE": Account._none,
+    f"(POLL|PEEK|POLLFOR ({N}))\nNONE": lambda _, asked, timeout: Expected(f"{_look(asked, timeout)} none"),
     f"PEEK\nHEAD {ELEMENT}": Account._head,
     f"DRAIN ({N})\nDRAINED ({N})((?:\nITEM {N} {N} {N} {W})*)": Account._drained,
     f"REMOVE ({N})\nREMOVED (yes|no)": Account._removed,
-    "CLEAR\nCLEARED": lambda account: Expected("clear"),
-    f"SIZE\nSIZE ({N})": lambda account, count: Expected(f"size {count}"),
+    "CLEAR\nCLEARED": lambda _: Expected("clear"),
+    f"SIZE\nSIZE ({N})": lambda _, count: Expected(f"size {count}"),
     f"FAIL ({N})\nAGAIN ({N}) ({N})": Account._again,
     f"FAIL ({N})\nDEAD \\1": Account._dead,
     f"DONE ({N})\nDONE \\1": Account._done,
     f"AT ({N})\nNOW ({N})": Account._now,
-    f"(?:TAKE|POLLFOR {N})\nSTOPPED": Account._unchanged,
+    f"(?:TAKE|POLLFOR {N})\nSTOPPED": UNCHANGED,
     "QUIT\nBYE": Account._left,
     f"(?:DONE|FAIL) ({N})\nERR 5 not-held": Account._not_held,
     f"(?:TAKE|POLL|POLLFOR {N})\nERR 9 held": Account._too_many,
     ".*\nERR 6 full": Account._full,
-    ".*\nERR (?:1 syntax|2 number|3 range|4 payload|7 memory|8 line)": Account._unchanged,
+    ".*\nERR (?:1 syntax|2 number|3 range|4 payload|7 memory|8 line)": UNCHANGED,
 }
 
 # The same, by the first word of the reply. A request may end with a carriage return.

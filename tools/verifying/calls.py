@@ -6,7 +6,8 @@ from typing import Dict, List, Optional, Set, Tuple
 
 from verifying.account import Account, Expected, Rules, Strange
 from verifying.faults import Faults
-from verifying.history import NONE, History
+from histories.history import NONE
+from verifying.history import History
 from verifying.record import GREATEST_TIME, Exchange
 
 # Takes the place of the time at which a reply came, if none did.

@@ -12,7 +12,7 @@ from typing import List
 from histories.acts import given_ids
 from verifying.account import MOST_HELD
 from verifying.calls import NEVER, Calls, Session
-from verifying.history import NONE
+from histories.history import NONE
 
 
 def follow_ends(calls: Calls) -> Counter[str]:

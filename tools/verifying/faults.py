@@ -21,19 +21,19 @@ KINDS: Dict[str, str] = {
     "unrecorded": "each event is a call of a record",
 }
 
+MOST_TOLD = 10  # of each kind
+
 
 class Faults:
     """The faults that were found: how many of each kind, and the first of them in words."""
 
-    def __init__(self, most: int) -> None:
-        """Keeps the words of at most so many of each kind."""
+    def __init__(self) -> None:
         self._counts: Counter[str] = collections.Counter()
         self._lines: Dict[str, List[str]] = {kind: [] for kind in KINDS}
-        self._most = most
 
     def add(self, kind: str, where: str, what: str) -> None:
         self._counts[kind] += 1
-        if len(self._lines[kind]) < self._most:
+        if self._counts[kind] <= MOST_TOLD:
             self._lines[kind].append(f"{where}: {kind}: {what}")
 
     def add_strange(self, path: str, exchange: Exchange) -> None:

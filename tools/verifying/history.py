@@ -5,13 +5,12 @@ import re
 from array import array
 from bisect import bisect_left, bisect_right
 from functools import lru_cache
-from typing import BinaryIO, Dict, List, Match, NamedTuple, Optional, Sequence
+from typing import BinaryIO, Dict, List, Match, Optional, Sequence
 
+from histories.acts import IDS
 from histories.faults import Damaged
+from histories.history import NONE, Element
 from histories.text import Text
-
-# Takes the place of an event if there is none.
-NONE = -1
 
 # Takes the place of an event's place in its seat's row, if it is not looked for there.
 NOWHERE = (1 << 32) - 1
@@ -19,48 +18,15 @@ NOWHERE = (1 << 32) - 1
 # The acts that name no element which comes or leaves. A fetch of a client of several queues may ask one in vain.
 IN_VAIN = re.compile(rb"\S+ \S+ \S+ (?:poll none|pollfor \S+ \S+ none|drain \S+|peek \S+|size \S+)\n")
 
-GIVING = frozenset(("take", "poll", "pollfor", "drain"))  # acts that give elements
-
 # In the words of an act, what is not told.
 ANY = "…"
 
-FURTHEST_ID = 1 << 22  # above the opening's next id; no run gives as many
-MOST_SEATS = 1 << 16
 
+class EventsById(Dict[int, int]):
+    """An event for an id, or NONE."""
 
-class Element(NamedTuple):
-    """What a history says about an element, in the words of its text, since replies must have the same words."""
-
-    id: str
-    expiry: str
-    origin: str
-    first: str  # empty in the text of an earlier version
-    attempt: str
-    payload: str
-
-
-class EventsById:
-    """An event for an id. Most ids follow the opening's next id, and take four bytes each."""
-
-    def __init__(self, base: int) -> None:
-        self._base = base
-        self._row = array("i")
-        self._below: Dict[int, int] = {}
-
-    def __getitem__(self, id: int) -> int:
-        place = id - self._base
-        if place < 0:
-            return self._below.get(id, NONE)
-        return self._row[place] if place < len(self._row) else NONE
-
-    def __setitem__(self, id: int, event: int) -> None:
-        place = id - self._base
-        if place < 0:
-            self._below[id] = event
-            return
-        if place >= len(self._row):
-            self._row.extend([NONE] * (place + 1 - len(self._row)))
-        self._row[place] = event
+    def __missing__(self, id: int) -> int:
+        return NONE
 
 
 class History:
@@ -76,15 +42,14 @@ class History:
         self.text = bytearray()  # of the events
         self.starts = array("Q", [0])  # where each event's line begins, and where the next one would
         self.seat_names: List[int] = []
-        self.seats = array("H")  # by an index into the names
+        self.seats = array("I")  # by an index into the names
         self.rows: List[array[int]] = []  # the events of each seat
         self.places = array("I")  # of each event in its seat's row
         # The event that offered an element, the one that took it out, and the one that offered its job again.
-        self.offers = self.exits = self.returns = EventsById(0)
+        self.offers, self.exits, self.returns = EventsById(), EventsById(), EventsById()
         self.kept: Dict[int, Element] = {}  # the elements of the opening
         self.files = array("I")  # the first event of each file, whose clock may be another than that of the one before
-        self._first = self._next = 0  # the ids with which the file begins, and with which one would that goes on
-        self._last = 0  # the moment of the last event
+        self._next = self._last = 0  # the id with which a file would begin that goes on, and the last event's moment
         self._latest: Dict[int, int] = {}  # the id of the latest attempt of each job that was offered again
         self._seat_indexes: Dict[bytes, int] = {}
 
@@ -99,17 +64,17 @@ class History:
         if head.next_id < self._next or head.opened_at < self._last:
             raise Damaged(2, f"it opens with {head.next_id} {head.opened_at}, and the file before it ends with "
                              f"{self._next} {self._last}")
-        self._first = self._next = head.next_id
-        self._last = head.opened_at
+        self._next, self._last = head.next_id, head.opened_at
         if is_first:
             self.version = head.version
-            self.offers, self.exits, self.returns = (EventsById(head.next_id) for _ in range(3))
         for _, line in text.kept():
             if is_first:
-                self._keep(element_of(line.string[:-1].decode("ascii").split(" ")[1:]))
+                element = element_of(line.string[:-1].decode("ascii").split(" ")[1:])
+                self.kept[element.id] = element
+                self._latest[element.origin] = element.id
         self.files.append(len(self))
-        for number, line in text.events():
-            self._add(line, number)
+        for _, line in text.events():
+            self._add(line)
 
     def act(self, event: int) -> str:
         """The words of what an event did."""
@@ -166,17 +131,10 @@ class History:
         """Seat, moments and act."""
         return self.text[self.starts[event]:self.starts[event + 1] - 1].decode("ascii").split(" ", 3)
 
-    def _keep(self, element: Element) -> None:
-        """Adds an element of the opening."""
-        self.kept[int(element.id)] = element
-        self._latest[int(element.origin)] = int(element.id)
-
-    def _add(self, line: Match[bytes], number: int) -> None:
-        """Adds the event of the line of this number."""
+    def _add(self, line: Match[bytes]) -> None:
+        """Adds the event of a line."""
         event = len(self)
         seat = self._seat_indexes.setdefault(line[1], len(self.rows))
-        if seat == MOST_SEATS:
-            raise Damaged(number, f"a seat more than {MOST_SEATS:,}")
         if seat == len(self.rows):
             self.seat_names.append(int(line[1]))
             self.rows.append(array("I"))
@@ -191,30 +149,19 @@ class History:
         self._last = int(line[3])
         act = line.lastgroup
         if act == "offer":
-            self._offer(event, line, number)
-        elif act in GIVING:
-            for id in line[act].split():
-                if id != b"none":
-                    self.exits[self._id(id, number)] = event
+            id, origin = int(line[4]), int(line[6])
+            self.offers[id], self._next = event, id + 1
+            if id != origin:
+                self.returns[self._latest.get(origin, origin)] = event
+                self._latest[origin] = id
+        elif act in IDS:
+            for given in line[act].replace(b"none", b"").split():
+                self.exits[int(given)] = event
         elif act == "remove" and line[act] == b"yes":
-            self.exits[self._id(line["removed"], number)] = event
-
-    def _offer(self, event: int, line: Match[bytes], number: int) -> None:
-        id, origin = self._id(line[4], number, self._first), int(line[6])
-        self.offers[id] = event
-        self._next = id + 1
-        if id != origin:
-            self.returns[self._latest.get(origin, origin)] = event
-            self._latest[origin] = id
-
-    def _id(self, word: bytes, number: int, least: int = 0) -> int:
-        id = int(word)
-        if not least <= id < self._first + FURTHEST_ID:
-            raise Damaged(number, f"the id {id}, where the first one is {self._first}")
-        return id
+            self.exits[int(line["removed"])] = event
 
 
 def element_of(words: List[str]) -> Element:
-    """The element of an offer's words, or of a `keep` line's."""
-    first = words[3] if len(words) == 6 else ""
-    return Element(words[0], words[1], words[2], first, words[-2], words[-1])
+    """The element of an offer's words, or of a `keep` line's. Earlier versions do not tell its first expiry."""
+    id, expiry, origin, *first, attempt, payload = words
+    return Element(int(id), int(expiry), int(origin), int(first[0]) if first else NONE, int(attempt), payload)

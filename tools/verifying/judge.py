@@ -9,7 +9,8 @@ from verifying.account import Rules, Strange
 from verifying.calls import NEVER, Calls
 from verifying.endings import follow_ends
 from verifying.faults import Faults
-from verifying.history import NONE, History
+from histories.history import NONE
+from verifying.history import History
 from verifying.loose import place_loose
 from verifying.placing import place_named
 from verifying.record import Exchange
@@ -21,8 +22,8 @@ Exchanges = Iterable[Tuple[str, Exchange]]
 class Verdict:
     """What was found, and over how much."""
 
-    def __init__(self, histories: Sequence[History], most: int, rules: Rules) -> None:
-        self.faults = Faults(most)
+    def __init__(self, histories: Sequence[History], rules: Rules) -> None:
+        self.faults = Faults()
         self._queues = [Calls(it, self.faults, rules) for it in histories]
         self._sessions: Set[Tuple[str, str]] = set()
         self._counts: Counter[str] = Counter()
@@ -72,12 +73,10 @@ class Verdict:
         ]
 
 
-def judge(
-    histories: Sequence[History], exchanges: Exchanges, most: int, is_whole: bool, has_leases: bool = False
-) -> Verdict:
+def judge(histories: Sequence[History], exchanges: Exchanges, is_whole: bool, has_leases: bool = False) -> Verdict:
     """Compares the history of a queue, or those of its shards, with the exchanges of its clients, each with the path of
-    its record. Keeps the words of at most so many faults of a kind."""
-    verdict = Verdict(histories, most, Rules(has_leases, len(histories) > 1))
+    its record."""
+    verdict = Verdict(histories, Rules(has_leases, len(histories) > 1))
     verdict.read(exchanges)
     verdict.compare(is_whole)
     return verdict

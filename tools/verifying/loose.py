@@ -12,7 +12,8 @@ from itertools import accumulate, islice
 from typing import Container, Dict, FrozenSet, Iterator, List, Optional, Sequence, Tuple
 
 from verifying.calls import NEVER, Calls, Session
-from verifying.history import ANY, NONE
+from histories.history import NONE
+from verifying.history import ANY
 from verifying.placing import Alignment
 
 SLACK = 1_000_000  # nanoseconds by which a moment may lie outside of what is known of the clocks

@@ -8,7 +8,7 @@ from itertools import islice, takewhile
 from typing import List, Optional, Sequence
 
 from verifying.calls import Calls, Session
-from verifying.history import NONE
+from histories.history import NONE
 
 AHEAD = 8  # places at which a call is looked for behind the last whose event is known, or before the first
 

@@ -17,8 +17,6 @@ LONGEST_LINE = 1 << 20
 GREATEST_TIME = (1 << 63) - 1
 TEXT = {str}
 
-_DECODE = json.JSONDecoder().raw_decode
-
 
 class Exchange(NamedTuple):
     """A request and its reply."""
@@ -37,35 +35,24 @@ def read_record(file: BinaryIO) -> Iterator[Exchange]:
     for number, line in enumerate(iter(lambda: file.readline(LONGEST_LINE), b""), 1):
         exchange = _exchange(line, number)
         before = latest.get(exchange.session)
-        if before is not None:
-            _test_order(before, exchange)
+        if before is not None and not _may_follow(exchange, before):
+            raise Damaged(number, f"it was sent or answered before line {before.line}, of the same session")
         latest[exchange.session] = exchange
         yield exchange
 
 
 def _exchange(line: bytes, number: int) -> Exchange:
     try:
-        told, end = _DECODE(line.decode())  # which is quicker than json.loads
+        told = json.loads(line.decode())
         session, sent, received = told["session"], told["sent"], told["received"]
         request, reply = told["request"], told["reply"]
-    except (ValueError, TypeError, RecursionError):
-        raise Damaged(number, "no JSON object") from None
-    except KeyError as missing:
-        raise Damaged(number, f"no {missing.args[0]!r}") from None
-    if line[-1:] != b"\n":
-        raise Damaged(number, "the line has no end")
-    if line[end:] != b"\n" and line.decode()[end:].strip():
-        raise Damaged(number, "no JSON object")
-    if not isinstance(session, (str, int)):
-        raise Damaged(number, "'session' is neither text nor a number")
-    if not _is_time(sent) or (received is not None and not _is_time(received)):
-        raise Damaged(number, "'sent' or 'received' is no time in nanoseconds")
-    if type(request) is not str or type(reply) is not list or set(map(type, reply)) - TEXT:
-        raise Damaged(number, "'request' is no text, or 'reply' no list of texts")
-    if received is not None and not reply:
-        raise Damaged(number, "'received' is a time, and 'reply' is empty")
-    if received is not None and received < sent:
-        raise Damaged(number, "the reply came before the request was sent")
+        is_right = (line.endswith(b"\n") and isinstance(session, (str, int)) and _is_time(sent)
+                    and (received is None or _is_time(received) and sent <= received and len(reply) > 0)
+                    and type(request) is str and type(reply) is list and not set(map(type, reply)) - TEXT)
+    except (ValueError, TypeError, KeyError, RecursionError):
+        is_right = False
+    if not is_right:
+        raise Damaged(number, "no request with its reply, as docs/HISTORY.md describes it")
     return Exchange(number, str(session), sent, received, request, reply)
 
 
@@ -73,13 +60,8 @@ def _is_time(it: Any) -> bool:
     return type(it) is int and 0 <= it <= GREATEST_TIME
 
 
-def _test_order(before: Exchange, exchange: Exchange) -> None:
-    """Tests an exchange against the one before it in the same session."""
-    if exchange.sent < before.sent:
-        raise Damaged(exchange.line, f"it was sent before that of line {before.line}, of the same session")
+def _may_follow(exchange: Exchange, before: Exchange) -> bool:
+    """Whether an exchange may stand behind another one of its session."""
     if exchange.received is None:
-        return
-    if before.received is None:
-        raise Damaged(exchange.line, f"it has a reply, and that of line {before.line}, of the same session, has none")
-    if exchange.received < before.received:
-        raise Damaged(exchange.line, f"its reply came before that of line {before.line}, of the same session")
+        return exchange.sent >= before.sent
+    return exchange.sent >= before.sent and before.received is not None and exchange.received >= before.received

@@ -7,16 +7,13 @@ from pathlib import Path
 from unittest import mock
 
 from checking.testing import RoomTest
-from common.progress import Progress
+from common.progress import ERASE, Progress
 from common.tests.support import Terminal, long_work_at_terminal
-
-EMPTY = "\r" + " " * len("counting") + "\r"
 
 # What work says that says something after each of so many seconds, and what it writes at a terminal of 20 columns.
 SAID = [
-    (["counting"], [1.9], ""), (["counting"] * 3, [1.9, 2.0, 2.1], 2 * "\rcounting" + EMPTY),
-    (["counting", "draw"], [2.0, 2.0], "\rcounting\rdraw    \r    \r"),  # nothing is left of a longer line
-    ([30 * "a"], [2.0], f"\r{19 * 'a'}\r{19 * ' '}\r"),
+    (["counting"], [1.9, 1.9], []), (["counting"] * 3, [1.9, 2.0, 2.1, 2.1], ["counting", "counting", ""]),
+    ([30 * "a"], [2.0, 2.0], [19 * "a", ""]),
 ]
 
 
@@ -26,7 +23,7 @@ class ProgressTest(RoomTest):
         with long_work_at_terminal(), mock.patch("sys.stderr", Terminal()) as stderr:
             with Progress() as progress, progress.reading(path) as file:
                 self.assertEqual(set(iter(file.readline, b"")), {b"a\n"})
-        return stderr.told.split("\r")
+        return stderr.told.split(ERASE)
 
     def test_only_long_work_says_how_far_it_is(self) -> None:
         for says, seconds, told in SAID:
@@ -34,10 +31,10 @@ class ProgressTest(RoomTest):
                     mock.patch("time.monotonic", side_effect=[0.0, *seconds]), Progress() as progress:
                 for it in says:
                     progress.say(it)
-            self.assertEqual(stderr.told, told)
+            self.assertEqual(stderr.told, "".join(f"{ERASE}{it}" for it in told))
 
     def test_nothing_is_said_where_there_is_no_terminal(self) -> None:
-        with mock.patch("sys.stderr") as stderr, mock.patch("time.monotonic", side_effect=[0.0, 100.0]):
+        with mock.patch("sys.stderr") as stderr, mock.patch("time.monotonic", return_value=100.0):
             stderr.isatty.return_value = False
             with Progress() as progress:
                 progress.say("counting")
@@ -48,7 +45,7 @@ class ProgressTest(RoomTest):
             with self.assertRaises(OSError), Progress() as progress:
                 progress.say("counting")
                 raise OSError
-        self.assertEqual(stderr.told, "\rcounting" + EMPTY)
+        self.assertEqual(stderr.told, f"{ERASE}counting{ERASE}")
 
     def test_how_much_of_a_file_has_been_read(self) -> None:
         for lines, most in ((40_000, 10), (1_000_000, 101)):  # of 8,192 bytes, of which a percent may have several
@@ -63,4 +60,4 @@ class ProgressTest(RoomTest):
         writer = threading.Thread(target=Path(self.path("pipe")).write_text, args=("a\n",))
         writer.start()
         self.addCleanup(writer.join)
-        self.assertEqual(self.reading(self.path("pipe")), [""])
+        self.assertEqual(self.reading(self.path("pipe")), ["", ""])

@@ -1,25 +1,29 @@
-"""The words of a command line."""
+"""The words of a command line, and the status of a tool."""
 from __future__ import annotations
 
 import argparse
 import contextlib
 import io
+import os
+import subprocess
+import sys
 import unittest
+from unittest import mock
 
-from common.words import number, parser_of, whole_number
+from common.program import TOP
+from common.tests.support import Terminal
+from common.words import exit_status, number, parser_of
 
 DOC = """Does something: tools/it [--n N]
 
     more of it
 """
 
-# What reads numbers, words with theirs, and the words that it refuses, with what is said of them.
-NUMBERS = [
-    (number(int, 1, 65_535), {"1": 1, "65535": 65_535}, ["0", "65536"], "^{} is not from 1 to 65535$"),
-    (number(float, 0, 1), {"0.5": 0.5}, ["nan"], ""),
-    (whole_number(1, 1000), {"1": 1, "1000": 1000}, ["0", "1001", "-1", "1_0", "٣", "1s", ""],
-     "^'{}' is no number from 1 to 1,000$"),
-    (whole_number(0, 9, "all"), {"9": 9}, ["10"], "from 0 to all$"),
+# What work raises, the status, and what is said.
+FAULTS = [
+    (OSError(2, "No such file", "run.txt"), 2, "it: run.txt: No such file\n"),
+    (OSError(28, "No space left"), 2, "it: output: No space left\n"), (MemoryError(), 2, "it: out of memory\n"),
+    (KeyboardInterrupt(), 130, ""),
 ]
 
 
@@ -27,7 +31,7 @@ class WordsTest(unittest.TestCase):
     def ended(self, *words: str) -> tuple[object, str]:
         """The status with which a parser ends the program at these words, and what it says."""
         said, parser = io.StringIO(), parser_of("tools/it", DOC)
-        parser.add_argument("--number")
+        parser.add_argument("--number", type=number(int, 1, 65_535))
         with contextlib.redirect_stdout(said), contextlib.redirect_stderr(said), self.assertRaises(SystemExit) as end:
             parser.parse_args(words)
         return end.exception.code, said.getvalue()
@@ -43,8 +47,24 @@ class WordsTest(unittest.TestCase):
         self.assertEqual(self.ended("--num", "1")[0], 2)
 
     def test_numbers(self) -> None:
-        for read, told, refused, says in NUMBERS:
-            self.assertEqual({word: read(word) for word in told}, told)
-            for word in refused:
-                self.assertRaisesRegex(argparse.ArgumentTypeError, says.format(word), read, word)
-        self.assertRaises(ValueError, NUMBERS[0][0], "x")
+        self.assertEqual([*map(number(int, 1, 65_535), ("1", "65535"))], [1, 65_535])
+        self.assertEqual(number(float, 0, 1)("0.5"), 0.5)
+        for word in ("0", "65536"):
+            self.assertIn(f"{word} is not from 1 to 65535", self.ended("--number", word)[1])
+        self.assertIn("invalid int value: 'x'", self.ended("--number", "x")[1])
+        self.assertRaises(argparse.ArgumentTypeError, number(float, 0, 1), "nan")
+
+    def test_why_work_can_not_be_done(self) -> None:
+        for fault, status, says in FAULTS:
+            with mock.patch.multiple(sys, stdout=Terminal(), stderr=Terminal()):
+                self.assertEqual(exit_status("it", mock.Mock(side_effect=fault)), status)
+                self.assertEqual(sys.stderr.told, says)  # type: ignore[attr-defined]
+
+    def test_a_reader_that_has_seen_enough(self) -> None:
+        code = "from common.words import exit_status; exit(exit_status('it', lambda: print('more', flush=True)))"
+        reading, writing = os.pipe()
+        os.close(reading)
+        ran = subprocess.run([sys.executable, "-B", "-c", code], cwd=f"{TOP}/tools", stdout=writing,
+                             stderr=subprocess.PIPE, encoding="utf-8", check=False)
+        os.close(writing)
+        self.assertEqual((ran.returncode, ran.stderr), (2, "it: cannot write output\n"))

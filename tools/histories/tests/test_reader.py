@@ -2,6 +2,7 @@
 from __future__ import annotations
 
 import unittest
+from pathlib import Path
 
 from histories import acts
 from histories.faults import Damaged
@@ -13,67 +14,19 @@ GREATEST = 2**64 - 1
 FIRST = "history 1\n0 0 0 offer 0 0 0 1 a\n0 0 0 poll 0\n0 0 0 offer 1 1000 0 2 a\nend 3\n"
 THIRD = "history 3\nopen 0 0 0\n0 0 0 offer 0 0 0 0 1 a\n0 0 0 poll 0\n0 0 0 offer 1 1000 0 0 2 a\nend 3\n"
 
-# A text, the line that is damaged, and a part of what is said of it.
-DAMAGED = [
-    ("", 1, "no `history"),
-    ("history 4\nend 0\n", 1, "no `history"),
-    ("history 1\r\nend 0\n", 1, "no `history"),
-    ("history 1", 1, "no `history"),
-    ("history 2\nopen 0 0 0\nend 0\n", 2, "never opens with nothing"),
-    ("history 2\nopen 1099511627777 0 0\nend 0\n", 2, "past its limits"),
-    ("history 3\nopen 0 0 1000001\nend 0\n", 2, "past its limits"),
-    (f"history 3\nopen 0 {2**64} 0\nend 0\n", 2, "past its limits"),
-    ("history 3\nend 0\n", 2, "no `open`"),
-    ("history 2\nopen 2 0 1\nkeep 2 1000 0 2 a\nend 0\n", 3, "below the next"),
-    ("history 2\nopen 9 0 2\nkeep 2 1 2 1 a\nkeep 2 1 2 1 a\nend 0\n", 4, "above the one before"),
-    ("history 3\nopen 2 0 1\nkeep 1 1000 0 2 a\nend 0\n", 3, "no `keep`"),
-    ("history 3\nopen 2 0 1\n", 3, "ends before"),
-    ("history 1\n0 0 00 size 0\nend 1\n", 2, "neither an event"),
-    ("history 1\n0 0 0  size 0\nend 1\n", 2, "neither an event"),
-    ("history 1\n0 0 0 size 0 \nend 1\n", 2, "neither an event"),
-    ("history 1\n0 0 0 size +0\nend 1\n", 2, "neither an event"),
-    ("history 1\n0 0 0 sizes 0\nend 1\n", 2, "neither an event"),
-    ("history 1\n0 0 0 take none\nend 1\n", 2, "neither an event"),
-    ("history 1\n0 0 0 offer 0 5 0 5 1 a\nend 1\n", 2, "neither an event"),
-    ("history 1\n0 0 0 offer 0 5 0 1001 a\nend 1\n", 2, "neither an event"),
-    ("history 1\n0 0 0 offer 0 5 0 1 é\nend 1\n", 2, "neither an event"),
-    (f"history 1\n0 0 0 offer 0 5 0 1 {65 * 'a'}\nend 1\n", 2, "neither an event"),
-    (f"history 1\n0 0 0 offer 0 {2**64} 0 1 a\nend 1\n", 2, "2^64 - 1"),
-    (f"history 1\n{2**64} 0 0 size 0\nend 1\n", 2, "2^64 - 1"),
-    (f"history 1\n0 0 0 drain {2**64}\nend 1\n", 2, "2^64 - 1"),
-    (f"history 1\n0 0 0 remove {2**64} no\nend 1\n", 2, "2^64 - 1"),
-    (f"history 1\n0 0 0 pollfor 0 {2**64} none\nend 1\n", 2, "2^64 - 1"),
-    ("history 1\n0 0 0 size 0\n", 3, "ends before"),
-    ("history 1\n0 0 0 size 0\nend 1", 3, "ends before"),
-    ("history 1\n0 0 0 size 0\nend 2\n", 3, "it tells 2, and the number of events is 1"),
-    ("history 1\nend 0\nend 0\n", 3, "behind the last line"),
-    ("history 1\nend 0\n\n", 3, "behind the last line"),
-    # What no queue does, in a text that is right by its form.
-    ("history 1\n0 5 4 size 0\nend 1\n", 2, "the moment is 4"),
-    ("history 1\n0 5 5 size 0\n0 4 4 size 0\nend 2\n", 3, "the moment is 4"),
-    ("history 3\nopen 1 11 0\n0 5 5 size 0\nend 1\n", 3, "has to be 11"),
-    ("history 1\n0 0 0 offer 1 5 1 1 a\nend 1\n", 2, "the next id is 0"),
-    ("history 1\n0 0 0 poll 0\nend 1\n", 2, "not in the queue"),
-    ("history 1\n0 0 0 offer 0 5 0 1 a\n0 4 4 take 0\nend 2\n", 3, "expires at 5"),
-    ("history 1\n0 0 0 peek 0\nend 1\n", 2, "not in the queue"),
-    ("history 1\n0 0 0 offer 0 5 0 1 a\n0 0 0 peek none\nend 2\n", 3, "holds 1, not 0"),
-    ("history 1\n0 0 0 remove 2 yes\nend 1\n", 2, "was not in the queue"),
-    ("history 1\n0 0 0 offer 0 5 0 1 a\n0 0 0 remove 0 no\nend 2\n", 3, "was in the queue"),
-    ("history 1\n0 0 0 offer 0 0 0 1 a\n0 9 9 drain 2 0 0\nend 2\n", 3, "not in the queue"),
-    ("history 1\n0 0 0 offer 0 0 0 1 a\n0 9 9 drain 0 0\nend 2\n", 3, "at most 0"),
-    ("history 1\n0 0 0 offer 0 0 0 1 a\n0 0 0 clear\n0 0 0 poll 0\nend 3\n", 4, "not in the queue"),
-    ("history 1\n0 9 9 size 1\nend 1\n", 2, "holds 0, not 1"),
-]
+DAMAGED = Path(__file__).with_name("damaged.txt").read_text("utf-8")
 
 
 class ReaderTest(unittest.TestCase):
     def test_a_damaged_text_is_named_by_its_first_wrong_line(self) -> None:
-        for text, line, what in DAMAGED:
-            with self.subTest(text=text[:60]):
-                with self.assertRaises(Damaged) as caught:
-                    read(text)
-                self.assertEqual(caught.exception.line, line)
-                self.assertIn(what, caught.exception.what)
+        for row in DAMAGED.splitlines():
+            if row.startswith("#"):
+                continue
+            line, what, text = map(str.strip, row.split("|"))
+            with self.subTest(row), self.assertRaises(Damaged) as caught:
+                read(text.replace("\\n", "\n").replace("\\r", "\r"))
+            self.assertEqual(caught.exception.line, int(line))
+            self.assertIn(what, caught.exception.what)
 
     def test_more_events_than_a_text_may_have(self) -> None:
         lines = "0 0 0 size 0\n" * 1_000_001
@@ -100,7 +53,6 @@ class ReaderTest(unittest.TestCase):
         told = [acts.OFFER, acts.POLL, acts.TAKE, acts.SIZE, acts.OFFER, acts.POLLFOR, acts.POLL_NONE, acts.PEEK,
                 acts.REMOVE_NONE, acts.DRAIN, acts.CLEAR]
         self.assertEqual(list(events.acts), told)
-        self.assertEqual(list(events.subjects), [2, 0, 2, 1, 3, 1, NONE, 3, NONE, 1, 0])
 
     def test_first_expiries_that_are_not_told(self) -> None:
         self.assertEqual(list(read(FIRST).elements.firsts), [0, 0])

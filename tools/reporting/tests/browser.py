@@ -13,8 +13,7 @@ from typing import Any
 
 PATIENCE = 60.0  # seconds for each answer
 
-KEYS = {"Enter": 13, "Tab": 9, "Escape": 27, "PageUp": 33, "PageDown": 34, "End": 35, "Home": 36, "ArrowLeft": 37,
-        "ArrowRight": 39}
+KEYS = {"Enter": 13, "Tab": 9, "End": 35, "Home": 36, "ArrowLeft": 37, "ArrowRight": 39}
 
 # What a page may complain by: an error that no script caught, a line on the console, a log's entry, a dialog.
 COMPLAINTS = ("Runtime.exceptionThrown", "Runtime.consoleAPICalled", "Log.entryAdded", "Page.javascriptDialogOpening")
@@ -51,10 +50,6 @@ class Browser:
         for domain in ("Page", "Runtime", "Log"):
             self._ask(f"{domain}.enable")
 
-    def open(self, path: str) -> None:
-        """Opens a file, and waits until it is loaded."""
-        self.go(f"file://{path}")
-
     def go(self, url: str) -> None:
         """Opens what is at an address, and waits until it is loaded."""
         self._is_loaded = False
@@ -85,11 +80,6 @@ class Browser:
     def point(self, x: float, y: float) -> None:
         """Moves the pointer to a place in the window."""
         self._ask("Input.dispatchMouseEvent", type="mouseMoved", x=x, y=y)
-
-    def click(self, x: float, y: float) -> None:
-        """Presses and releases the pointer at a place in the window."""
-        for kind in ("mousePressed", "mouseReleased"):
-            self._ask("Input.dispatchMouseEvent", type=kind, x=x, y=y, button="left", clickCount=1)
 
     def resize(self, width: int, height: int) -> None:
         self._ask("Emulation.setDeviceMetricsOverride", width=width, height=height, deviceScaleFactor=1, mobile=False)

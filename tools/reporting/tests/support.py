@@ -63,13 +63,13 @@ class ReportPageTest(PageTest):
 
     @classmethod
     def page(cls, name: str, texts: Sequence[str], *options: str) -> str:
-        """The path of the page of these runs, of which one is in the file run.txt."""
+        """The address of the page of these runs, of which one is in the file run.txt."""
         paths = [f"{cls.room}/{f'{name}-{place}' if place else 'run'}.txt" for place in range(len(texts))]
         for path, text in zip(paths, texts):
             Path(path).write_text(text, "utf-8")
         status, _, errors = call(*paths, "--html", f"{cls.room}/{name}.html", *options)
         assert status == 0, errors
-        return f"{cls.room}/{name}.html"
+        return f"file://{cls.room}/{name}.html"
 
     def place(self, selector: str) -> list[float]:
         """Left, top, width and height of what a selector names, once it is in sight."""

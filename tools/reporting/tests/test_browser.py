@@ -6,10 +6,8 @@ import time
 from typing import Any
 
 from histories.tests.support import RUN, offer, text_of
-from reporting.tests.large_histories import history
 from reporting.tests.support import ReportPageTest
 from reporting.tests.test_page import HOSTILE, hostile_text
-from reporting.tests.test_series import RUNS
 
 PLOTS = ("calls", "lateness")  # and the depth
 
@@ -20,11 +18,11 @@ PATIENCE = 10.0  # seconds
 
 
 class BrowserTest(ReportPageTest):
-    def show(self, *texts: str, options: tuple[str, ...] = (), job: str = "") -> None:
+    def show(self, text: str, job: str = "") -> None:
         """Opens the page of a history, at a job if one is named."""
         # A page of its own: to go to another job of the page that is shown loads nothing.
-        page = self.page(self._testMethodName, texts, *options)
-        self.browser.open(page + (f"#job={job}" if job else ""))
+        page = self.page(self._testMethodName, [text])
+        self.browser.go(page + (f"#job={job}" if job else ""))
 
     def told(self, selector: str, what: str = "textContent") -> Any:
         """What the page says at a place, or whether it is hidden and the like."""
@@ -108,22 +106,6 @@ class BrowserTest(ReportPageTest):
         self.told('a[href="#job=3"]', "click()")
         self.shows(f"{ANSWER}.slice(0, 16)", "Job 3, payload c")
 
-    def test_a_life_over_several_runs_with_dates(self) -> None:
-        self.show(*RUNS, options=("--began", "2026-11-26T08:00Z"), job="0")
-        self.assertIn("first expiry 2026-11-26 08:00:00.000000000, 3 elements", self.told("#answer"))
-        eight = "2026-11-26 08:00:00."
-        self.assertEqual(self.browser.value(LIFE), [
-            [attempt, id, eight + came, seat, eight + expiry, eight + left, *others]
-            for attempt, id, came, seat, expiry, left, *others in (
-                ("1", "0", "000000000", "1 of run 1", "000000000", "000000005", "2 of run 1", "take", "5 ns"),
-                ("2", "1", "000000009", "2 of run 1", "000001009", "000001010", "1 of run 2", "take", "1 ns"),
-                ("3", "3", "000001020", "1 of run 2", "000002020", "000002030", "3 of run 3", "poll", "10 ns"))])
-
-    def test_greatest_moments_are_told_in_full(self) -> None:
-        greatest = 2**64 - 1
-        self.show(f"history 1\n0 0 0 offer 0 1 0 1 a\n0 {greatest} {greatest} poll 0\nend 2\n", job="0")
-        self.assertEqual(self.browser.value(LIFE)[0][5:], [str(greatest), "0", "poll", "213,504 d"])
-
     def test_payloads_stay_text(self) -> None:
         self.show(hostile_text())
         shown = self.browser.value("[...document.querySelectorAll('code')].map((it) => it.textContent)")
@@ -140,12 +122,3 @@ class BrowserTest(ReportPageTest):
         self.assertEqual(self.browser.value("document.title"), "run.txt: report")
         self.assertNotEqual(self.browser.complaints, [])
         self.browser.complaints.clear()
-
-    def test_a_large_page(self) -> None:
-        self.show("".join(history("busy", 30_000)))
-
-        for plot, lines in (("depth", 2), ("calls", 3), ("lateness", 2)):
-            widths = f"[...document.querySelectorAll('#plot-{plot} .line')].map((it) => it.getBBox().width)"
-            self.assertEqual([round(it) for it in self.browser.value(widths)], [1000] * lines)
-        sizes = self.browser.value("[...document.querySelectorAll('svg')].map((it) => it.getBBox().width)")
-        self.assertTrue(all(width > 500 for width in sizes), sizes)

@@ -16,8 +16,8 @@ class FiguresTest(unittest.TestCase):
         leaving = (offer(0, 5), offer(1, 7), offer(2, 99), "1 6 6 remove 0 yes", "1 6 6 remove 2 yes", "1 7 7 clear")
         # At 150 and 300 an element of the first history expires between two events.
         for text, moments, standing, expired in (
-            (RUN, [100, 100, 120, 120, 150, 160, 170, 300, 310, 310], [2, 3, 2, 1, 1, 2, 1, 1, 0, 0],
-             [1, 2, 1, 0, 1, 1, 0, 1, 0, 0]),
+            (RUN, [100, 100, 120, 120, 150, 160, 170, 300, 310], [2, 3, 2, 1, 1, 2, 1, 1, 0],
+             [1, 2, 1, 0, 1, 1, 0, 1, 0]),
             (text_of(*leaving), [0, 0, 0, 0, 5, 6, 6, 7, 7], [0, 1, 2, 3, 3, 2, 1, 1, 0], [0, 0, 0, 0, 1, 0, 0, 1, 0]),
         ):
             depth = depth_of(read(text))

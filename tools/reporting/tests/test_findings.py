@@ -113,8 +113,3 @@ class FindingsTest(unittest.TestCase):
             *(([*begun, end], 2, []) for end in ("1 9 9 size 1", "1 9 9 remove 1 yes", "1 9 9 clear")),
         ]:
             self.assertEqual(figures(text_of(*events), last).jobs.last_given, given)
-
-    def test_attempts_beyond_the_last(self) -> None:
-        says = Finding("3 elements were of attempts beyond --attempts 2: the run allowed more")
-        self.assertIn(says, figures(text_of(*failing(3, 3, 5 * MILLISECOND)), 2).findings)
-        self.assertEqual(figures(text_of(*failing(3, 3, 5 * MILLISECOND)), 3).findings, [])

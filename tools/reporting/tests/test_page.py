@@ -94,7 +94,7 @@ class PageTest(unittest.TestCase):
 
     def test_of_many_jobs_it_has_some_and_says_which(self) -> None:
         lines = [offer(id, 0) for id in range(50)] + ["1 9 9 poll 40", "1 9 9 offer 50 9 40 0 2 a"]
-        with mock.patch("reporting.lives.MOST_ELEMENTS", 10):
+        with mock.patch("reporting.page.MOST_ELEMENTS", 10):
             text = page_of(*lines)
         lives = lives_in(text)
         self.assertIn("40", lives)
@@ -104,5 +104,5 @@ class PageTest(unittest.TestCase):
 
     def test_a_job_of_too_many_elements_leaves_room_for_others(self) -> None:
         lines = [f"1 0 0 offer {id} 0 0 0 1 a" for id in range(11)] + [offer(11, 0)]
-        with mock.patch("reporting.lives.MOST_ELEMENTS", 10):
+        with mock.patch("reporting.page.MOST_ELEMENTS", 10):
             self.assertEqual(list(lives_in(page_of(*lines))), ["11"])

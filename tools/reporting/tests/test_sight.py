@@ -64,7 +64,7 @@ class SightTest(ReportPageTest):
     def test_labels_at_every_width(self) -> None:
         for name, page in self.pages.items():
             self.browser.resize(WIDTHS[0], 800)
-            self.browser.open(page)
+            self.browser.go(page)
             for width in WIDTHS:
                 with self.subTest(page=name, width=width):
                     self.browser.resize(width, 800)
@@ -75,7 +75,7 @@ class SightTest(ReportPageTest):
                     self.assertLessEqual(self.browser.value("document.documentElement.scrollWidth"), width)
 
     def test_colors_light_and_dark(self) -> None:
-        self.browser.open(self.pages["made"])
+        self.browser.go(self.pages["made"])
         for scheme, is_dark in (("light", False), ("dark", True)):
             self.browser.prefer(scheme)
             behind = self.color("section.plot", "backgroundColor")
@@ -87,7 +87,7 @@ class SightTest(ReportPageTest):
                         self.assertGreaterEqual(contrast(self.color(*place), behind), least)
 
     def test_a_reading_stays_on_the_page(self) -> None:
-        self.browser.open(self.pages["made"])
+        self.browser.go(self.pages["made"])
         for width in WIDTHS:
             self.browser.resize(width, 800)
             self.go_to_first_plot()

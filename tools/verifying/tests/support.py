@@ -90,5 +90,5 @@ class RunTest(RoomTest):
     ) -> tuple[dict[str, int], list[str]]:
         """The number of faults of each kind that has any, and the lines of the faults."""
         exchanges = (("record.jsonl", it) for it in read_record(io.BytesIO(record_of(record).encode())))
-        lines = judge(histories, exchanges, 10, is_whole, has_leases).lines(is_whole)
+        lines = judge(histories, exchanges, is_whole, has_leases).lines(is_whole)
         return counts_in("\n".join(lines)), [it for it in lines if re.search(r": (%s): " % "|".join(KINDS), it)]

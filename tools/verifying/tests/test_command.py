@@ -1,10 +1,10 @@
 """tools/verify as a command: its exit statuses, and what it says about bad input."""
-import json
-import os
 import subprocess
 
 from checking.testing import call_tool, tool
+from common.progress import ERASE
 from common.tests.support import long_work_at_terminal
+from histories.tests.support import offer, text_of
 from verifying.tests.support import Line, Run, RunTest, line_of, record_of, texts_of
 
 RUN = Run.named("three sessions")
@@ -81,8 +81,6 @@ class CommandTest(RunTest):
             (TEXT + "more", "line 17: it stands behind the last line"),
             (TEXT[:-8], "line 15: the text ends before the history does"),
             (TEXT[:-7], "line 16: the text ends before the history does"),
-            (TEXT.replace("offer 3 ", "offer 99999999 "),
-             "line 11: the id 99999999, where the first one is 0"),
         ]:
             with self.subTest(says=says):
                 path = self.file("damaged.txt", text)
@@ -90,32 +88,23 @@ class CommandTest(RunTest):
 
     def test_damaged_records(self) -> None:
         good = line_of("a 5 12 SIZE = SIZE 1")
-        for bad, says in [
-            ("nonsense", "no JSON object"), ("[1]", "no JSON object"), ("{}", "no 'session'"),
-            ("\xff", "no JSON object"),
-            ({**good, "session": None}, "'session' is neither text nor a number"),
-            ({**good, "sent": "5"}, "'sent' or 'received' is no time in nanoseconds"),
-            ({**good, "sent": 5.0}, "'sent' or 'received' is no time in nanoseconds"),
-            ({**good, "sent": -1}, "'sent' or 'received' is no time in nanoseconds"),
-            ({**good, "received": 2**70}, "'sent' or 'received' is no time in nanoseconds"),
-            ({**good, "request": 5}, "'request' is no text, or 'reply' no list of texts"),
-            ({**good, "reply": "SIZE 1"}, "'request' is no text, or 'reply' no list of texts"),
-            ({**good, "reply": [1]}, "'request' is no text, or 'reply' no list of texts"),
-            ({**good, "reply": []}, "'received' is a time, and 'reply' is empty"),
-            ({**good, "received": 1004}, "the reply came before the request was sent"),
-            ({**good, "sent": 1004}, "it was sent before that of line 1, of the same session"),
-            ({**good, "received": 1011}, "its reply came before that of line 1, of the same session"),
-        ]:
-            with self.subTest(bad=bad):
-                second = bad if isinstance(bad, str) else json.dumps(bad)
-                path = self.file("damaged.jsonl", json.dumps(good) + "\n" + second + "\n")
-                self.expect_refused(f"{path}: line 2: {says}", self.history, path)
+        none, early = "no request with its reply, as docs/HISTORY.md describes it", "it was sent or answered before line"
+        for says, changes in (
+            (none, [{"session": None}, {"sent": "5"}, {"sent": 5.0}, {"sent": -1}, {"received": 2**70}, {"request": 5},
+                    {"reply": "SIZE 1"}, {"reply": [1]}, {"reply": []}, {"received": 1004}]),
+            (f"{early} 1, of the same session", [{"sent": 1004}, {"received": 1011}]),
+        ):
+            for change in changes:
+                self.expect_damage(f"line 2: {says}", record_of([good, {**good, **change}]))
+        for bad in ("nonsense", "[1]", "{}", "\xff", record_of([good])[:-1]):
+            self.expect_damage(f"line 1: {none}", bad if bad[0] == "{" and bad[1:] != "}" else f"{bad}\n")
         unanswered: Line = {**good, "received": None, "reply": []}
-        path = self.file("damaged.jsonl", record_of([good, unanswered, good]))
-        says = "it has a reply, and that of line 2, of the same session, has none"
-        self.expect_refused(f"{path}: line 3: {says}", self.history, path)
-        path = self.file("damaged.jsonl", json.dumps(good))
-        self.expect_refused(f"{path}: line 1: the line has no end", self.history, path)
+        self.expect_damage(f"line 3: {early} 2, of the same session", record_of([good, unanswered, good]))
+
+    def expect_damage(self, says: str, record: str) -> None:
+        path = self.file("damaged.jsonl", record)
+        with self.subTest(record=record):
+            self.expect_refused(f"{path}: {says}", self.history, path)
 
     def test_files_that_can_not_be_read(self) -> None:
         none = f"{self.room}/none"
@@ -125,7 +114,7 @@ class CommandTest(RunTest):
 
     def test_refused_words(self) -> None:
         files = (self.history, self.record)
-        for words in ((), (self.history,), (*files, "--most", "-1"), (*files, "--mo", "1"), (*files, "--most", "x")):
+        for words in ((), (self.history,), (*files, "--shards", "0"), (*files, "--al"), (*files, "--shards", "x")):
             ran = self.verify(*words)
             self.assertEqual((ran.returncode, ran.stdout), (2, ""), words)
             self.assertNotIn("Traceback", ran.stderr)
@@ -134,29 +123,21 @@ class CommandTest(RunTest):
         with long_work_at_terminal():
             status, told, errors = call_tool("verify", self.history, self.record, "--all")
         self.assertEqual((status, told.decode()), (0, self.verify(self.history, self.record, "--all").stdout))
-        lines = [line.strip() for line in errors.split("\r")]
+        lines = errors.split(ERASE)
         for line in (f"reading {self.history}: 0 %", f"reading {self.record}: 0 %", "comparing"):
             self.assertIn(line, lines)
-        self.assertEqual(lines[-2:], ["", ""])
+        self.assertEqual(lines[-1], "")
 
-    def test_no_more_faults_than_asked_for(self) -> None:
-        changed = RECORD.replace("OFFERED 0 10", "OFFERED 0 11").replace("SIZE 1", "SIZE 7")
-        ran = self.verify(self.history, self.file("changed.jsonl", changed), "--most", "1")
-        self.assertEqual(ran.returncode, 1)
-        self.assertEqual(ran.stdout.count(": changed: "), 1)
+    def test_the_first_faults_of_a_kind(self) -> None:
+        changed = [line_of(f"a {it} {it} OFFER 0 x = OFFERED {it} {it + 1}") for it in range(11)]
+        history = self.file("eleven.txt", text_of(*(offer(it, it, "x", it) for it in range(11))))
+        ran = self.verify(history, self.file("changed.jsonl", record_of(changed)))
+        self.assertEqual((ran.returncode, ran.stdout.count(": changed: ")), (1, 10))
         self.assertIn("and 1 fault more of the kind changed\n", ran.stdout)
-        self.assertIn("changed:    2 faults: ", ran.stdout)
+        self.assertIn("changed:    11 faults: ", ran.stdout)
 
     def test_a_history_and_a_record_that_come_through_pipes(self) -> None:
         command = '"${@:1:3}" <(cat "$4") <(cat "$5") --all'
         ran = subprocess.run(["bash", "-c", command, "bash", *tool("verify"), self.history, self.record],
                              capture_output=True, encoding="utf-8", check=False)
         self.assertEqual((ran.returncode, ran.stderr, ran.stdout.splitlines()[-1]), (0, "", "0 faults"))
-
-    def test_a_reader_that_has_seen_enough(self) -> None:
-        reading, writing = os.pipe()
-        os.close(reading)
-        ran = subprocess.run([*tool("verify"), self.history, self.record], stdout=writing,
-                             stderr=subprocess.PIPE, encoding="utf-8", check=False)
-        os.close(writing)
-        self.assertEqual((ran.returncode, ran.stderr), (2, "verify: cannot write output\n"))
