@@ -7,11 +7,7 @@ from array import array
 from histories.acts import GIVES
 from histories.history import NONE, History
 
-TWO_PLACES = "in the queue twice at once"
-FIRST = "begun with another origin or first expiry than its own"
 PARENT = "offered again without an attempt before that was given"
-TWICE = "offered twice as the same attempt"
-CHANGED = "offered again with another payload or first expiry"
 
 
 def broken_chains(history: History) -> dict[str, list[int]]:
@@ -31,7 +27,7 @@ def broken_chains(history: History) -> dict[str, list[int]]:
 def _fault_of_first(history: History, row: int) -> str:
     elements = history.elements
     is_own = elements.origins[row] == elements.ids[row] and elements.firsts[row] == elements.expiries[row]
-    return "" if is_own else FIRST
+    return "" if is_own else "begun with another origin or first expiry than its own"
 
 
 def _fault_of_later(history: History, row: int, before: int) -> str:
@@ -41,13 +37,13 @@ def _fault_of_later(history: History, row: int, before: int) -> str:
         return PARENT if offered != NONE else ""  # of a job of the opening, the attempts before are not told
     left = elements.left_in[before]
     if offered == NONE or not NONE < left < offered:
-        return TWO_PLACES
+        return "in the queue twice at once"
     if elements.attempts[row] <= elements.attempts[before]:
-        return TWICE
+        return "offered twice as the same attempt"
     if elements.attempts[row] > elements.attempts[before] + 1 or history.events.acts[left] not in GIVES:
         return PARENT
     # Earlier versions do not tell the first expiry, and what is taken for it may change from run to run.
     tells_first = all(run.version == 3 for run in history.runs)
     is_same = elements.payload(row) == elements.payload(before) and (
         not tells_first or elements.firsts[row] == elements.firsts[before])
-    return "" if is_same else CHANGED
+    return "" if is_same else "offered again with another payload or first expiry"

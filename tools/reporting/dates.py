@@ -9,7 +9,6 @@ from datetime import datetime, timedelta, timezone
 from decimal import Decimal
 from typing import NamedTuple
 
-from histories.history import History
 from reporting.units import SECOND
 
 EPOCH = datetime(1970, 1, 1, tzinfo=timezone.utc)
@@ -37,11 +36,6 @@ class Clock(NamedTuple):
     """Tells moments: a date is the moment plus the offset, in nanoseconds since 1970, if there is one."""
 
     offset: int | None = None
-
-    @classmethod
-    def begun(cls, history: History, began: int | None) -> Clock:
-        """The dates of a history whose first run began then. None stands for one whose moments are dates."""
-        return cls(0 if began is None else began - history.runs[0].opened_at)
 
     def text(self, moment: int, digits: int = 3) -> str:
         """A date, with so many digits of a second's fraction, or the moment as it is."""

@@ -19,19 +19,11 @@ class NoJob(Exception):
     """There is no such job."""
 
 
-class Attempts(NamedTuple):
-    """How many elements of one attempt were offered or there at the start, and how many were given."""
-
-    attempt: int
-    offered: int
-    given: int
-
-
 class Jobs(NamedTuple):
     """All jobs by their roots, and some of them."""
 
     elements: array[int]  # for each row, if it is a root, how many its job has; 0 for other rows
-    attempts: list[Attempts]
+    attempts: list[tuple[int, int, int]]  # how many of each were offered or there at the start, and how many given
     roots: array[int]
     again: list[int]  # that were offered again, those with the most elements first
     latest: list[int]  # that were given latest, the latest first
@@ -49,7 +41,7 @@ def jobs_of(history: History, last: int | None) -> Jobs:
     latest = nlargest(MOST_LATEST, history.gifts(), key=itemgetter(2))
     last_given = (roots[row] for row, _, _ in history.gifts() if attempts[row] == last)
     return Jobs(
-        counts, [Attempts(it, offered[it], given[it]) for it in sorted(offered)],
+        counts, [(it, offered[it], given[it]) for it in sorted(offered)],
         array("i", (root for root, count in enumerate(counts) if count)), again,
         list(dict.fromkeys(roots[row] for row, _, _ in latest)), list(dict.fromkeys(last_given)))
 

@@ -33,7 +33,7 @@ def page(figures: Figures) -> str:
         name=escape(figures.name), lines="".join(f"<p>{escape(it)}</p>" for it in head_of(figures)),
         findings=f"<ul>{''.join(map(_finding, figures.findings))}</ul>" if figures.findings else "<p>Nothing.</p>",
         plots="".join(map(_plot, plots)), tables="".join(map(_table, tables_of(figures))),
-        has=escape(_has(figures, len(chosen))), life=_grid(LIFE, [], 'id="life" hidden'),
+        has=f"{number(len(chosen))} of {counted(len(figures.jobs.roots), 'job')}", life=_grid(LIFE, [], 'id="life" hidden'),
         lives=told_json(figures, chosen, plots), script=script)
 
 
@@ -77,7 +77,8 @@ def _link(origin: object) -> str:
 
 
 def _plot(plot: Plot) -> str:
-    title, keys = escape(plot.title), (f'<span class="key {it.kind}">{escape(it.says)}</span>' for it in plot.lines)
+    keys = (f'<span class="key {kind}">{escape(says)}</span>' for kind, (says, _) in plot.lines.items())
+    title = escape(plot.title)
     return (f'<section class="plot"><h2>{title}</h2><p class="legend">{"".join(keys)}</p>'
             f'<div class="drawing" id="plot-{plot.name}"><svg height="{HEIGHT}" role="img" aria-label="{title}">'
             f'{plot.drawing}</svg></div><p class="note">{escape(plot.caption)}</p></section>\n')
@@ -99,9 +100,3 @@ def _grid(heading: Iterable[str], rows: Iterable[Iterable[str]], attributes: str
     body = "".join("<tr>" + "".join(f"<td>{it}</td>" for it in row) + "</tr>\n" for row in rows)
     return (f'<div class="scrolled"><table {attributes}><thead><tr>{top}</tr></thead>\n'
             f"<tbody>{body}</tbody></table></div>")
-
-
-def _has(figures: Figures, shown: int) -> str:
-    """Of which jobs the page has the lives."""
-    return (f"This page has the lives of {number(shown)} of {counted(len(figures.jobs.roots), 'job')}: first those that"
-            " look wrong, were given latest or offered most often. tools/report --job tells the others.")

@@ -65,7 +65,7 @@ def line(kind: str, start: tuple[str, float], end: tuple[str, float]) -> str:
 def x_axis(ticks: Iterable[Tick], title: str) -> str:
     """The axis at the bottom."""
     parts = [line("axis", ("0", BOTTOM), ("100%", BOTTOM))]
-    for (place, label), kind in zip(ticks, itertools.cycle(("", " wide"))):
+    for (place, label), kind in zip(ticks, itertools.cycle(("", " from-720"))):
         at = f"{round(place * 100 / SHARES, 2):g}%"
         parts += [line(f"axis{kind}", (at, BOTTOM), (at, BOTTOM + 5)), text(at, BOTTOM + 18, label, f"x{kind}")]
     return "".join([*parts, text("50%", BOTTOM + 38, title, "x title")])

@@ -3,7 +3,7 @@ from __future__ import annotations
 
 from array import array
 from bisect import bisect_left
-from typing import Iterable, Iterator
+from typing import Iterable
 
 from histories.history import History
 from reporting import svg
@@ -15,7 +15,7 @@ MINUTE, HOUR, DAY = 60 * SECOND, 3600 * SECOND, 86_400 * SECOND
 MOST_BUCKETS = 200
 MOST_STEPS = 5  # so that words fit on a page for which page.css shows them all
 
-# Steps from one date to the next. All divide the day, or are days.
+# Round steps of time. All divide the day, or are days.
 DATE_STEPS = (
     *(factor * 10**power for power in range(9) for factor in (1, 2, 5)),
     *(it * SECOND for it in (1, 2, 5, 10, 15, 30)), *(it * MINUTE for it in (1, 2, 5, 10, 15, 30)),
@@ -49,10 +49,12 @@ class TimeAxis:
         return [slice(low, high) for low, high in zip(places, places[1:])]
 
     def drawn(self) -> str:
-        """The axis."""
-        if self._clock.offset is None:
-            return svg.x_axis(self._ticks(), f"time since the first event ({self._unit})")
-        return svg.x_axis(self._ticks(), f"UTC, from {self._clock.text(self._start, 0)} on")
+        """The axis, with round times since the first event."""
+        length = self._end - self._start
+        step = next(it for it in DATE_STEPS if it * MOST_STEPS >= length)
+        ticks = (Tick(self._scale.at(self._start + it), f"{it / self._size:g}") for it in range(0, length + 1, step))
+        start = "the first event" if self._clock.offset is None else f"{self._clock.text(self._start, 0)} UTC"
+        return svg.x_axis(ticks, f"time since {start} ({self._unit})")
 
     def _told(self, moment: int) -> str:
         return span(moment - self._start) if self._clock.offset is None else f"{self._clock.text(moment)} UTC"
@@ -61,21 +63,3 @@ class TimeAxis:
         """What is said of each bucket, by its place: its moment, and these lines."""
         return [(place, "\n".join([self._told(edge), *some]))
                 for place, edge, some in zip(self.places, self.edges, lines)]
-
-    def _ticks(self) -> Iterator[Tick]:
-        """The moments with round dates, or of round times since the first event."""
-        offset = self._clock.offset
-        zero = -self._start if offset is None else offset
-        step = next(it for it in DATE_STEPS if it * MOST_STEPS >= self._end - self._start)
-        for time in range(-(-(self._start + zero) // step) * step, self._end + zero + 1, step):
-            label = f"{time / self._size:g}" if offset is None else _label(self._clock.text(time - zero, 9), step)
-            yield Tick(self._scale.at(time - zero), label)
-
-
-def _label(date: str, step: int) -> str:
-    """What changes of a date from one step to the next."""
-    if step >= DAY or date.endswith("00:00:00.000000000"):
-        return date[:10] if step >= 100 * DAY else date[5:10]
-    if step >= MINUTE:
-        return date[11:16]
-    return date[11:19] if step >= SECOND else date[17:20 + len(str(SECOND // step - 1))]

@@ -12,21 +12,15 @@ from common.program import PROGRAM, TESTED, TOP, built_program, program_named, t
 
 
 class ProgramTest(RoomTest):
-    def test_a_program_that_is_given_is_taken(self) -> None:
-        with mock.patch("subprocess.run") as run:
+    def test_a_program_that_is_given_is_taken_and_the_checkouts_is_built(self) -> None:
+        with mock.patch("subprocess.run", return_value=subprocess.CompletedProcess([], 0)) as run:
             self.assertEqual(built_program("/bin/other"), "/bin/other")
-        self.assertFalse(run.called)
-
-    def test_the_checkouts_program_is_built_by_broker(self) -> None:
-        for status in (0, 126):
-            with mock.patch("subprocess.run", return_value=subprocess.CompletedProcess([], status)) as run:
-                if status:
-                    with self.assertRaises(SystemExit) as end:
-                        built_program()
-                    self.assertEqual(end.exception.code, 2)
-                else:
-                    self.assertEqual(built_program(), PROGRAM)
-            self.assertEqual(run.call_args.args, ([f"{TOP}/broker", "--help"],))
+            self.assertFalse(run.called)
+            self.assertEqual(built_program(), PROGRAM)
+            run.return_value.returncode = 126
+            with self.assertRaises(SystemExit) as end:
+                built_program()
+        self.assertEqual((end.exception.code, run.call_args.args), (2, ([f"{TOP}/broker", "--help"],)))
 
     def test_a_program_that_is_named(self) -> None:
         path = self.file("program", "")

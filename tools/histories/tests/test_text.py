@@ -5,7 +5,6 @@ import io
 import unittest
 
 from histories.acts import given_ids
-from histories.faults import Damaged
 from histories.grammar import Head
 from histories.history import Element
 from histories.tests.support import RUN, offers_in
@@ -35,12 +34,6 @@ class TextTest(unittest.TestCase):
     def test_what_no_queue_does_may_stand_in_a_text(self) -> None:
         told = ["1 5 4 take 7\n", "1 3 3 size 9\n", "1 3 3 offer 8 0 8 0 1 x\n"]
         self.assertEqual([line for _, line in lines("".join(["history 3\nopen 0 0 0\n", *told, "end 3\n"]))], told)
-
-    def test_the_last_line_is_read_too(self) -> None:
-        for end, line in (("end 2\n", 3), ("", 3), ("end 1", 3), ("end 1\nmore", 4)):
-            with self.subTest(end=end), self.assertRaises(Damaged) as caught:
-                lines(f"history 1\n1 0 0 clear\n{end}")
-            self.assertEqual(caught.exception.line, line)
 
     def test_offers(self) -> None:
         self.assertEqual(list(offers_in(text(RUN))), [Element(3, 100, 3, 100, 1, "c"), Element(4, 300, 3, 100, 2, "c")])

@@ -81,11 +81,6 @@ class ReportPageTest(PageTest):
         }})()""")
         return place
 
-    def go_to_first_plot(self) -> None:
-        """Leads to it by the key that leads from one thing on the page to the next."""
-        self.browser.value("document.querySelector('h1').tabIndex = -1; document.querySelector('h1').focus()")
-        self.browser.press("Tab")
-
 
 def counts(lines: Sequence[str]) -> list[int]:
     """How many elements a report has at the start, offered, given, removed, cleared, and left at the end."""

@@ -9,8 +9,6 @@ from histories.tests.support import RUN, offer, text_of
 from reporting.tests.support import ReportPageTest
 from reporting.tests.test_page import HOSTILE, hostile_text
 
-PLOTS = ("calls", "lateness")  # and the depth
-
 ANSWER = "document.getElementById('answer').textContent"
 LIFE = "[...document.querySelectorAll('#life tbody tr')].map((row) => [...row.cells].map((cell) => cell.textContent))"
 READING = "[...document.querySelectorAll('#plot-depth .reading')].map((it) => it.hidden ? null : it.textContent)"
@@ -64,41 +62,25 @@ class BrowserTest(ReportPageTest):
         self.told("#answer a:last-child", "click()")
         self.shows(ANSWER, "Job 3, payload 0, first expiry 0, 1 element")
 
-    def test_the_value_under_the_pointer(self) -> None:
+    def test_the_value_under_the_pointer_and_at_the_keyboard(self) -> None:
         self.show(RUN)
         left, top, width, _ = self.place("#plot-depth .axis")
-        for moment, says in ((150, "50 ns\n1 in the queue\n0 to 1 of these expired"),
-                             (165, "65 ns\n2 in the queue\n1 of these expired")):
+        for moment, says in ((150, "50 ns\n1 in the queue\n1 of these expired"),
+                             (165, "65 ns\n2 in the queue\n1 of these expired"), (60, None)):
             self.browser.point(left + width * (moment + 0.5 - 100) / 211, top - 90)
             self.shows(READING, [says])
-        self.browser.point(left - 40, top - 90)
-        self.shows(READING, [None])
-        for plot in PLOTS:
-            left, top, _, _ = self.place(f"#plot-{plot} .axis")
-            self.browser.point(left + 2, top - 60)
-            told = self.browser.value(f"told.readings.{plot}[0][1]")
-            self.shows(f"document.querySelector('#plot-{plot} .reading').textContent", told)
-
-    def test_the_value_at_the_keyboard(self) -> None:
-        self.show(RUN)
         told = [says for _, says in self.browser.value("told.readings.depth")]
-        self.go_to_first_plot()
-        self.shows("document.activeElement.id", "plot-depth")
-        place = 0
-        for key, leap in (("Home", -999), ("ArrowRight", 1), ("ArrowRight", 1), ("ArrowLeft", -1), ("End", 999),
-                          ("ArrowRight", 1), ("Home", -999), ("ArrowLeft", -1)):
+        self.browser.value("document.querySelector('h1').tabIndex = -1; document.querySelector('h1').focus()")
+        self.browser.press("Tab")
+        for key, place in (("Home", 0), ("ArrowLeft", 0), ("ArrowRight", 1), ("ArrowRight", 2), ("ArrowLeft", 1),
+                           ("End", -1), ("ArrowRight", -1)):
             self.browser.press(key)
-            place = min(max(0, place + leap), len(told) - 1)
             self.shows(READING, [told[place]])
             spoken = self.browser.value("document.activeElement.getAttribute('aria-valuetext')")
             self.assertEqual(spoken, told[place].replace("\n", ", "))
-        for plot in PLOTS:
-            self.browser.press("Tab")
-            self.shows(READING, [None])
-            self.shows("document.activeElement.id", f"plot-{plot}")
-            self.browser.press("End")
-            last = self.browser.value(f"told.readings.{plot}.at(-1)[1]")
-            self.shows(f"document.querySelector('#plot-{plot} .reading').textContent", last)
+        self.browser.press("Tab")
+        self.shows(READING, [None])
+        self.shows("document.activeElement.id", "plot-lateness")
 
     def test_a_link_shows_a_job(self) -> None:
         self.show(RUN, job="0")

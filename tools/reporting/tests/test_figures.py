@@ -5,7 +5,7 @@ import unittest
 
 from histories.tests.support import RUN, offer, read, text_of
 from reporting.depth import depth_of
-from reporting.jobs import Attempts, NoJob, jobs_named
+from reporting.jobs import NoJob, jobs_named
 from reporting.lateness import rank, ranks
 from reporting.tests.support import figures
 from reporting.units import SECOND, mark, percent, span
@@ -36,7 +36,7 @@ class FiguresTest(unittest.TestCase):
 
     def test_jobs_and_attempts(self) -> None:
         jobs = figures(RUN).jobs
-        self.assertEqual(jobs.attempts, [Attempts(1, 2, 2), Attempts(2, 2, 2)])
+        self.assertEqual(jobs.attempts, [(1, 2, 2), (2, 2, 2)])
         self.assertEqual((list(jobs.elements), list(jobs.roots), jobs.again), ([1, 1, 2, 0], [0, 1, 2], [2]))
         self.assertEqual(jobs.latest, [0, 1, 2])  # by 30, 20 and 20 nanoseconds
 

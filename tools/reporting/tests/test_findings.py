@@ -3,6 +3,7 @@ writes."""
 from __future__ import annotations
 
 import unittest
+from pathlib import Path
 
 from histories.tests.support import RUN, offer, text_of
 from reporting.findings import Finding
@@ -63,29 +64,7 @@ FINDINGS: list[tuple[list[str], list[str]]] = [
     ([offer(id, 5) for id in range(99)], ["99 elements never left the queue; 0 of them had expired at the end"]),
 ]
 
-AGAIN = "1 9 9 offer 1 9 0 5 2 a"  # the second attempt of job 0
-
-# Events of job 0 that no run has, and what is said of it. docs/HISTORY.md has the rules for each attempt.
-NEVER_WRITTEN = {
-    "in the queue twice at once": [
-        [offer(0, 5), AGAIN], [offer(0, 5), "1 9 9 take 0", AGAIN, "1 9 9 offer 2 9 0 5 3 a"],
-    ],
-    "begun with another origin or first expiry than its own": [
-        ["1 9 9 offer 0 9 7 9 1 a"], ["1 9 9 offer 0 9 0 8 1 a"],
-    ],
-    "offered again without an attempt before that was given": [
-        ["1 9 9 offer 0 9 7 9 2 a"], [offer(0, 5), "1 9 9 remove 0 yes", AGAIN], [offer(0, 5), "1 9 9 clear", AGAIN],
-        [offer(0, 5), "1 9 9 take 0", AGAIN.replace(" 2 a", " 3 a")],
-    ],
-    "offered twice as the same attempt": [
-        [offer(0, 5), "1 9 9 take 0", AGAIN, "1 9 9 take 1", "1 9 9 offer 2 9 0 5 2 a"],
-        [offer(0, 5), "1 9 9 take 0", "1 9 9 offer 1 9 0 9 1 a"],
-    ],
-    "offered again with another payload or first expiry": [
-        [offer(0, 5), "1 9 9 take 0", AGAIN.replace("2 a", "2 b")],
-        [offer(0, 5), "1 9 9 take 0", AGAIN.replace("0 5 2", "0 6 2")],
-    ],
-}
+NEVER_WRITTEN = Path(__file__).with_name("never_written.txt").read_text("utf-8")
 
 
 class FindingsTest(unittest.TestCase):
@@ -94,12 +73,12 @@ class FindingsTest(unittest.TestCase):
             self.assertEqual([it.says for it in figures(text_of(*events)).findings], says)
 
     def test_what_the_program_never_writes(self) -> None:
-        for fault, texts in NEVER_WRITTEN.items():
+        for row in NEVER_WRITTEN.splitlines()[2:]:
+            fault, events = row.split(" | ")
             says = f"1 job was {fault}: this history is not one that the program wrote, or its opening is not"
-            for events in texts:
-                with self.subTest(fault=fault, events=events):
-                    origin = int(events[0].split(" ")[6])
-                    self.assertEqual(figures(text_of(*events)).findings[0], Finding(says, [origin]))
+            with self.subTest(row):
+                origin = int(events.split(" ")[6])
+                self.assertEqual(figures(text_of(*events.split(" / "))).findings[0], Finding(says, [origin]))
 
     def test_an_opening_that_no_run_leaves(self) -> None:
         twice = RUN.replace("keep 2 150 1 120 2 b", "keep 2 150 0 90 2 a")

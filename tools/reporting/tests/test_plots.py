@@ -7,7 +7,7 @@ import unittest
 from histories.tests.support import RUN, offer, read, text_of
 from reporting import svg
 from reporting.dates import Clock, nanoseconds_of
-from reporting.plots import calls_plot, depth_plot, lateness_in, lateness_plot, offers_in, plots_of
+from reporting.plots import depth_plot, lateness_in, lateness_plot, plots_of
 from reporting.span_axis import span_ticks
 from reporting.svg import SHARES, Scale
 from reporting.tests.support import figures
@@ -57,39 +57,32 @@ class TimeAxisTest(unittest.TestCase):
             self.assertEqual([axis.bucket(it) for it in (start, end)], [0, axis.count - 1])
 
     def test_labels_at_the_axis(self) -> None:
-        for axis, told in (
-            (self.axis(600 * SECOND), "08:00 08:02 08:04 08:06 08:08 08:10"),
-            (self.axis(40 * SECOND), "08:00:00 08:00:10 08:00:20 08:00:30 08:00:40"),
-            (self.axis(SECOND / 2), "00.0 00.1 00.2 00.3 00.4 00.5"), (self.axis(0), "00.000000000"),
-            (self.axis(2 * 86_400 * SECOND, "2026-11-29T20:00Z"), "11-30 12:00 12-01 12:00"),
-            (self.axis(3 * SECOND, "", 50), "0 1 2 3"), (self.axis(600 * SECOND, ""), "0 2 4 6 8 10"),
+        for nanoseconds, began, told, title in (
+            (600 * SECOND, EIGHT, "0 2 4 6 8 10", "time since 2026-11-26 08:00:00 UTC (min)"),
+            (3 * SECOND, "", "0 1 2 3", "time since the first event (s)"),
+            (SECOND / 2, "", "0 100 200 300 400 500", "time since the first event (ms)"), (0, "", "0", "(ns)"),
         ):
-            shown = re.findall(r'class="x(?: wide)?">([^<]*)<', axis.drawn())
-            self.assertEqual(" ".join(shown), told)
-        self.assertIn("UTC, from 2026-11-29 20:00:00 on", self.axis(9, "2026-11-29T20:00Z").drawn())
+            drawn = self.axis(nanoseconds, began).drawn()
+            self.assertEqual(" ".join(re.findall(r'class="x(?: from-720)?">([^<]*)<', drawn)), told)
+            self.assertIn(f"{title}</text>", drawn)
 
 
 class PlotsTest(unittest.TestCase):
-    def test_what_happened_in_each_bucket(self) -> None:
-        # In thirds of 211 nanoseconds the events at 100 to 170, 200, and 310, of which element 4 is a return.
+    def test_lateness_in_each_bucket(self) -> None:
+        # In thirds of 211 nanoseconds the events at 100 to 170, 200, and 310.
         history = read(RUN)
         axis = TimeAxis(history, Clock(), 3)
-        self.assertEqual((offers_in(axis, history), lateness_in(axis, history)),
-                         (([1, 0, 0], [1, 0, 0]), [[20, 20, 30], [], [10]]))
-        plot = calls_plot(history, axis, [3, 0, 1])
-        self.assertIn("In all 1 offer, 4 gifts and 1 return.", plot.caption)
-        self.assertEqual(plot.readings[0][1], "0 ns\n1 offer\n3 gifts\n1 return")
-        self.assertEqual([it.heights for it in plot.lines],
-                         [[157.3, 222.0, 222.0], [28.0, 222.0, 157.3], [157.3, 222.0, 222.0]])
-        late = lateness_plot(lateness_in(axis, history), axis)
-        self.assertEqual([it[1].split("\n")[1] for it in late.readings], ["median 20 ns", "nothing was given",
-                                                                          "median 10 ns"])
+        self.assertEqual(lateness_in(axis, history), [(20, 30, 3), None, (10, 10, 1)])
+        plot = lateness_plot(lateness_in(axis, history), axis)
+        self.assertEqual([it for _, it in plot.lines.values()], [[92.7, None, 157.3], [28.0, None, 157.3]])
+        self.assertEqual([says.split("\n")[1] for _, says in plot.readings],
+                         ["median 20 ns", "nothing was given", "median 10 ns"])
 
     def test_no_peak_is_lost(self) -> None:
         """A thousand elements stand for a nanosecond."""
         figured = figures(text_of(*(offer(id, 50) for id in range(1000)), "1 1 1 clear", "1 9999 9999 size 0"))
         plot = depth_plot(figured.depth, TimeAxis(figured.history, Clock(), 10))
-        standing = plot.lines[0].heights
+        _, standing = plot.lines["standing"]
         self.assertEqual((standing[0], {*standing[1:]}), (svg.TOP, {svg.BOTTOM}))
         self.assertIn('<path class="line standing" d="M0.0 28.0H100.0V222.0H200.0', plot.drawing)
 
@@ -99,8 +92,7 @@ class PlotsTest(unittest.TestCase):
     def test_depth(self) -> None:
         depth, history = figures(RUN).depth, read(RUN)
         told = dict(says.split("\n", 1) for _, says in depth_plot(depth, TimeAxis(history, Clock(), 211)).readings)
-        for moment, standing, expired in (("0", "2 to 3", "1 to 2"), ("20", "1 to 3", "0 to 2"), ("21", "1", "0"),
-                                          ("50", "1", "0 to 1"), ("210", "0 to 1", "0 to 1")):
+        for moment, standing, expired in ((0, 3, 2), (20, 3, 2), (21, 1, 0), (50, 1, 1), (210, 1, 1)):
             self.assertEqual(told[f"{moment} ns"], f"{standing} in the queue\n{expired} of these expired")
 
     def test_readings_rise(self) -> None:

@@ -8,6 +8,7 @@ from checking.testing import RoomTest
 from common.program import TOP, tested_program
 from reporting.tests.large_histories import history
 from reporting.tests.support import counts, run
+from verifying.tests.simulated import ATTEMPTS, DELAY
 
 
 class ProgramTest(RoomTest):
@@ -42,7 +43,7 @@ class ProgramTest(RoomTest):
     def test_a_made_history_is_counted_alike(self) -> None:
         for kind in ("busy", "old", "offers"):
             path = self.file("made.txt", "".join(history(kind, 6_000)))
-            chains = ["--chains", "--delay", "50000000", "--attempts", "3"]
+            chains = ["--chains", "--delay", str(DELAY), "--attempts", str(ATTEMPTS)]
             verdict = subprocess.run([tested_program(), "replay", path, *chains], capture_output=True, timeout=120)
             self.assertEqual(verdict.returncode, 0, verdict.stdout)
             told = json.loads(verdict.stdout)

@@ -153,8 +153,8 @@ class DatesTest(RunsTest):
         lines = self.lines(*self.paths[1:], "--began", "@1795680000")
         self.assertIn("from 2026-11-26 08:00:00.000 to 2026-11-26 08:00:00.000 UTC", lines)
         self.assertIn(LEFT_OUT, lines)  # the third run opens at the last moment of the second one
-        clock = Clock.begun(read_series(self.paths[1:]), 100 * SECOND)
-        self.assertEqual([clock.text(moment, 9)[-12:] for moment in (20, 1020)], ["40.000000000", "40.000001000"])
+        life = self.lines(*self.paths[1:], "--job", "2", "--began", "@100")  # it is due 480 ns after the opening
+        self.assertIn("1970-01-01 00:01:40.000000480", life[2])
 
     def test_what_tells_a_date(self) -> None:
         self.assertEqual({text: nanoseconds_of(text) for text in DATES}, DATES)

@@ -175,7 +175,7 @@ class ShownTest(ServedTest):
         self.browser.value("document.querySelector('#runs a').click()")
         self.shows("document.title", "run-11.txt.gz: report")
         self.shows("document.readyState", "complete")  # or the next test would take its end for that of its own page
-        self.assertEqual(self.browser.value("document.querySelectorAll('.plot').length === 3"), True)
+        self.assertEqual(self.browser.value("document.querySelectorAll('.plot').length === 2"), True)
 
 
 class PlotsTest(ServedTest):
