@@ -13,10 +13,8 @@ MOST_HELD = 64
 class Rules(NamedTuple):
     """What is otherwise where a queue stands on Redis."""
 
-    has_leases: bool = False
-    """A session may end before its client leaves. What it held has come back, and its next DONE is refused."""
-    is_shard: bool = False
-    """The session has jobs of other queues too, and a fetch may ask this queue in vain."""
+    has_leases: bool = False  # a session may end before its client leaves; what it held has come back
+    is_shard: bool = False  # the session has jobs of other queues too, and a fetch may ask this queue in vain
 
 
 class Strange(Exception):

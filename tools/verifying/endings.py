@@ -48,9 +48,10 @@ class Ending:
                 self._returns.popleft()
                 self._counts["returned"] += 1
             elif not self._is_of_request(event):
-                if not self._is_before_return(event):
+                first = self._returns[0] if self._returns else NONE
+                if event >= first or self._history.seats[first] != self._session.seat:
                     break
-                if not self._is_unrecorded(event):
+                if not self._is_unrecorded(event):  # and before the first return that is still to come
                     self._tell("gap", event, "stands before the return of a job that it held at its end")
         for event in self._returns:
             self._tell("return", event, "returns a job of its end, and is not right behind its last call")
@@ -60,11 +61,6 @@ class Ending:
 
     def _take(self, event: int, line: int, sent: int) -> None:
         self._calls.claims[event] = self._calls.add(self._session, line, sent, NEVER, event)
-
-    def _is_before_return(self, event: int) -> bool:
-        """Whether an event stands before the first return that is still to come, at the same seat."""
-        first = self._returns[0] if self._returns else NONE
-        return event < first and self._history.seats[first] == self._session.seat
 
     def _is_of_request(self, event: int) -> bool:
         """Whether an event may be that of a request without a reply. Those before it were then refused."""

@@ -117,10 +117,6 @@ class History:
         row, following = self.rows[self.seats[event]], self.file_of(event) + 1
         return row[-1] if following == len(self.files) else row[bisect_left(row, self.files[following]) - 1]
 
-    def is_looked_for(self, event: int) -> bool:
-        """Whether an event must be the call of somebody."""
-        return self.places[event] != NOWHERE
-
     def element(self, id: int) -> Element | None:
         """The element of an id, if it was offered or there from the start."""
         event = self.offers[id]

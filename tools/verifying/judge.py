@@ -10,7 +10,7 @@ from verifying.calls import NEVER, Calls
 from verifying.endings import follow_ends
 from verifying.faults import Faults
 from histories.history import NONE
-from verifying.history import History
+from verifying.history import NOWHERE, History
 from verifying.loose import place_loose
 from verifying.placing import place_named
 from verifying.record import Exchange
@@ -22,41 +22,46 @@ Exchanges = Iterable[Tuple[str, Exchange]]
 class Verdict:
     """What was found, and over how much."""
 
-    def __init__(self, histories: Sequence[History], rules: Rules) -> None:
-        self.faults = Faults()
-        self._queues = [Calls(it, self.faults, rules) for it in histories]
+    def __init__(
+        self, histories: Sequence[History], exchanges: Exchanges, is_whole: bool, has_leases: bool = False
+    ) -> None:
+        """Compares the history of a queue, or those of its shards, with the exchanges of its clients, each with the
+        path of its record. If the records are those of all clients, an event of none of them is a fault."""
+        self.faults, self._is_whole = Faults(), is_whole
+        self._queues = [Calls(it, self.faults, Rules(has_leases, len(histories) > 1)) for it in histories]
         self._sessions: Set[Tuple[str, str]] = set()
         self._counts: Counter[str] = Counter()
-
-    def read(self, exchanges: Exchanges) -> None:
-        """Takes the lines of all records, each with the path of its own."""
-        queues, requests, without_reply = self._queues, 0, 0
-        for requests, (path, exchange) in enumerate(exchanges, 1):
-            without_reply += exchange.received is None
-            self._sessions.add((path, exchange.session))
-            try:
-                for queue, part in ((0, exchange),) if len(queues) == 1 else parts_of(exchange, len(queues)):
-                    queues[queue].read(path, part)
-            except Strange:
-                self.faults.add_strange(path, exchange)
-        self._counts.update({"requests": requests, "without reply": without_reply})
-
-    def compare(self, is_whole: bool) -> None:
-        """Compares the calls of all records with the events. If the records are those of all clients, an event of none
-        of them is a fault."""
+        for path, exchange in exchanges:
+            self._read(path, exchange)
         for calls in self._queues:
-            self._counts["calls"] += len(calls)
-            place_loose(calls, place_named(calls))
-            self._counts += follow_ends(calls)
-            check_real_time(calls)
-            for event, call in enumerate(calls.claims):
-                if call == NONE and calls.history.is_looked_for(event):
-                    self._counts["unrecorded"] += 1
-                    if is_whole:
-                        told = f"{calls.history.told(event)} is the call of no record"
-                        self.faults.add("unrecorded", f"event {event}", told)
+            self._compare(calls)
 
-    def lines(self, is_whole: bool) -> List[str]:
+    def _read(self, path: str, exchange: Exchange) -> None:
+        """Takes a line of the record at this path."""
+        queues = self._queues
+        self._counts["requests"] += 1
+        self._counts["without reply"] += exchange.received is None
+        self._sessions.add((path, exchange.session))
+        try:
+            for queue, part in ((0, exchange),) if len(queues) == 1 else parts_of(exchange, len(queues)):
+                queues[queue].read(path, part)
+        except Strange:
+            self.faults.add_strange(path, exchange)
+
+    def _compare(self, calls: Calls) -> None:
+        """Compares the calls at a queue with its events."""
+        self._counts["calls"] += len(calls)
+        place_loose(calls, place_named(calls))
+        self._counts += follow_ends(calls)
+        check_real_time(calls)
+        for event, call in enumerate(calls.claims):
+            if call == NONE and calls.history.places[event] != NOWHERE:
+                self._counts["unrecorded"] += 1
+                if self._is_whole:
+                    told = f"{calls.history.told(event)} is the call of no record"
+                    self.faults.add("unrecorded", f"event {event}", told)
+
+    def lines(self) -> List[str]:
         """The lines that are printed: faults, what was compared, and each sentence with the number of its faults."""
         counts, histories = self._counts, [it.history for it in self._queues]
         events, seats = sum(map(len, histories)), sum(len(it.rows) for it in histories)
@@ -69,17 +74,8 @@ class Verdict:
             f"{counts['unheard']:,} were carried out",
             f"{counted(counts['returned'], 'job')} came back at the end of a session; {counts['gone']:,} did not, in "
             f"the last attempt or a full run; {counted(counts['unrecorded'], 'event')} of no record",
-            *self.faults.sentences(is_whole),
+            *self.faults.sentences(self._is_whole),
         ]
-
-
-def judge(histories: Sequence[History], exchanges: Exchanges, is_whole: bool, has_leases: bool = False) -> Verdict:
-    """Compares the history of a queue, or those of its shards, with the exchanges of its clients, each with the path of
-    its record."""
-    verdict = Verdict(histories, Rules(has_leases, len(histories) > 1))
-    verdict.read(exchanges)
-    verdict.compare(is_whole)
-    return verdict
 
 
 def check_real_time(calls: Calls) -> None:

@@ -35,7 +35,8 @@ def read_record(file: BinaryIO) -> Iterator[Exchange]:
     for number, line in enumerate(iter(lambda: file.readline(LONGEST_LINE), b""), 1):
         exchange = _exchange(line, number)
         before = latest.get(exchange.session)
-        if before is not None and not _may_follow(exchange, before):
+        if before is not None and not (before.sent <= exchange.sent and (exchange.received is None or (
+                before.received is not None and before.received <= exchange.received))):
             raise Damaged(number, f"it was sent or answered before line {before.line}, of the same session")
         latest[exchange.session] = exchange
         yield exchange
@@ -58,10 +59,3 @@ def _exchange(line: bytes, number: int) -> Exchange:
 
 def _is_time(it: Any) -> bool:
     return type(it) is int and 0 <= it <= GREATEST_TIME
-
-
-def _may_follow(exchange: Exchange, before: Exchange) -> bool:
-    """Whether an exchange may stand behind another one of its session."""
-    if exchange.received is None:
-        return exchange.sent >= before.sent
-    return exchange.sent >= before.sent and before.received is not None and exchange.received >= before.received

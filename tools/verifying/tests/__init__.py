@@ -2,10 +2,5 @@
 docs/PROTOCOL.md, from runs that were written by hand, and from runs of a simulated queue that were changed on purpose.
 """
 import os
-import sys
-
-from common.program import TOP
-
-sys.path.append(f"{TOP}/clients/python/src")
 
 EVENTS = int(os.environ.get("RB_BROKER_EVENTS", 200_000))  # of the large run

@@ -46,7 +46,7 @@ class Simulation:
     def __init__(self, seed: int, events: int, seats: int, longest: int, kills: bool = False) -> None:
         """A session makes at most `longest` requests. With `kills` clients that hold a job are killed."""
         random.seed(seed)
-        self._kills = kills
+        self.seed, self._kills = seed, kills
         self.events: list[str] = []
         self.lines: list[Line] = []
         self._queue: list[tuple[int, int]] = []
@@ -191,6 +191,7 @@ class Idle:
 
     def __init__(self, seed: int, workers: int, lengths: Sequence[int], offers: int) -> None:
         random.seed(seed)
+        self.seed = seed
         self.lines: list[Line] = []
         self._events: list[tuple[int, int, str]] = []  # with moment and seat
         self._seats = [(0, it) for it in range(16)]  # with the moment at which each is free

@@ -8,7 +8,7 @@ from typing import Any, Iterable, Sequence
 
 from checking.testing import RoomTest, run_tool
 from verifying.history import History
-from verifying.judge import judge
+from verifying.judge import Verdict
 from verifying.record import read_record
 
 RUNS = Path(__file__).with_name("runs.txt").read_text("utf-8")
@@ -90,5 +90,5 @@ class RunTest(RoomTest):
     ) -> tuple[dict[str, int], list[str]]:
         """The number of faults of each kind that has any, and the lines of the faults."""
         exchanges = (("record.jsonl", it) for it in read_record(io.BytesIO(record_of(record).encode())))
-        lines = judge(histories, exchanges, is_whole, has_leases).lines(is_whole)
+        lines = Verdict(histories, exchanges, is_whole, has_leases).lines()
         return counts_in("\n".join(lines)), [it for it in lines if re.search(r": (%s): " % "|".join(KINDS), it)]
