@@ -7,7 +7,7 @@ on a terminal and on a page.
     tables.py, report_tables.py                what the terminal and the page show alike
     svg.py, time_axis.py, span_axis.py, plots.py  the plots of the page
     head.py, page.py, page.html, page.css, page.js  the page, and what it does in a browser
-    readings.js                                tells what a plot shows, also on the page of tools/service
+    readings.js                                tells what a plot shows
 
 The tests are below tests/, with a maker of large histories; `dev/check report` runs them.
 """

@@ -13,13 +13,8 @@
     saying.py        how others ask for the end, and what they are told
     showing.py       what the service shows of itself
     state.py         all that the service knows and shows at one moment; `Board` holds the latest
-    shown.py         a state as texts, for the page, the terminal view and systemd; trend.py has the plots
-    metrics.py       a state as Prometheus reads it
-    site.py          `Pages(board, port, folder, http).start()` serves the page, /metrics and /health: always at the
-                     socket FOLDER/status, and at an address if --http names one
-    address.py, http.py, reports.py          where they are served, a small server of HTTP on a thread of its own, and
-                                             the reports on runs that have ended
+    metrics.py       the numbers of a state, also as Prometheus reads them
+    shown.py         a state as texts, for the page, --status and systemd
     page.py, page.css, page.js               the page
-    status_view.py   `show(folder, as_json)` shows the service of a folder in a terminal, which it asks at that socket,
-                     and returns the exit status
+    site.py, http.py what is served of it: always at the socket FOLDER/status, and at an address if --http names one
 """

@@ -89,20 +89,18 @@ def saved(parts: Parts, run: Current) -> Next:
         if server.size:
             parts.runs.save_damaged(server)
         following = lost(parts, record, str(fault))
-        offered, gone = looks.offered, looks.left
+        offered, gone, failed = looks.offered, looks.left, 0
     else:
         parts.until_written(f"run-{record.number}.txt", server.size, lambda: parts.runs.save_history(server))
-        offered, stays = audit["offered"] - left.probes, len(left.elements)
+        offered, stays, failed = audit["offered"] - left.probes, len(left.elements), left.failed
         gone = record.opening + offered - stays
-        end = End(time.time(), why, audit["calls"], offered, left.failed, audit["given"], stays, left.last_attempts,
+        end = End(time.time(), why, audit["calls"], offered, failed, audit["given"], stays,
                   server.lost_jobs, None, run.held_by, run.cut)
         write_end(parts, record, end)
         following = parts.runs.after(record, left)
         say("info", "saved", run=record.number, calls=end.calls, offered=end.offered, given=end.given, left=end.left,
             lost_jobs=end.lost_jobs or None, cut=end.cut or None)
-    parts.showing.count(parts.runs.records[record.number], offered, gone)
-    parts.showing.looks = None
-    parts.showing.renew_runs()
+    parts.showing.count(offered, gone, failed)
     parts.keeping.drop()
     server.close()
     return following
@@ -114,7 +112,6 @@ def lost(parts: Parts, record: Run, why: str) -> Next:
     it = parts.runs.records[record.number]
     say("error", "lost-run", run=record.number, lasted=f"{it.lasted:.1f}s", opening=record.opening,
         aside=record.aside or None, why=why, text=lost_text(it))
-    parts.showing.renew_runs()
     return parts.runs.again(record, record.calls)
 
 

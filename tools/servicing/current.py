@@ -14,7 +14,7 @@ from servicing.parts import LeftBehind, Parts
 from servicing.saying import notify, say
 from servicing.server import Server
 from servicing.shown import span_of
-from servicing.sockets import Unwatchable
+from servicing.sockets import Connection, Unwatchable
 from servicing.state import Phase, Reason, Run
 from servicing.visits import Visits
 
@@ -32,7 +32,7 @@ class Current:
     ) -> None:
         """`first_aside` is the moment at which the first element aside expires, `before` the run behind which it is."""
         self._parts, self._settings, self._signals = parts, parts.settings, parts.signals
-        self.record, self.server, self._first_aside = replace(record, server=server.pid), server, first_aside
+        self.record, self.server, self._first_aside = record, server, first_aside
         self.looks = Looks(self._settings.port, record, self._settings.workers, self._settings.sessions)
         self._visits: Visits | None = None  # which use up most sessions in the last part of the run
         self.is_crowded: bool = False  # whether clients outnumbered the workers at its end
@@ -62,7 +62,7 @@ class Current:
                 self.why = why
                 if why is Reason.ASKED:
                     notify(STOPPING=1)
-                self._parts.showing.enter(Phase.ENDING, why, clients=self.looks.served)
+                self._parts.showing.enter(Phase.ENDING, why, clients=len(self.looks.served))
                 self._end()
         finally:
             self.looks.own.drop()
@@ -150,7 +150,7 @@ class Current:
 
     def _cut_silent(self) -> None:
         silent = self._settings.silent
-        ports = silent_ports(self.looks.connections, silent / SECOND) if silent is not None else []
+        ports = silent_ports(self.looks.served, silent / SECOND) if silent is not None else []
         if silent is not None and ports:
             count, why = self._parts.keeping.cut(ports)
             say("warning", "cut-silent", sessions=count, silent=span_of(silent / SECOND), why=why or None)
@@ -170,44 +170,40 @@ class Current:
                 self.is_crowded |= self.looks.count > self._settings.workers
                 if self.is_crowded:
                     self.looks.own.drop()  # a client needs the worker, and its calls tell when the run ended
-                if not self.looks.ports:
+                if not self.looks.served:
                     self.looks.own.last_call()
                 seconds = time.monotonic() - self._end_began  # by now: a look may take long on a busy machine
                 is_over = self._signals.count > 1 or (self._signals.count and seconds >= within)
-                late = self.looks.ports if is_over else self.looks.stayed(within, self._end_began)
+                late = self.looks.served if is_over else self.looks.stayed(within, self._end_began)
                 if late and time.monotonic() - self._cut_at >= CUT:
                     self._cut(late)
                 if now - told >= TELL:
                     told = now
                     self._tell(seconds)
                 self._signals.wait(LAST_LOOK, self.server.process)
-                for it in self.looks.names(self.looks.ports):
-                    self._held[it] = self._held.get(it, 0.0) + time.monotonic() - now
+                for it in self.looks.served:
+                    self._held[it.name] = self._held.get(it.name, 0.0) + time.monotonic() - now
         finally:
             visits.stop()
             self.closed = max(self._end_began, self.looks.last_begun)
 
-    def _cut(self, ports: list[int]) -> None:
+    def _cut(self, clients: list[Connection]) -> None:
         """Cuts sessions. Clients may connect again, so this is done until the server has ended."""
         self._cut_at = time.monotonic()
         run, pid = self.server.run, self.server.pid
-        count, why = self._parts.keeping.cut(ports)
+        count, why = self._parts.keeping.cut([it.port for it in clients])
         if count:
             self.cut += count
-            say("warning", "cut", run=run, sessions=count, clients="; ".join(self._doings(ports)))
+            say("warning", "cut", run=run, sessions=count, clients="; ".join(it.name for it in clients))
         elif why and self._signals.count:
             raise LeftBehind(f"run {run} goes on as process {pid}: its clients do not leave, and can't be cut: {why}; "
                              "start the service again to go on with it")
         elif why and why != self._why_not:
             self._why_not = why
-            say("warning", "not-cut", run=run, sessions=len(ports), why=why)
+            say("warning", "not-cut", run=run, sessions=len(clients), why=why)
 
     def _tell(self, seconds: float) -> None:
-        names = self._doings(self.looks.ports)
-        self._parts.showing.waits_for = tuple(f"{it}, for {span_of(seconds)}" for it in names or ["the server"])
+        names = [it.name for it in self.looks.served] or ["the server"]
+        self._parts.showing.waits_for = tuple(f"{it}, for {span_of(seconds)}" for it in names)
         self._parts.showing.show()
-        say("info", "waiting", run=self.server.run, seconds=round(seconds),
-            clients="; ".join(names[:MOST_NAMED]) or "none")
-
-    def _doings(self, ports: list[int]) -> list[str]:
-        return [f"{name}: {doing}" for name, doing in self.looks.names(ports).items()]
+        say("info", "waiting", run=self.server.run, seconds=round(seconds), clients="; ".join(names[:MOST_NAMED]))

@@ -141,9 +141,9 @@ def _until_low(supply: Supply, ending: float) -> float:
     """In how many seconds little is left, or so little at this pace that it may be used up before the run has ended."""
     half, low = (max(share * supply.limit - supply.used, 0) for share in (HALF, LOW))
     pace = supply.a_second
-    if not low or not pace or supply.lasts is None:
+    if not low or not pace:
         return math.inf if low else 0
-    return min(low / pace, max(half / pace, supply.lasts - 2 * ending))
+    return min(low / pace, max(half / pace, (supply.limit - supply.used) / pace - 2 * ending))
 
 
 def _is_wanted_aside(seen: Seen) -> bool:

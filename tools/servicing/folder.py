@@ -19,15 +19,18 @@ import re
 import secrets
 import shutil
 import time
-from dataclasses import asdict
+from dataclasses import asdict, fields
 from pathlib import Path
-from typing import Any, BinaryIO, Iterable, Iterator
+from typing import Any, BinaryIO, Callable, Iterable, Iterator, TypeVar
 
 from servicing.clock import Reading
 from servicing.state import End, Reason, Run
 
 _RUN = re.compile(r"run-([1-9][0-9]{0,8})\.(json|txt|txt\.gz)")
 _FILES = ("run-{}.json", "run-{}.txt", "run-{}.txt.gz", "opening-{}.txt", "aside-{}.txt", "damaged-{}.txt")
+
+
+Kind = TypeVar("Kind")
 
 
 class Unusable(Exception):
@@ -113,7 +116,7 @@ class Folder:
         """What is known of a run. Raises an `Unusable` if that can't be read."""
         name = f"run-{number}.json"
         try:
-            return run_in(self.read(name), f"{self.id}-{number}")
+            return run_in(self.read(name))
         except FileNotFoundError:
             return None
         except (ValueError, KeyError, TypeError) as fault:
@@ -150,15 +153,18 @@ def _who(told: bytes) -> str:
 
 def record_of(run: Run) -> bytes:
     """What is written down of a run."""
-    told = {name: value for name, value in asdict(run).items() if name not in ("id", "server", "history")}
-    return json.dumps(told, indent=1).encode() + b"\n"
+    return json.dumps(asdict(run), indent=1).encode() + b"\n"
 
 
-def run_in(text: bytes, id: str) -> Run:
+def run_in(text: bytes) -> Run:
     """The run of a record. Raises a `ValueError`, `KeyError` or `TypeError` if the text is none."""
     told: dict[str, Any] = dict(json.loads(text))
     end = told["end"]
     if end is not None:
-        end.update(why=Reason(end["why"]), held_by=tuple(end["held_by"]))
-    told.update(began=Reading(**told["began"]), policy=tuple(told["policy"]), end=end and End(**end))
-    return Run(**told, id=id)
+        told["end"] = _known(End, {**end, "why": Reason(end["why"]), "held_by": tuple(end["held_by"])})
+    return _known(Run, {**told, "began": Reading(**told["began"]), "policy": tuple(told["policy"])})
+
+
+def _known(kind: Callable[..., Kind], told: dict[str, Any]) -> Kind:
+    """A value of a kind, by what is told of it. What only an earlier version of this knew is passed over."""
+    return kind(**{it.name: told[it.name] for it in fields(kind) if it.name in told})

@@ -48,7 +48,6 @@ class Left:
     moment: int  # of its last event, or the opening's
     elements: Elements
     failed: int = 0  # jobs that came back
-    last_attempts: int = 0  # elements that were given their last attempt
     probes: int = 0  # elements that the service itself offered
 
 
@@ -91,14 +90,14 @@ def _lines(next_id: int, moment: int, elements: Elements) -> Iterator[bytes]:
     yield b"end 0\n"
 
 
-def left_in(file: BinaryIO, attempts: int = 0) -> Left:
+def left_in(file: BinaryIO) -> Left:
     """What is left at the end of a history of the third version that `replay` has accepted, or of an opening.
 
     It takes a microsecond for each line, and clients wait for it. So nothing else is checked here. Raises a
     `ValueError`, an `IndexError` or a `KeyError` for another text.
     """
     left = _left_at_first(file)
-    elements, last = left.elements, b" %d " % attempts
+    elements = left.elements
     event: list[bytes] = []
     probes: list[bytes] = []
     for line in file:
@@ -115,9 +114,7 @@ def left_in(file: BinaryIO, attempts: int = 0) -> Left:
                 probes.append(id)
             continue
         for id in _gone(event, elements):
-            element = elements.pop(id)
-            if last in element and event[3] != b"remove":
-                left.last_attempts += element.split(b" ", 4)[3] == last[1:-1]
+            del elements[id]
     left.moment = int(event[2]) if event else left.moment
     for id in probes:  # a service that was killed may have left one
         elements.pop(id, None)

@@ -1,58 +1,43 @@
-"""The page of a service: one file, which loads nothing and asks again and again for what is shown. It has no state of
-its own; its script puts what it is told into the page as text alone, except for the plots, in which no text is from
-outside."""
+"""The page of a service: one file, which loads nothing but itself, again and again."""
 from __future__ import annotations
 
+from html import escape
 from pathlib import Path
-from typing import Iterator
 
 from reporting.head import head
-from reporting.svg import HEIGHT
-from servicing.shown import TABLES
-from servicing.trend import PLOTS
+from reporting.tables import Table
+from servicing.shown import attention, headline, since, tables
+from servicing.state import Phase, State
 
 HERE = Path(__file__).resolve().parent
-REPORTING = HERE.parent / "reporting"
-
-# The page looks as a report does, and tells the values of its plots as a report does.
-STYLES, SCRIPTS = (REPORTING / "page.css", HERE / "page.css"), (REPORTING / "readings.js", HERE / "page.js")
-
+STYLE = "".join(it.read_text("utf-8") for it in (HERE.parent / "reporting" / "page.css", HERE / "page.css"))
+SCRIPT = '"use strict";\n' + (HERE / "page.js").read_text("utf-8")
 ALLOWS = "; connect-src 'self'"
 
-BEGIN = """<body><header><h1>rb_broker, port {0}</h1>
-<p><b id="state" role="status"></b> <span id="since"></span></p>
-<noscript><p>This page needs JavaScript. The service's option <code>--status</code> shows the same in a terminal.</p>
-</noscript></header>
-<main><section id="attention"><h2>What needs attention</h2><div></div></section>
-<section class="cards" id="cards" aria-label="Figures"></section>
-<p class="note" id="head"></p>
-"""
-END = """</main><footer><p class="note"><a href="metrics">metrics</a> <a href="health">health</a>
-<a href="state.json">state</a></p></footer>
-<script>{0}</script>
-</body>
-</html>
-"""
+
+def page(state: State) -> str:
+    """The page that shows a state."""
+    alerts = "".join(f"<p>{escape(it)}</p>\n" for it in attention(state))
+    return "".join((
+        head(f"{headline(state)}: rb_broker {state.port}", STYLE, SCRIPT, ALLOWS),
+        f"<body><header><h1>rb_broker, port {state.port}</h1>\n",
+        "<noscript><p>Without JavaScript this page stays as it was loaded.</p></noscript></header>\n",
+        f'<main><section id="state" class="{_kind(state)}"><p>{escape(since(state))}</p></section>\n',
+        f'<section id="attention"><h2>What needs attention</h2>{alerts or "<p>Nothing.</p>"}</section>\n',
+        *map(_section, tables(state)),
+        '</main><footer><p class="note"><a href="metrics">metrics</a> <a href="health">health</a></p></footer>\n',
+        f"<script>{SCRIPT}</script>\n</body>\n</html>\n"))
 
 
-def page(port: int) -> bytes:
-    """The page of the service at a port."""
-    style, script = ("".join(it.read_text("utf-8") for it in paths) for paths in (STYLES, SCRIPTS))
-    script = '"use strict";\n' + script
-    return "".join([head(f"rb_broker {port}", style, script, ALLOWS), BEGIN.format(port), *_plots(), *_tables(),
-                    END.format(script)]).encode()
+def _kind(state: State) -> str:
+    if state.is_healthy:
+        return "good" if state.is_up and not state.alerts else "fair"
+    return "fair" if state.phase in (Phase.STARTING, Phase.BETWEEN) and not state.alerts else "bad"
 
 
-def _plots() -> Iterator[str]:
-    for name, it in PLOTS.items():
-        keys = "".join(f'<span class="key {kind}">{what}</span>' for kind, _, what in it.lines)
-        yield (f'<section class="plot"><h2>{it.title}</h2><p class="legend">{keys}</p>\n'
-               f'<div class="drawing" id="plot-{name}"><svg height="{HEIGHT}" role="img" aria-label="{it.title}">'
-               "<g></g></svg></div></section>\n")
-
-
-def _tables() -> Iterator[str]:
-    for name, it in TABLES.items():
-        columns = "".join(f'<th scope="col" class="{kind}">{title}</th>' for title, kind in it.columns)
-        yield (f'<section id="{name}"><h2>{it.title}</h2><p></p>\n<div class="scrolled"><table><thead><tr>{columns}'
-               "</tr></thead><tbody></tbody></table></div></section>\n")
+def _section(table: Table) -> str:
+    heads = "".join(f'<th scope="col">{it}</th>' for it in table.heading)
+    rows = "".join(f"<tr>{''.join(f'<td>{escape(it)}</td>' for it in row)}</tr>\n" for row in table.rows)
+    notes = "".join(f'<p class="note">{it}</p>' for it in table.notes)
+    return (f'<section id="{table.title.split()[0].lower()}"><h2>{table.title}</h2><div class="scrolled"><table><thead>'
+            f"<tr>{heads}</tr></thead>\n<tbody>{rows}</tbody></table></div>{notes}</section>\n")

@@ -84,16 +84,15 @@ class Runs:
         return self.last.lost if self.last else 0
 
     def past(self) -> tuple[Run, ...]:
-        """The runs that have ended, the latest first, with their histories."""
-        ended = sorted((it for it in self.records.values() if it.end), key=lambda it: -it.number)
-        return tuple(replace(it, history=self.folder.history(it.number)) for it in ended)
+        """The runs that have ended, the latest first."""
+        return tuple(it for _, it in sorted(self.records.items(), reverse=True) if it.end)
 
     def prepare(self, following: Next, settings: Settings) -> Run:
         """Writes down the next run, whose server is started right behind. Raises an `OSError` if the disk is full."""
         now, number, before = read_clock(), self.next_number, self.last
         opening = following.at(now)
         lost = 0 if before is None else before.lost_before if before.number == number else before.lost
-        record = Run(number, f"{self.folder.id}-{number}", now, opening.moment, opening.next_id, len(opening.elements),
+        record = Run(number, now, opening.moment, opening.next_id, len(opening.elements),
                      len(opening.aside), settings.calls, tuple(settings.policy), lost_before=lost)
         if opening.aside:
             self.folder.write(f"aside-{number}.txt", opening.aside_lines())
@@ -138,16 +137,16 @@ class Runs:
         self.folder.write(f"run-{record.number}.json", [record_of(record)])
         self.records[record.number] = record
 
-    def tidy(self, keep: Keep, then: Callable[[], None]) -> None:
+    def tidy(self, keep: Keep) -> None:
         """Compresses the histories of all runs that have ended, and drops those that are kept no longer, on a thread of
         its own that goes behind everybody else."""
         ended = [it.number for it in self.records.values() if it.end is not None]
         dropped = runs_to_drop(sorted(self.records.values(), key=lambda it: it.number), keep, time.time())
         for number in dropped:
             del self.records[number]
-        threading.Thread(target=self._tidy, args=(ended, dropped, then), daemon=True).start()
+        threading.Thread(target=self._tidy, args=(ended, dropped), daemon=True).start()
 
-    def _tidy(self, ended: list[int], dropped: list[int], then: Callable[[], None]) -> None:
+    def _tidy(self, ended: list[int], dropped: list[int]) -> None:
         with contextlib.suppress(OSError):
             os.setpriority(os.PRIO_PROCESS, threading.get_native_id(), LOW_PRIORITY)
         with _TIDYING:
@@ -158,7 +157,6 @@ class Runs:
                 self.folder.remove(f"aside-{number}.txt")
                 with contextlib.suppress(OSError):  # a full disk: it stays as it is
                     self.folder.compress(number)
-        then()
 
 
 def left_of(path: str) -> Left:

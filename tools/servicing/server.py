@@ -83,7 +83,7 @@ class Server:
             left = None
             with contextlib.suppress(ValueError, IndexError, KeyError):  # which the replay explains
                 with open(f"/proc/self/fd/{self.history}", "rb", 1 << 18) as file:
-                    left = left_in(file, int(policy[-1]))
+                    left = left_in(file)
             said, errors = replay.communicate()
         if replay.returncode or left is None:
             raise Damaged((said + errors).strip() or f"status {replay.returncode}")

@@ -47,7 +47,7 @@ def _serve(parts: Parts) -> None:
             return
         _say_serving(parts, current, before)
         if not isinstance(found, Current):
-            parts.runs.tidy(parts.settings.keep, parts.showing.renew_runs)
+            parts.runs.tidy(parts.settings.keep)
         current.go_on()
         found, before = saved(parts, current), current
         if parts.signals.count:

@@ -1,4 +1,4 @@
-"""The service's own session with its server: how many elements wait, which comes first, and the moment."""
+"""The service's own session with its server: how many elements wait, how late the first is, and the moment."""
 from __future__ import annotations
 
 import contextlib
@@ -6,9 +6,10 @@ import socket
 import time
 from dataclasses import dataclass
 
+from reporting.units import SECOND
 from servicing.clock import up_time
 from servicing.opening import PROBE, PROBE_DELAY
-from servicing.state import Head, Queue
+from servicing.state import Queue
 
 HOST = "127.0.0.1"
 PATIENCE = 0.5  # seconds that a look waits for a worker
@@ -72,7 +73,7 @@ class OwnSession:
             self._called()
             self.probes += 1
             moment = expiry - PROBE_DELAY
-            return Told(Queue(time.time(), int(size.split(" ")[1]), _head(head, moment)), id + 1, moment, heard)
+            return Told(Queue(time.time(), int(size.split(" ")[1]), _late(head, moment)), id + 1, moment, heard)
         except (OSError, ValueError, IndexError):
             self.drop()
             return None
@@ -138,9 +139,7 @@ class OwnSession:
         return line.decode("ascii")
 
 
-def _head(line: str, moment: int) -> Head | None:
-    """The element that expires first, unless it is one of a service's own."""
+def _late(line: str, moment: int) -> float:
+    """The seconds since the first element expired, by the reply to a PEEK. One of a service's own does not count."""
     words = line.split(" ")
-    if words[0] != "HEAD" or words[4] == PROBE:
-        return None
-    return Head(int(words[1]), int(words[3]), words[4], (moment - int(words[2])) / 1e9)
+    return 0.0 if words[0] != "HEAD" or words[4] == PROBE else (moment - int(words[2])) / SECOND

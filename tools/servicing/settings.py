@@ -3,6 +3,7 @@ from __future__ import annotations
 
 import argparse
 import functools
+import ipaddress
 import math
 import os
 import re
@@ -11,9 +12,8 @@ from decimal import Decimal
 from typing import Any, Callable, NoReturn
 
 from common.program import program_named
-from common.words import number, parser_of
+from common.words import number, parser_of, whole_number
 from reporting.units import SECOND
-from servicing.address import Address, address_of
 from servicing.keeper import HISTORY, OPENING
 
 TURN = 20_000_000  # nanoseconds that a turn of a wait lasts while nothing happens
@@ -62,6 +62,17 @@ def _keep(word: str) -> Keep:
     return Keep(None, nanoseconds_of(word))
 
 
+def _address(word: str) -> tuple[str, int]:
+    """Reads HOST:PORT or PORT, of this machine. With port 0 the system chooses one."""
+    host, _, port = word.rpartition(":")
+    host = "127.0.0.1" if host in ("", "localhost") else host.strip("[]")
+    try:
+        ipaddress.ip_address(host)
+        return host, whole_number(0, 65_535)(port)
+    except (ValueError, argparse.ArgumentTypeError):
+        raise argparse.ArgumentTypeError(f"{word!r} is no address such as 127.0.0.1:7080") from None
+
+
 def _option(
     help: str, read: Callable[[str], Any], default: Any = None, metavar: str | None = "TIME", **more: Any
 ) -> Any:
@@ -97,7 +108,8 @@ class Settings:
     silent: int | None = _option(
         "cuts sessions over which nothing came and nothing went for so long, 1s to 1d or never", _silent, "never")
     keep: Keep = _option("how many old runs are kept, or for how long", _keep, "7d", "N|TIME")
-    http: Address | None = _option("serves a page, /metrics and /health there (nowhere)", address_of, None, "HOST:PORT")
+    http: tuple[str, int] | None = _option(
+        "serves a page, /metrics and /health there (nowhere)", _address, None, "HOST:PORT")
 
     @property
     def turns(self) -> int:
@@ -135,8 +147,7 @@ def parser(doc: str | None) -> argparse.ArgumentParser:
         told = {**it.metadata}
         add = retry.add_argument if it.name in ("delay", "rate") else made.add_argument
         add(told.pop("flag", f"--{it.name.replace('_', '-')}"), **told)
-    made.add_argument("--status", action="store_true", help="shows the service of the folder in this terminal")
-    made.add_argument("--json", action="store_true", help="with --status: one object of JSON")
+    made.add_argument("--status", action="store_true", help="prints how the service of the folder is")
     return made
 
 

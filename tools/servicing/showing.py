@@ -3,7 +3,7 @@ from __future__ import annotations
 
 import time
 from dataclasses import replace
-from typing import Iterator
+from typing import Iterator, Sequence
 
 from histories.grammar import MOST_OPENING_ELEMENTS
 from servicing.looking import Looks
@@ -14,7 +14,6 @@ from servicing.shown import headline, span_of
 from servicing.state import Alert, Board, Phase, Reason, Run, State, Traffic
 
 MANY_ELEMENTS = 900_000
-MANY_IDS = 2**40 - 10**9
 DAY = 86_400
 MORE_TIME = 300_000_000  # microseconds that systemd is asked for while nothing is served
 
@@ -23,19 +22,14 @@ class Showing:
     """Puts a new state on the board whenever something has changed."""
 
     def __init__(self, settings: Settings, runs: Runs, board: Board) -> None:
-        self._board, self._history, began = board, runs, time.time()
-        self._state = State(began, settings, began, Phase.STARTING, began)
+        self._board, self._history = board, runs
+        self._state = replace(board.state, workers=settings.workers)
         self.run: Run | None = None
         self.looks: Looks | None = None
         self.waits_for: tuple[str, ...] = ()
         self.unwritten = 0
         self._raised: dict[str, Alert] = {}  # alerts that the service has raised
         self._counted = Traffic()  # in runs that have ended
-        self.renew_runs()
-
-    def renew_runs(self) -> None:
-        """Takes note of runs that have ended, and where their histories are."""
-        self._runs = self._history.past()
 
     def enter(self, phase: Phase, why: Reason | None = None, **told: object) -> None:
         """Another phase begins, which a line says."""
@@ -55,31 +49,29 @@ class Showing:
         if self._raised.pop(name, None):
             say("info", f"{name}-over")
 
-    def count(self, run: Run, offered: int, left: int) -> None:
-        """Adds what is known of a run that has ended."""
-        it, end = self._counted, run.end
-        self._counted = it = replace(it, offered=it.offered + offered, left=it.left + left)
-        if end is not None and end.failed is not None:
-            self._counted = replace(it, failed=it.failed + end.failed, failed_a_second=end.failed / max(run.lasted, 1),
-                                    dead_or_done=it.dead_or_done + (end.last_attempts or 0))
+    def count(self, offered: int, left: int, failed: int) -> None:
+        """Adds what is known of a run that has ended, in the place of what was seen of it."""
+        it, self.looks = self._counted, None
+        self._counted = Traffic(it.offered + offered, it.left + left, it.failed + failed)
 
     def show(self) -> None:
         """Puts the present state on the board, and tells systemd its line."""
-        looks, traffic = self.looks, self._counted
+        looks, traffic, runs = self.looks, self._counted, self._history.past()
         if looks:
-            traffic = replace(traffic, offered=traffic.offered + looks.offered, left=traffic.left + looks.left,
-                              offered_a_second=looks.offers.a_second, left_a_second=looks.leaves.a_second)
+            traffic = traffic._replace(offered=traffic.offered + looks.offered, left=traffic.left + looks.left)
+        # No counter falls, not even if the end of a run corrects it: that would look like a reset.
+        traffic = Traffic(*(max(pair) for pair in zip(traffic, self._state.traffic)))
         seen = {it: getattr(looks, it, None) for it in ("queue", "clients", "calls", "sessions")}
         self._state = state = replace(
-            self._state, at=time.time(), waits_for=self.waits_for, run=self.run, traffic=traffic, runs=self._runs,
-            lost_runs=self._history.lost, alerts=(*self._raised.values(), *self._alerts()), unwritten=self.unwritten,
-            **seen)
+            self._state, at=time.time(), waits_for=self.waits_for, run=self.run, traffic=traffic, runs=runs,
+            lost_runs=self._history.lost, alerts=(*self._raised.values(), *self._alerts(runs)),
+            unwritten=self.unwritten, **seen)
         self._board.put(state)
         # An end takes as long as --stop-within says, and an opening of many elements its time.
         longer = {} if state.phase is Phase.SERVING else {"EXTEND_TIMEOUT_USEC": MORE_TIME}
         notify(STATUS=headline(state), **longer)
 
-    def _alerts(self) -> Iterator[Alert]:
+    def _alerts(self, runs: Sequence[Run]) -> Iterator[Alert]:
         """Those that follow from what is seen."""
         run, queue = self.run, self.looks.queue if self.looks else None
         if run is None:
@@ -89,9 +81,7 @@ class Showing:
             aside = f", of which {run.aside:,} wait in a file" if run.aside else ""
             text = f"{elements:,} elements wait{aside}; a run can begin with {MOST_OPENING_ELEMENTS:,}"
             yield Alert("many-elements", text, run.date)
-        if run.next_id > MANY_IDS:
-            yield Alert("few-ids", f"ids end at {2**40:,}, and this run begins at {run.next_id:,}", run.date)
-        lost = next((it for it in self._runs if it.is_lost), None)
+        lost = next((it for it in runs if it.is_lost), None)
         if lost is not None and lost.end is not None and time.time() - lost.end.date <= DAY:
             yield Alert("lost-run", lost_text(lost), lost.end.date)
 

@@ -14,7 +14,7 @@ HOST, OWN = "127.0.0.1", "127.0.0.2"  # of the server, and of the service's own 
 ADDRESS_ALONE = 24  # IP_BIND_ADDRESS_NO_PORT, by which a port is chosen no earlier than it is known where it leads
 PATIENCE = 10  # seconds that the command may take
 
-_FIELD = re.compile(r"\b(ino|sk|lastrcv|lastsnd|data_segs_in|data_segs_out):([0-9a-f]+)")
+_FIELD = re.compile(r"\b(ino|sk|lastrcv|lastsnd):([0-9a-f]+)")
 _PROGRAM = re.compile(r'users:\(\("([^"]*)",pid=(\d+)')
 
 # The states in which the server still has a connection: the client has closed its side in the second one.
@@ -23,14 +23,6 @@ OPEN, HUNG_UP = "ESTAB", "CLOSE-WAIT"
 
 class Unwatchable(Exception):
     """Why connections can't be listed."""
-
-
-@dataclass(frozen=True)
-class Program:
-    """A process that has an end of a connection."""
-
-    name: str
-    pid: int
 
 
 @dataclass(frozen=True)
@@ -45,8 +37,17 @@ class Connection:
     send_queue: int  # what the server has sent, and the client's end has not taken
     heard: int | None  # since something last came from the client
     told: int | None  # since something was last sent to it
-    owes_reply: bool  # whether a request seems to be under way
-    program: Program | None  # the client, as far as this user may see it
+    program: str  # the client's name and process, or nothing if this user may not see it
+
+    @property
+    def name(self) -> str:
+        return f"client {self.port}" + (f" ({self.program})" if self.program else "")
+
+    @property
+    def has_given_up(self) -> bool:
+        """Whether the client has left before it had a worker, and has sent nothing that will be carried out. The end of
+        what it sends is counted as a byte."""
+        return not self.is_served and self.has_hung_up and self.receive_queue <= 1
 
 
 def own_connection(port: int, patience: float) -> socket.socket:
@@ -85,7 +86,7 @@ def connections_in(text: str, port: int) -> list[Connection]:
     """Reads what `ss` printed. A line that begins with a space belongs to the one before."""
     here = f"{HOST}:{port}"
     ends: list[str] = []
-    clients: dict[str, Program | None] = {}
+    programs: dict[str, str] = {}  # of clients, by their addresses
     for line in re.sub(r"\n[ \t]+", " ", text).splitlines():
         words = line.split(None, 5)
         if len(words) < 5:
@@ -94,16 +95,17 @@ def connections_in(text: str, port: int) -> list[Connection]:
         if state in (OPEN, HUNG_UP) and local == here:
             ends.append(line)
         elif peer == here:
-            clients[local] = _program(line)
-    return [_connection(it, clients) for it in ends]
+            programs[local] = _program(line)
+    return [_connection(it, programs) for it in ends]
 
 
-def _program(line: str) -> Program | None:
+def _program(line: str) -> str:
+    """A program's name may have anything in it, also what a terminal obeys."""
     found = _PROGRAM.search(line)
-    return Program(found[1], int(found[2])) if found else None
+    return "".join(it if it.isprintable() else "?" for it in f"{found[1]} {found[2]}") if found else ""
 
 
-def _connection(line: str, clients: dict[str, Program | None]) -> Connection:
+def _connection(line: str, programs: dict[str, str]) -> Connection:
     state, receive_queue, send_queue, _, peer = line.split(None, 5)[:5]
     fields = dict(_FIELD.findall(line))
     has_times = "rto:" in line  # the kernel told about the connection; what is 0 is left out then
@@ -111,5 +113,4 @@ def _connection(line: str, clients: dict[str, Program | None]) -> Connection:
     return Connection(
         port=int(peer.rpartition(":")[2]), key=f"{peer} {fields.get('sk', '')}", has_hung_up=state == HUNG_UP,
         is_served=fields.get("ino", "0") != "0", receive_queue=int(receive_queue), send_queue=int(send_queue),
-        heard=heard, told=told, owes_reply=int(fields.get("data_segs_in", 0)) > int(fields.get("data_segs_out", 0)),
-        program=clients.get(peer))
+        heard=heard, told=told, program=programs.get(peer, ""))

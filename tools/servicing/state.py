@@ -5,16 +5,21 @@ unit. What is not known is None, never 0.
 """
 from __future__ import annotations
 
-from dataclasses import dataclass
+import time
+from dataclasses import dataclass, replace
 from enum import Enum
+from typing import NamedTuple
 
 from servicing.clock import Reading
-from servicing.settings import Settings
+from servicing.sockets import Connection
 
 # Nanoseconds in which a server begins to serve, and for each element of its opening.
 SLOWEST_START, SLOWEST_ELEMENT = 10_000_000_000, 100_000
 
-DISK = "disk"  # the alert that a file can't be written, which is kept in memory and tried again
+LONGEST = 60.0  # seconds without a new state after which the service is not healthy
+
+# The alerts that a file can't be written, which is kept in memory and tried again, and that no new state comes.
+DISK, STALE = "disk", "stale"
 
 
 class Phase(Enum):
@@ -39,113 +44,34 @@ class Reason(str, Enum):
     UNKNOWN = "unknown"  # it ended in good order while no service was there
 
 
-class Doing(Enum):
-    """What a client does, the worst first."""
-
-    NOT_READING = "does not read"  # its replies pile up on the way to it
-    HUNG_UP = "has hung up"  # while its request waits
-    WAITING = "waits for a worker"
-    SILENT = "says nothing"
-    IN_CALL = "in a call"  # a guess: the system counts pieces, not requests
-    ACTIVE = "active"
-
-
-@dataclass(frozen=True)
-class Client:
-    """A client's connection. The service's own is not among them."""
-
-    port: int  # the client's own
-    program: str | None  # its name, as far as this user may see it
-    pid: int | None
-    doing: Doing
-    seconds: float | None  # since something last came from it
-    unread_by_client: int  # bytes
-    unread_by_server: int  # bytes
-
-
-@dataclass(frozen=True)
-class Clients:
-    """The clients at the last look."""
-
-    all: tuple[Client, ...]  # the worst first
-    workers: int  # how many clients can be served at once
-    silent_from: float  # seconds of silence that count
-
-    def count(self, *doings: Doing) -> int:
-        return sum(it.doing in doings for it in self.all)
-
-    @property
-    def served(self) -> int:
-        return len(self.all) - self.count(Doing.WAITING)
-
-    @property
-    def silent(self) -> list[float]:
-        """For how many seconds clients have said nothing, if that counts, the longest silence first."""
-        silent = (it.seconds or 0.0 for it in self.all if it.doing is Doing.SILENT)
-        return sorted((it for it in silent if it >= self.silent_from), reverse=True)
-
-    # What metrics and pages tell of them.
-    waiting = property(lambda self: self.count(Doing.WAITING))
-    not_reading = property(lambda self: self.count(Doing.NOT_READING))
-    hung_up = property(lambda self: self.count(Doing.HUNG_UP))
-    silent_count = property(lambda self: len(self.silent))
-    silence = property(lambda self: max(self.silent, default=0))
-
-
-@dataclass(frozen=True)
-class Head:
-    """The element that expires first."""
-
-    id: int
-    attempt: int  # which comes next, from 1
-    payload: str
-    late: float  # seconds since its expiry, below 0 before it
-
-
 @dataclass(frozen=True)
 class Queue:
     """The queue at the last look at which the server answered."""
 
     at: float  # when it was looked at
-    elements: int  # the depth: expired or not, without those that are set aside
-    head: Head | None  # None if the queue is empty
-
-    @property
-    def late(self) -> float:
-        """That of the first element, or 0."""
-        return self.head.late if self.head else 0.0
+    elements: int  # expired or not, without those that are set aside
+    late: float  # seconds since the first of them expired: below 0 before that, 0 without one
 
 
 @dataclass(frozen=True)
 class Supply:
-    """Something of which a run has so many."""
+    """Something of which a run has so many. More may be used than was seen."""
 
     used: int
-    is_least: bool  # whether more may be used than was seen
     limit: int
     a_second: float | None  # over the last minute
 
-    @property
-    def lasts(self) -> float | None:
-        """In how many seconds nothing is left at this pace."""
-        return max(self.limit - self.used, 0) / self.a_second if self.a_second else None
 
-
-@dataclass(frozen=True)
-class Traffic:
-    """What was counted since this service began, over all its runs, and how fast it rises.
+class Traffic(NamedTuple):
+    """What was counted since this service began, over all its runs.
 
     The present run is counted by ids, which rise by one for each offer and for each job that comes back: the two can't
-    be told apart before its history is there. So `failed` is that of runs that have ended.
+    be told apart before its history is there. So `failed` is that of runs that have ended in good order.
     """
 
     offered: int = 0  # elements, a job that came back among them
     left: int = 0  # elements that were given, removed or cleared
-    failed: int = 0  # jobs that came back, in the runs that have ended in good order
-    dead_or_done: int = 0  # jobs that were given their last attempt, in those runs
-    offered_a_second: float | None = None  # over the last minute
-    left_a_second: float | None = None
-    failed_a_second: float | None = None  # over the last run that has ended in good order
+    failed: int = 0  # jobs that came back
 
 
 @dataclass(frozen=True)
@@ -159,7 +85,6 @@ class End:
     failed: int | None = None  # jobs that came back
     given: int | None = None
     left: int | None = None  # elements at its end
-    last_attempts: int | None = None  # jobs that were given their last attempt
     lost_jobs: int | None = None  # held at a session's end in a full run, so that they could not come back
     closed: float | None = None  # seconds without a server that served new clients, before the next run
     held_by: tuple[str, ...] = ()  # the clients that were waited for longest
@@ -171,7 +96,6 @@ class Run:
     """A run: what is written down of it before its server starts, and what became of it."""
 
     number: int  # from 1, as in the names of its files
-    id: str  # which no other run of any service has, also after a lost one: FOLDER's id, a hyphen and the number
     began: Reading  # at which the moment was the opening's, or a little earlier if that was not seen yet
     moment: int  # the moment at its beginning
     next_id: int  # the id of its first offer
@@ -181,8 +105,6 @@ class Run:
     policy: tuple[str, ...]  # the words for `replay --chains`
     is_seen: bool = False  # whether the server has shown since when its clock goes
     lost_before: int = 0  # how many runs of the folder were lost before this one
-    server: int | None = None  # the process
-    history: str | None = None  # the path of the file, which ends in .gz if it is compressed, once it is looked for
     end: End | None = None
 
     @property
@@ -224,22 +146,31 @@ class State:
     """The whole."""
 
     at: float  # when this was made
-    settings: Settings
-    began: float  # when the service began
+    port: int
     phase: Phase
     since: float  # when that phase began
     why: Reason | None = None  # in ENDING, BETWEEN and STOPPED: why the run ends
     waits_for: tuple[str, ...] = ()  # what the phase waits for, a text each: clients that hold a run up, a full disk
     run: Run | None = None
     queue: Queue | None = None
-    clients: Clients | None = None
+    workers: int = 0  # how many clients can be served at once
+    clients: tuple[Connection, ...] | None = None
     calls: Supply | None = None
     sessions: Supply | None = None
     traffic: Traffic = Traffic()
-    runs: tuple[Run, ...] = ()  # those that are kept, the latest first
+    runs: tuple[Run, ...] = ()  # those that have ended and are kept, the latest first
     lost_runs: int = 0  # since the folder exists
     alerts: tuple[Alert, ...] = ()
     unwritten: int = 0  # bytes of a file that can't be written, and that are in memory only
+
+    @property
+    def served(self) -> int | None:
+        """How many clients have a worker."""
+        return None if self.clients is None else sum(it.is_served for it in self.clients)
+
+    @property
+    def waiting(self) -> int | None:
+        return None if self.clients is None else sum(not it.is_served for it in self.clients)
 
     @property
     def last(self) -> Run | None:
@@ -252,20 +183,29 @@ class State:
         return next((it for it in self.runs if it.is_lost), None)
 
     @property
-    def disk(self) -> str:
-        """Which file can't be written and why, if one can't."""
-        return next((it.text for it in self.alerts if it.name == DISK), "")
+    def is_up(self) -> bool:
+        return self.phase is Phase.SERVING
 
     @property
     def is_healthy(self) -> bool:
         """Whether clients are served, or will be within seconds."""
-        return not self.disk and self.phase in (Phase.SERVING, Phase.ENDING)
+        return self.phase in (Phase.SERVING, Phase.ENDING) and not any(it.name in (DISK, STALE) for it in self.alerts)
 
 
 class Board:
-    """Holds the latest state, None before the first. The service's own thread puts it there, and any may look at it."""
+    """Holds the latest state. The service's own thread puts it there, and any may look at it."""
 
-    state: State | None = None
+    def __init__(self, port: int) -> None:
+        self.put(State(time.time(), port, Phase.STARTING, time.time()))
 
     def put(self, state: State) -> None:
-        self.state = state
+        self._put, self._state = time.monotonic(), state
+
+    @property
+    def state(self) -> State:
+        """The latest, with an alert if the service has found nothing since for too long."""
+        state = self._state
+        if time.monotonic() - self._put <= LONGEST:
+            return state
+        alert = Alert(STALE, f"the service has found nothing for {LONGEST:g} seconds", state.at)
+        return replace(state, alerts=(*state.alerts, alert))

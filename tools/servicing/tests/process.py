@@ -38,7 +38,7 @@ class Service:
         words = command or [*before, python, "-B", f"{TOP}/tools/service", "--program", program or tested_program()]
         self.process = subprocess.Popen(
             [*words, "--port", str(self.port), "--folder", folder, *map(str, options)], stderr=subprocess.PIPE,
-            encoding="utf-8")
+            encoding="utf-8", start_new_session=True)
         atexit.register(self.kill_all)
         self.lines: list[str] = []
         self._came, self._has_ended = threading.Condition(), False

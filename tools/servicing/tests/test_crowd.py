@@ -136,4 +136,4 @@ class CrowdTest(ServingTest):
             client.ask("SIZE")
             time.sleep(0.5)
             looks.see()
-            self.assertEqual((looks.served, looks.waiting), (1, 0))
+            self.assertEqual([it.port for it in looks.clients or ()], [client.own_port])

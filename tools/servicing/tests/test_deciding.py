@@ -1,4 +1,5 @@
 """What a service does about what the one before left, and when a run has to end."""
+import json
 import unittest
 from dataclasses import replace
 
@@ -12,11 +13,11 @@ from servicing.settings import Keep
 from servicing.state import End, Reason, Supply
 from servicing.tests.support import record
 
-WELL, LOST = End(1000.0, Reason.TIME, 5, 2, 0, 2, 0, 0, 0), End(1000.0, Reason.KILLED)
+WELL, LOST = End(1000.0, Reason.TIME, 5, 2, 0, 2, 0, 0), End(1000.0, Reason.KILLED)
 
 
 def supply(used: int, limit: int = 1000, pace: float | None = None) -> Supply:
-    return Supply(used, True, limit, pace)
+    return Supply(used, limit, pace)
 
 
 QUIET = Seen(age=100, every=3600, ending=60, calls=supply(0), sessions=supply(0), is_full=False, idle=60,
@@ -147,9 +148,14 @@ class RecordTest(unittest.TestCase):
     def test_it_is_read_as_it_was_written(self) -> None:
         for end in (None, LOST, replace(WELL, held_by=("client 5: 3s",), cut=2, closed=0.25)):
             it = record(12, end, next_id=2**40, moment=2**64 - 1)
-            self.assertEqual(run_in(record_of(it), it.id), it)
+            self.assertEqual(run_in(record_of(it)), it)
+
+    def test_what_an_earlier_version_knew_is_passed_over(self) -> None:
+        told = json.loads(record_of(record(12, WELL)))
+        told["end"]["last_attempts"] = told["more"] = 0
+        self.assertEqual(run_in(json.dumps(told).encode()), record(12, WELL))
 
     def test_other_texts_are_refused(self) -> None:
         for text in (b"", b"{}", b"[]", b'{"end": null}', b"null"):
             with self.subTest(text), self.assertRaises((ValueError, KeyError, TypeError)):
-                run_in(text, "1f6c-1")
+                run_in(text)

@@ -3,15 +3,13 @@ import contextlib
 import os
 import shutil
 import signal
-import sys
 import threading
 import time
 import unittest
 
-from common.program import TOP, tested_program
+from common.program import tested_program
 from serving.session import Session
 from servicing.tests.process import SYSTEMS_PYTHON, ServiceTest
-from servicing.tests.terminal import Terminal
 
 
 class EndsTest(ServiceTest):
@@ -153,13 +151,11 @@ class EndsTest(ServiceTest):
                 service.wait(state)
 
     def test_ctrl_c_in_a_terminal(self) -> None:
-        terminal = Terminal([sys.executable, "-B", f"{TOP}/tools/service", "--port", str(self.port), "--folder",
-                             self.path("runs"), "--program", tested_program()], 1000, 40)
-        self.addCleanup(terminal.close)
-        terminal.lines(lambda lines: any("event=serving" in it for it in lines))
+        """It signals each process of the group that is in the foreground."""
+        service = self.begin()
         self.offer(3)
-        terminal.type("\x03")
-        self.assertEqual(terminal.end(), 0)
+        os.killpg(service.process.pid, signal.SIGINT)
+        self.assertEqual((service.end(), service.all("lost-run")), (0, []))
         service = self.begin()
         self.assertEqual(service.all("lost-run"), [])
         self.assertEqual(self.ask("SIZE"), ["SIZE 3"])

@@ -35,10 +35,10 @@ class LeftTest(unittest.TestCase):
                 self.assertEqual([int(it) for it in left.elements], [it for it in range(10) if it not in gone])
                 self.assertEqual((left.next_id, left.moment), (10, 20))
 
-    def test_jobs_that_came_back_and_last_attempts(self) -> None:
+    def test_jobs_that_came_back(self) -> None:
         left = left_of("history 3\nopen 7 0 1\nkeep 5 0 1 0 2 a\n0 1 1 take 5\n0 2 2 offer 7 3 1 0 3 a\n"
                        "0 4 4 take 7\n0 5 5 offer 8 5 8 5 1 b\nend 4\n")
-        self.assertEqual((left.failed, left.last_attempts, left.next_id), (1, 1, 9))
+        self.assertEqual((left.failed, left.next_id), (1, 9))
 
     def test_a_history_without_events_is_at_its_opening(self) -> None:
         left = left_of("history 3\nopen 9 77 1\nkeep 5 80 5 80 1 x\nend 0\n")

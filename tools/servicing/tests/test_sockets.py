@@ -4,10 +4,12 @@ import tempfile
 import unittest
 from unittest import mock
 
-from servicing.sockets import Program, Unwatchable, connections_in, look_at
+from servicing.sockets import Unwatchable, connections_in, look_at
+from servicing.tests.support import connection
 
 # A listener with two connections that no worker has accepted yet, a client that does not read and one in a TAKE. Each
-# has its second line behind it, as without --oneline. The last is of another machine's port of the same number.
+# has its second line behind it, as without --oneline. A program has a name that a terminal would obey. The last is of
+# another machine's port of the same number.
 LISTED = """LISTEN 2 128 127.0.0.1:7011 0.0.0.0:*     users:(("rb_broker",pid=30170,fd=3)) ino:32929 sk:2003 <->
 	 bbr cwnd:10 unacked:2
 ESTAB  5      0       127.0.0.1:7011 127.0.0.1:44070 ino:0 sk:2004 cgroup:/ <->
@@ -16,7 +18,7 @@ ESTAB  57136  163298  127.0.0.1:7011 127.0.0.1:44066 users:(("rb_broker",pid=301
 	 ts sack bbr rto:816 data_segs_out:5 data_segs_in:7 lastsnd:36 lastrcv:952 notsent:131066
 CLOSE-WAIT 1  0       127.0.0.1:7011 127.0.0.1:44056 ino:28390 sk:2008 <->
 	 ts rto:204 data_segs_out:1 data_segs_in:2 lastsnd:1208
-ESTAB  0      0       127.0.0.1:44066 127.0.0.1:7011 users:(("python3",pid=30175,fd=5)) ino:32947 <->
+ESTAB  0      0       127.0.0.1:44066 127.0.0.1:7011 users:(("py\x1b[2Jthon3",pid=30175,fd=5)) ino:32947 <->
 	 ts rto:208 lastsnd:952 lastrcv:892
 FIN-WAIT-2 0      0       127.0.0.1:44056 127.0.0.1:7011 ino:0 sk:2009 <->
 	 ts rto:208
@@ -28,22 +30,19 @@ ESTAB  0      0       10.0.0.2:44070 10.0.0.7:7011 users:(("other",pid=7,fd=5)) 
 
 class SocketsTest(unittest.TestCase):
     def test_what_is_listed(self) -> None:
-        waiting, unread, gone = connections_in(LISTED, 7011)
-        self.assertEqual((waiting.port, waiting.is_served, waiting.receive_queue), (44070, False, 5))
-        self.assertIsNone(waiting.program)
-        self.assertEqual((waiting.heard, waiting.told, waiting.has_hung_up), (1208, 1244, False))
-        self.assertEqual((unread.port, unread.is_served, unread.send_queue), (44066, True, 163298))
-        self.assertEqual((unread.program, unread.owes_reply), (Program("python3", 30175), True))
-        self.assertEqual((gone.port, gone.has_hung_up, gone.is_served, gone.heard), (44056, True, True, 0))
+        self.assertEqual(connections_in(LISTED, 7011), [
+            connection(44070, key="127.0.0.1:44070 2004", is_served=False, receive_queue=5, heard=1208, told=1244),
+            connection(44066, key="127.0.0.1:44066 2005", receive_queue=57136, send_queue=163298, heard=952, told=36,
+                       program="py?[2Jthon3 30175"),
+            connection(44056, key="127.0.0.1:44056 2008", has_hung_up=True, receive_queue=1, told=1208)])
 
     def test_another_port(self) -> None:
         self.assertEqual(connections_in(LISTED, 7012), [])
 
     def test_a_kernel_that_tells_nothing_about_connections(self) -> None:
         text = "ESTAB 0 7 127.0.0.1:7011 127.0.0.1:44070 ino:5 sk:1\n"
-        connection, = connections_in(text, 7011)
-        self.assertEqual((connection.heard, connection.told, connection.owes_reply), (None, None, False))
-        self.assertEqual((connection.send_queue, connection.is_served), (7, True))
+        self.assertEqual(connections_in(text, 7011), [
+            connection(44070, key="127.0.0.1:44070 1", send_queue=7, heard=None, told=None)])
 
     def test_lines_that_are_none(self) -> None:
         self.assertEqual(connections_in("", 7011), [])

@@ -1,11 +1,13 @@
 """Moments follow real time, whatever happens between two runs."""
 import argparse
+import contextlib
+import io
 import unittest
 
 from servicing.clock import elapsed, read_clock
 from servicing.opening import Left
 from servicing.runs import Next
-from servicing.settings import nanoseconds_of
+from servicing.settings import nanoseconds_of, parser
 from servicing.tests.support import SECOND, reading
 
 
@@ -48,3 +50,21 @@ class DurationTest(unittest.TestCase):
         for word in ("30", "s", "", "-1s", "1 s", "1S", "1sec", "1h30m", "1e3s", "١s", "30000000000"):
             with self.subTest(word), self.assertRaisesRegex(argparse.ArgumentTypeError, "such as 30s"):
                 nanoseconds_of(word)
+
+
+class AddressTest(unittest.TestCase):
+    def http(self, word: str) -> object:
+        with contextlib.redirect_stderr(io.StringIO()) as said:
+            try:
+                return parser("").parse_args(["--http", word]).http
+            except SystemExit:
+                return said.getvalue()
+
+    def test_words(self) -> None:
+        for word, address in (("7080", ("127.0.0.1", 7080)), ("127.0.0.9:0", ("127.0.0.9", 0)),
+                              ("localhost:65535", ("127.0.0.1", 65535)), ("[::1]:7080", ("::1", 7080)),
+                              ("0.0.0.0:7080", ("0.0.0.0", 7080))):
+            self.assertEqual(self.http(word), address)
+        for word in ("", "65536", "x:7080", "1.2.3:80", "127.0.0.1:", "http://x", "nonsense"):
+            says = f"service: argument --http: {word!r} is no address such as 127.0.0.1:7080\n"
+            self.assertEqual(self.http(word), says)

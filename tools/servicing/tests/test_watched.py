@@ -4,11 +4,11 @@ import os
 import time
 import unittest
 from collections.abc import Callable
+from unittest import mock
 
 from servicing.looking import WINDOW, Looks, Pace, silent_ports
-from servicing.sockets import look_at
-from servicing.state import Doing
-from servicing.tests.support import record
+from servicing.sockets import Connection, look_at
+from servicing.tests.support import connection, record
 from serving.server import Server
 from serving.session import Session
 from serving.testing import ServingTest
@@ -47,26 +47,22 @@ class WatchedTest(ServingTest):
             client.ask(request)
         return client
 
-    def doing(self, looks: Looks, client: Session) -> Doing | None:
-        assert looks.clients
-        return next((it.doing for it in looks.clients.all if it.port == client.own_port), None)
+    def seen(self, looks: Looks, client: Session) -> Connection:
+        """The client's connection, which has to be listed."""
+        return next(it for it in looks.clients or () if it.port == client.own_port)
 
     def test_clients_of_each_kind(self) -> None:
+        """The longest silent is the first."""
         server, looks = self.watch(6)
-        silent = self.connect(server)
-        working = self.ask(server, "OFFER 0 a", "OFFER 0 b", "TAKE", "TAKE")
-        taking = self.ask(server, "SIZE")
-        taking.send("TAKE")
+        silent = self.ask(server, "SIZE")
         unread = self.connect(server, receive_buffer=4096)
         unread.fill()
-        wanted = [Doing.NOT_READING, Doing.SILENT, Doing.SILENT, Doing.IN_CALL]
-        self.until(looks, lambda: [self.doing(looks, it) for it in (unread, silent, working, taking)] == wanted)
-        clients = looks.clients
-        assert clients is not None
-        self.assertEqual((clients.served, clients.waiting, clients.not_reading), (4, 0, 1))
-        self.assertIs(clients.all[0].doing, Doing.NOT_READING)
-        self.assertGreater(clients.all[0].unread_by_client, 10_000)
-        self.assertEqual({it.pid for it in clients.all}, {os.getpid()})
+        taking = self.connect(server, "TAKE")
+        self.until(looks, lambda: len(looks.served) == 3 and self.seen(looks, unread).send_queue > 10_000)
+        self.assertEqual((looks.clients or ())[0].port, silent.own_port)
+        self.assertEqual({it.program.split(" ")[-1] for it in looks.served}, {str(os.getpid())})
+        self.assertEqual([len(looks.waiting), looks.count], [0, 3])
+        self.assertEqual(self.seen(looks, taking).name, f"client {taking.own_port} ({looks.served[0].program})")
 
     def test_clients_that_wait_for_a_worker(self) -> None:
         server, looks = self.watch(2)
@@ -74,8 +70,9 @@ class WatchedTest(ServingTest):
         waiting = [self.connect(server, "SIZE"), self.connect(server)]
         for _ in range(4):
             looks.look(0)
-        self.assertEqual([self.doing(looks, it) for it in waiting], [Doing.WAITING] * 2)
-        self.assertEqual((looks.served, looks.waiting, looks.own.calls, looks.own.sessions), (2, 2, 0, 1))
+        for clients, them in ((looks.served, served), (looks.waiting, waiting)):
+            self.assertEqual({it.port for it in clients}, {it.own_port for it in them})
+        self.assertEqual((looks.own.calls, looks.own.sessions), (0, 1))
         self.assertGreater(looks.own.waits, 1.5)
         self.assertIsNone(looks.queue)
         for client in [*served, *waiting]:
@@ -88,8 +85,8 @@ class WatchedTest(ServingTest):
         client = self.connect(server, "TAKE")
         time.sleep(0.3)
         client.hang_up()
-        self.until(looks, lambda: looks.served > 0)
-        self.assertEqual([it.doing for it in looks.clients.all] if looks.clients else None, [Doing.HUNG_UP])
+        self.until(looks, lambda: len(looks.served) == 1)
+        self.assertTrue(looks.served[0].has_hung_up)
 
     def test_a_worker_is_left_to_clients_that_wait(self) -> None:
         """The service has the only worker, and a client comes: it is served after a look."""
@@ -105,13 +102,11 @@ class WatchedTest(ServingTest):
         server, looks = self.watch(3)
         client = self.ask(server, f"OFFER {FAR} later")
         self.until(looks, lambda: looks.queue is not None)
-        assert looks.queue and looks.queue.head
-        self.assertEqual((looks.queue.head.payload, looks.queue.head.attempt), ("later", 1))
-        self.assertTrue(-3600 <= looks.queue.late < -3590, looks.queue)
+        self.assertTrue(looks.queue and -3600 <= looks.queue.late < -3590, looks.queue)
         before = time.monotonic()
         client.ask("OFFER 0 now")
         self.until(looks, lambda: looks.queue is not None and looks.queue.elements == 2)
-        self.assertTrue(looks.queue.head and 0 <= looks.queue.late <= time.monotonic() - before, looks.queue)
+        self.assertTrue(looks.queue and 0 <= looks.queue.late <= time.monotonic() - before, looks.queue)
 
     def test_since_when_the_servers_clock_goes(self) -> None:
         """What is found is no earlier than the clock's real beginning, and at the best a little later."""
@@ -144,9 +139,9 @@ class WatchedTest(ServingTest):
         self.assertEqual((audit["calls"], audit["offered"], audit["removed"], audit["left"]), (21, 5, 5, 0))
         _, full = self.watch(2, 20, 9)
         self.until(full, lambda: full.own.is_full)
-        self.assertEqual((full.calls.used, full.calls.is_least), (9, False))
+        self.assertEqual(full.calls.used, 9)
 
-    def test_how_many_calls_are_used_and_when_none_are_left(self) -> None:
+    def test_how_many_calls_are_used(self) -> None:
         server, looks = self.watch(2)
         client = self.ask(server, *["OFFER 0 a", "TAKE"] * 50, f"OFFER {FAR} b")
         self.until(looks, lambda: looks.queue is not None)
@@ -154,9 +149,8 @@ class WatchedTest(ServingTest):
         self.assertEqual((looks.offered, looks.left), (51, 50))
         for _ in range(100):
             client.ask("OFFER 0 a")
-        self.until(looks, lambda: looks.calls.lasts is not None)
+        self.until(looks, lambda: looks.calls.a_second)
         self.assertEqual(looks.calls.used, 201 + looks.own.calls)
-        self.assertAlmostEqual(looks.calls.lasts or 0, (1000 - looks.calls.used) / (looks.calls.a_second or 1), delta=1)
 
     def test_sessions_that_were_seen(self) -> None:
         """The service's own is one, and no pace."""
@@ -169,7 +163,7 @@ class WatchedTest(ServingTest):
         clients[0].hang_up()
         late = self.ask(server, "SIZE")
         self.until(looks, lambda: looks.sessions.used == 4)
-        self.until(looks, lambda: self.doing(looks, late) is Doing.ACTIVE or not late.ask("SIZE"))
+        self.assertTrue(self.seen(looks, late).is_served)
 
     def test_a_session_that_still_waits_offers_nothing(self) -> None:
         """It is carried out when a worker is free, even if its client has gone, and would leave an element behind."""
@@ -209,6 +203,32 @@ class WatchedTest(ServingTest):
         connections = look_at(server.port)
         self.assertEqual(silent_ports(connections, 1), [silent.own_port])
         self.assertEqual(silent_ports(connections, 30), [])
+
+
+class SeenTest(unittest.TestCase):
+    def test_who_has_given_up_without_a_request_is_no_client(self) -> None:
+        """The service's own visits leave like that, a hundred at a time while a run ends."""
+        looks = Looks(1, record(), 4, 20)
+        looks.see([connection(port, has_hung_up=has_hung_up, is_served=is_served, receive_queue=sent)
+                   for port, has_hung_up, is_served, sent in (
+                       (1, True, False, 1), (2, True, False, 9), (3, False, False, 0), (4, True, True, 1))])
+        self.assertEqual({it.port for it in looks.clients or ()}, {2, 3, 4})
+        self.assertEqual([it.port for it in looks.waiting], [3])
+
+    def test_a_worker_is_free_between_two_clients(self) -> None:
+        """While clients take turns this tells nothing, and only a worker that stays free takes nobody."""
+        looks = Looks(1, record(), 1, 20)
+        looks.own._since = time.monotonic() - 10
+        looks.see([connection(5)])
+        looks.see([])
+        self.assertLess(looks.unanswered, 3)
+        with mock.patch("time.monotonic", return_value=time.monotonic() + 5):
+            looks.see([])
+            self.assertGreater(looks.unanswered, 4)
+            looks.count_unseen(0, 0)
+            self.assertGreater(looks.unanswered, 4)
+            looks.count_unseen(2, 1)  # more sessions of the service's own, of which some wait until others are served
+            self.assertEqual((looks.unanswered, looks.sessions.used), (0, 3))
 
 
 class PaceTest(unittest.TestCase):
