@@ -2,7 +2,6 @@
 from __future__ import annotations
 
 import time
-from dataclasses import replace
 from typing import Callable
 
 from reporting.units import SECOND
@@ -10,10 +9,10 @@ from servicing.clock import elapsed, read_clock
 from servicing.crowd import Crowd
 from servicing.deciding import Seen, crowd_of, is_to_crowd, is_to_prepare, sessions_to_use_up, why_to_end
 from servicing.looking import Looks, silent_ports
+from servicing.metrics import span_of
 from servicing.parts import LeftBehind, Parts
 from servicing.saying import notify, say
 from servicing.server import Server
-from servicing.shown import span_of
 from servicing.sockets import Connection, Unwatchable
 from servicing.state import Phase, Reason, Run
 from servicing.visits import Visits
@@ -107,15 +106,11 @@ class Current:
         if began is not None and not record.is_seen:
             self.record = self._parts.runs.see(record, record.began.after(began - record.began.up))
 
-    @property
-    def _age(self) -> float:
-        """The seconds since it began, whatever the machine's date is set to."""
-        return elapsed(self.record.began, read_clock()) / SECOND
-
     def _seen(self) -> Seen:
         settings, looks = self._settings, self.looks
+        age = elapsed(self.record.began, read_clock()) / SECOND  # whatever the machine's date is set to
         return Seen(
-            age=self._age, every=settings.every / SECOND, ending=settings.stop_within / SECOND, calls=looks.calls,
+            age=age, every=settings.every / SECOND, ending=settings.stop_within / SECOND, calls=looks.calls,
             sessions=looks.sessions, is_full=looks.own.is_full, idle=looks.idle, unanswered=looks.unanswered,
             workers=settings.workers, clients=looks.count, waiting=looks.waiting_long,
             elements=looks.queue.elements if looks.queue else None, moment=looks.moment, aside=self.record.aside,

@@ -51,8 +51,10 @@ class Folder:
         try:
             fcntl.flock(self._lock, fcntl.LOCK_EX | fcntl.LOCK_NB)
         except OSError:
-            raise Unusable(f"{path} is in use by {_who(os.pread(self._lock, 4096, 0))}") from None
-        told = json.dumps({"pid": os.getpid(), "port": port, "since": int(time.time())})
+            who = os.pread(self._lock, 4096, 0).decode(errors="replace").strip()
+            raise Unusable(f"{path} is in use by {who or 'another service'}") from None
+        since = time.strftime("%Y-%m-%d %H:%M:%S", time.localtime())
+        told = f"the service of process {os.getpid()} at port {port}, since {since}"
         with contextlib.suppress(OSError):  # a full disk
             os.pwrite(self._lock, told.ljust(120).encode() + b"\n", 0)
         for unfinished in Path(path).glob("*.new"):
@@ -139,16 +141,6 @@ class Folder:
         """Removes all files of a run."""
         for form in _FILES:
             self.remove(form.format(number))
-
-
-def _who(told: bytes) -> str:
-    """The service that has the folder, by what it wrote into its lock."""
-    try:
-        it = json.loads(told)
-        since = time.strftime("%Y-%m-%d %H:%M:%S", time.localtime(it["since"]))
-        return f"the service of process {it['pid']} at port {it['port']}, since {since}"
-    except (ValueError, KeyError, TypeError):
-        return "another service"
 
 
 def record_of(run: Run) -> bytes:

@@ -1,8 +1,8 @@
 """Answers over HTTP, on threads of their own, to clients that may be slow, wrong or hostile.
 
 Python's own server does it, within bounds: a client has some seconds for each piece that it sends, and for all that it
-is sent; of more than MOST_CONNECTIONS the oldest is cut; and there are no more than MOST_A_SECOND answers in a second, so
-that who floods this with requests leaves the processor to the service.
+is sent; of more than MOST_CONNECTIONS the oldest is cut; and no second has more than MOST_A_SECOND answers, so that who
+floods this with requests leaves the processor to the service.
 """
 from __future__ import annotations
 

@@ -52,12 +52,16 @@ def date(at: float) -> str:
     return time.strftime("%Y-%m-%d %H:%M:%S", time.gmtime(at))
 
 
+def span_of(seconds: float) -> str:
+    return ("-" if seconds < 0 else "") + span(int(abs(seconds) * SECOND))
+
+
 def told(name: str, value: float) -> str:
     """A number as people read it."""
     if name.endswith("_time_seconds"):
         return date(value)
     if name.endswith("_seconds"):
-        return ("-" if value < 0 else "") + span(int(abs(value) * SECOND))
+        return span_of(value)
     return number(int(value))
 
 

@@ -27,12 +27,12 @@ class Opening:
     elements: Elements
     aside: Elements = field(default_factory=dict)  # beyond what an opening may have, which wait beside it
 
-    def lines(self) -> Iterator[bytes]:
-        """The text that the server reads."""
-        return _lines(self.next_id, self.moment, self.elements)
-
-    def aside_lines(self) -> Iterator[bytes]:
-        return _lines(self.next_id, self.moment, self.aside)
+    def lines(self, elements: Elements) -> Iterator[bytes]:
+        """The text of a history that has left these elements."""
+        yield b"history 3\nopen %d %d %d\n" % (self.next_id, self.moment, len(elements))
+        for id, words in elements.items():
+            yield b"keep %s %s\n" % (id, words)
+        yield b"end 0\n"
 
     @property
     def first_aside(self) -> int:
@@ -75,19 +75,8 @@ def _rising(elements: Iterable[tuple[bytes, bytes]]) -> Elements:
     return dict(sorted(elements, key=lambda it: int(it[0])))
 
 
-def _is_probe(words: bytes) -> bool:
-    return words.endswith(_PROBE_END) and expiry_of(words) >= PROBE_DELAY
-
-
 def expiry_of(words: bytes) -> int:
     return int(words[:words.index(b" ")])
-
-
-def _lines(next_id: int, moment: int, elements: Elements) -> Iterator[bytes]:
-    yield b"history 3\nopen %d %d %d\n" % (next_id, moment, len(elements))
-    for id, words in elements.items():
-        yield b"keep %s %s\n" % (id, words)
-    yield b"end 0\n"
 
 
 def left_in(file: BinaryIO) -> Left:
@@ -110,7 +99,7 @@ def left_in(file: BinaryIO) -> Left:
             elements[id] = element
             left.next_id += 1
             left.failed += element.split(b" ", 2)[1] != id
-            if element.endswith(_PROBE_END) and _is_probe(element):
+            if element.endswith(_PROBE_END) and expiry_of(element) >= PROBE_DELAY:
                 probes.append(id)
             continue
         for id in _gone(event, elements):

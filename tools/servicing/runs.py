@@ -95,10 +95,10 @@ class Runs:
         record = Run(number, now, opening.moment, opening.next_id, len(opening.elements),
                      len(opening.aside), settings.calls, tuple(settings.policy), lost_before=lost)
         if opening.aside:
-            self.folder.write(f"aside-{number}.txt", opening.aside_lines())
+            self.folder.write(f"aside-{number}.txt", opening.lines(opening.aside))
         else:
             self.folder.remove(f"aside-{number}.txt")
-        self.folder.write(f"opening-{number}.txt", opening.lines())
+        self.folder.write(f"opening-{number}.txt", opening.lines(opening.elements))
         self._write(record)
         self._greatest = number
         return record

@@ -73,7 +73,7 @@ class Server:
             os.close(it)
 
     def collect(self, program: str, policy: Sequence[str]) -> tuple[dict[str, int], Left]:
-        """Has the history checked, and reads meanwhile what is left in it. Returns the audit too. Raises a `Damaged`."""
+        """Has the history checked, and meanwhile reads what is left in it. Returns both. Raises a `Damaged`."""
         if not self.size:
             raise Damaged(f"the server left no history: {self.last_line or 'it was killed'}")
         words = [program, "replay", f"/dev/fd/{self.history}", "--chains", *policy]

@@ -100,7 +100,7 @@ def _listening(parts: Parts, record: Run, opening: Opening) -> Server:
     files = [*map(os.memfd_create, names)]
     try:
         with os.fdopen(os.dup(files[2]), "wb") as file:
-            file.writelines(opening.lines())
+            file.writelines(opening.lines(opening.elements))
         server = parts.keeping.start(record.number, parts.settings.serve_words, files)
     finally:
         for it in files:

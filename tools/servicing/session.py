@@ -51,10 +51,7 @@ class OwnSession:
     @property
     def own_port(self) -> int:
         """The port of this end, or 0."""
-        try:
-            return int(self._socket.getsockname()[1]) if self._socket else 0
-        except OSError:
-            return 0
+        return int(self._socket.getsockname()[1]) if self._socket else 0
 
     def look(self) -> Told | None:
         """Asks the server. None if it does not answer soon, since no worker is free, if the run is full, or if the

@@ -43,10 +43,6 @@ def _span(least: str, most: str) -> Callable[[str], int]:
     return read
 
 
-def _silent(word: str) -> int | None:
-    return None if word == "never" else _span("1s", "1d")(word)
-
-
 @dataclass(frozen=True)
 class Keep:
     """Which old runs are kept: so many, or those of so many nanoseconds."""
@@ -106,7 +102,7 @@ class Settings:
         "how long a run's end waits for clients to leave, before it cuts their sessions, %(type)s", _span("1s", "1h"),
         "60s")
     silent: int | None = _option(
-        "cuts sessions over which nothing came and nothing went for so long, 1s to 1d or never", _silent, "never")
+        "cuts sessions over which nothing came and nothing went for so long, %(type)s (never)", _span("1s", "1d"))
     keep: Keep = _option("how many old runs are kept, or for how long", _keep, "7d", "N|TIME")
     http: tuple[str, int] | None = _option(
         "serves a page, /metrics and /health there (nowhere)", _address, None, "HOST:PORT")
@@ -116,14 +112,10 @@ class Settings:
         return math.ceil(self.wait / TURN)
 
     @property
-    def retry(self) -> tuple[str, int]:
-        """`--delay` or `--rate`, with its time."""
-        return ("--delay", self.delay) if self.rate is None else ("--rate", self.rate)
-
-    @property
     def policy(self) -> list[str]:
         """The words by which `replay --chains` checks the retries of a run."""
-        return [*map(str, self.retry), "--attempts", str(self.attempts)]
+        retry = ("--delay", self.delay) if self.rate is None else ("--rate", self.rate)
+        return [*map(str, retry), "--attempts", str(self.attempts)]
 
     @property
     def serve_words(self) -> list[str]:

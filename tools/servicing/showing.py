@@ -7,11 +7,12 @@ from typing import Iterator, Sequence
 
 from histories.grammar import MOST_OPENING_ELEMENTS
 from servicing.looking import Looks
+from servicing.metrics import span_of
 from servicing.runs import Runs
 from servicing.saying import notify, say
 from servicing.settings import Settings
-from servicing.shown import headline, span_of
-from servicing.state import Alert, Board, Phase, Reason, Run, State, Traffic
+from servicing.shown import headline
+from servicing.state import Alert, Board, Phase, Reason, Run, Traffic
 
 MANY_ELEMENTS = 900_000
 DAY = 86_400

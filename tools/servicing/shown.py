@@ -5,8 +5,8 @@ from __future__ import annotations
 from typing import Iterator
 
 from reporting.tables import Table
-from reporting.units import SECOND, counted, number, span
-from servicing.metrics import date, numbers, told
+from reporting.units import counted, number
+from servicing.metrics import date, numbers, span_of, told
 from servicing.sockets import Connection
 from servicing.state import Reason, Run, State
 
@@ -18,10 +18,6 @@ WHY = {
     Reason.SESSIONS: "few sessions were left", Reason.ELEMENTS: "elements that were set aside had room",
     Reason.KILLED: "lost: its server was killed", Reason.UNKNOWN: "ended while no service was there",
 }
-
-
-def span_of(seconds: float | None) -> str:
-    return "?" if seconds is None else span(int(max(seconds, 0) * SECOND))
 
 
 def headline(state: State) -> str:

@@ -5,7 +5,7 @@
     /health   the status as text: 200 as long as clients are served, or will be within seconds, and otherwise 503
 
 Whatever clients send, or leave out, the service goes on: they are answered from the board alone. The same is always
-answered at the socket `status` in the folder, for `tools/service --status`: whoever may use the folder may connect there.
+answered at the socket `status` in the folder, for `tools/service --status`: who may use the folder may connect there.
 """
 from __future__ import annotations
 

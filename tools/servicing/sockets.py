@@ -70,16 +70,12 @@ def look_at(port: int) -> list[Connection]:
     which = f"( src {here} and not dst {OWN} ) or ( dst {here} and not src {OWN} )"
     words = ["ss", "-Htinoepa", "exclude", "time-wait", f"( {which} )"]
     try:
-        run = subprocess.run(words, capture_output=True, encoding="utf-8", errors="replace", timeout=PATIENCE,
-                             check=False, start_new_session=True)  # which Ctrl-C does not end
-    except FileNotFoundError:
-        raise Unwatchable("the command ss is not there, which iproute2 brings") from None
-    except subprocess.TimeoutExpired:
-        raise Unwatchable(f"the command ss took longer than {PATIENCE} seconds") from None
-    if run.returncode:
-        said = run.stderr.strip().splitlines() or [f"status {run.returncode}"]
-        raise Unwatchable(f"the command ss failed: {said[0]}")
-    return connections_in(run.stdout, port)
+        ran = subprocess.run(words, capture_output=True, encoding="utf-8", errors="replace", timeout=PATIENCE,
+                             check=True, start_new_session=True)  # which Ctrl-C does not end
+    except (OSError, subprocess.SubprocessError) as fault:
+        said = str(getattr(fault, "stderr", None) or fault).strip()
+        raise Unwatchable(f"the command ss of iproute2 failed: {said}") from None
+    return connections_in(ran.stdout, port)
 
 
 def connections_in(text: str, port: int) -> list[Connection]:

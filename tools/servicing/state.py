@@ -129,7 +129,7 @@ class Run:
     @property
     def lasted(self) -> float:
         """The seconds of one that has ended."""
-        return self.end.date - self.date if self.end else 0.0
+        return max(self.end.date - self.date, 0.0) if self.end else 0.0
 
 
 @dataclass(frozen=True)

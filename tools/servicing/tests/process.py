@@ -8,7 +8,6 @@ import signal
 import socket
 import subprocess
 import sys
-import threading
 import time
 from collections.abc import Callable, Iterator, Sequence
 from pathlib import Path
@@ -36,37 +35,30 @@ class Service:
         self.folder, self.port = folder, port or free_port()
         python = SYSTEMS_PYTHON if before else sys.executable  # which another user may not run
         words = command or [*before, python, "-B", f"{TOP}/tools/service", "--program", program or tested_program()]
+        self._said = os.memfd_create("said")
         self.process = subprocess.Popen(
-            [*words, "--port", str(self.port), "--folder", folder, *map(str, options)], stderr=subprocess.PIPE,
-            encoding="utf-8", start_new_session=True)
+            [*words, "--port", str(self.port), "--folder", folder, *map(str, options)], stderr=self._said,
+            start_new_session=True)
         atexit.register(self.kill_all)
-        self.lines: list[str] = []
-        self._came, self._has_ended = threading.Condition(), False
-        self._reader = threading.Thread(target=self._read, daemon=True)
-        self._reader.start()
 
-    def _read(self) -> None:
-        assert self.process.stderr
-        for line in self.process.stderr:
-            with self._came:
-                self.lines.append(line.rstrip("\n"))
-                self._came.notify_all()
-        with self._came:
-            self._has_ended = True
-            self._came.notify_all()
+    @property
+    def lines(self) -> list[str]:
+        """What it has said."""
+        return os.pread(self._said, 1 << 20, 0).decode().splitlines()
 
     def all(self, event: str) -> list[Event]:
         """The words of each line of an event, with their values."""
-        lines = (it for it in [*self.lines] if f" event={event} " in f"{it} ")
+        lines = (it for it in self.lines if f" event={event} " in f"{it} ")
         return [dict(word.split("=", 1) for word in shlex.split(it)) for it in lines]
 
     def wait(self, event: str, count: int = 1, patience: float = PATIENCE) -> Event:
         """The last of this many lines of an event, once they are there."""
-        with self._came:
-            self._came.wait_for(lambda: len(self.all(event)) >= count or self._has_ended, patience)
-        found = self.all(event)
-        if len(found) < count:
-            raise AssertionError(f"{len(found)} of {count} lines of {event} came: {self.lines}")
+        until, has_ended = time.monotonic() + patience, False
+        while len(found := self.all(event)) < count:
+            if has_ended or time.monotonic() > until:
+                raise AssertionError(f"{len(found)} of {count} lines of {event} came: {self.lines}")
+            has_ended = self.process.poll() is not None
+            time.sleep(0.01)
         return found[count - 1]
 
     @property
@@ -84,9 +76,7 @@ class Service:
         return self.end()
 
     def end(self) -> int:
-        status = self.process.wait(PATIENCE)
-        self._reader.join(PATIENCE)
-        return status
+        return self.process.wait(PATIENCE)
 
     def kill(self) -> None:
         """Kills the service alone."""
@@ -161,6 +151,10 @@ class ServiceTest(RoomTest):
             for _ in range(count):
                 self.assertRegex(it.line(), "^OFFERED ")
             it.ask("QUIT")
+
+    def has_left(self, size: int) -> None:
+        """So many elements are in the queue. The service's own comes and goes."""
+        self.until(lambda: self.ask("SIZE") == [f"SIZE {size}"], f"{size} elements")
 
     def until(self, holds: Callable[[], bool], what: str) -> None:
         until = time.monotonic() + PATIENCE

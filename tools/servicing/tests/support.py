@@ -27,7 +27,7 @@ def left_of(text: str) -> Left:
 
 
 def text_of(opening: Opening) -> str:
-    return b"".join(opening.lines()).decode()
+    return b"".join(opening.lines(opening.elements)).decode()
 
 
 def connection(port: int = 1, **told: Any) -> Connection:
@@ -49,17 +49,15 @@ FULL_DISK = Alert(DISK, "/var/lib/rb_broker/7011/run-11.txt can't be written: No
                   "bytes are kept in memory", AT - 4000)
 
 
-def ended(number: int, began: float, opening: int, end: End) -> Run:
-    return record(number, end, began=reading(date=began), opening=opening)
+PRESENT = record(12, began=reading(date=AT - 4000), moment=10**15, next_id=44_000, opening=1200, aside=7)
 
-
-PRESENT = record(12, began=reading(date=AT - 4000), moment=10**15, next_id=44_000, opening=1200)
-
-ENDED = ended(11, AT - 7600, 900, End(AT - 4000.3, Reason.TIME, 250_000, 104_000, 4_000, 103_700, 1200, 0, 0.31))
-LOST = ended(10, AT - 9000, 900, End(AT - 7600, Reason.KILLED, closed=1.25))
-HELD = ended(9, AT - 90_000, 0, End(
+ENDED = record(11, End(AT - 4000.3, Reason.TIME, 250_000, 104_000, 4_000, 103_700, 1200, 0, 0.31),
+               began=reading(date=AT - 7600), opening=900)
+LOST = record(10, End(AT - 7600, Reason.KILLED, closed=1.25), began=reading(date=AT - 9000), opening=900)
+HELD = record(9, End(
     AT - 9000, Reason.CALLS, 1_000_000, 412_345, 12_345, 411_445, 900, 3, 61.5,
-    ("client 41007 (python3 4711): 60s", "client 41008 (python3 4712): 2s", "client 41009: 1s"), 1))
+    ("client 41007 (python3 4711): 60s", "client 41008 (python3 4712): 2s", "client 41009: 1s"), 1),
+    began=reading(date=AT - 90_000))
 
 
 def state(**changes: Any) -> State:
@@ -71,12 +69,12 @@ def state(**changes: Any) -> State:
     return dataclasses.replace(usual, **changes)
 
 
-def first_state(**changes: Any) -> State:
+def first_state() -> State:
     """A service that has just begun: nothing has been seen, and no run is behind it."""
-    return dataclasses.replace(State(AT, 7011, Phase.STARTING, AT - 1), **changes)
+    return State(AT, 7011, Phase.STARTING, AT - 1)
 
 
-def troubled_state(**changes: Any) -> State:
+def troubled_state() -> State:
     """A service with all that may be wrong, at the end of a run that sixteen clients hold up, with long names."""
     clients = tuple(connection(42_000 + it, program=f"a-program-of-a-long-name {4_000_000 + it}", heard=7_000 * it,
                                receive_queue=12 * it) for it in range(16))
@@ -85,5 +83,4 @@ def troubled_state(**changes: Any) -> State:
         waits_for=tuple(it.name for it in clients[:3]), queue=Queue(AT - 30, 987_654, 86_400.5),
         calls=Supply(999_990, 1_000_000, 300.0), unwritten=57_000_000, alerts=(
             Alert("many-elements", "The queue has 987,654 elements; a run can begin with 1,000,000.", AT - 3600),
-            Alert("lost-run", "Run 10 was lost after 23 min: its opening had 900 elements.", AT - 7600), FULL_DISK),
-        **changes)
+            Alert("lost-run", "Run 10 was lost after 23 min: its opening had 900 elements.", AT - 7600), FULL_DISK))

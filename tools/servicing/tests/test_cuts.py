@@ -1,18 +1,17 @@
 """Cuts of a server's sessions: those of its clients that are named, and nothing else."""
 import os
 import shutil
-import socket
 import subprocess
 import sys
-import threading
 import time
 import unittest
 
 from common.program import TOP
 from servicing.cutting import ROOM, cut_sessions, make_room
 from servicing.sockets import look_at
-from serving import HOST, PATIENCE
-from serving.server import Server, free_port
+from servicing.visits import Visits
+from serving import PATIENCE
+from serving.server import free_port
 from serving.session import Session
 from serving.testing import ServingTest
 
@@ -20,21 +19,9 @@ from serving.testing import ServingTest
 OPTIONS = ("--workers", 2, "--sessions", 400, "--turns", 50, "--delay", 0)
 
 
-def served(server: Server) -> list[int]:
-    return [it.port for it in look_at(server.port) if it.is_served]
-
-
 class CutsTest(ServingTest):
     def client(self, port: int, own_port: int = 0, receive_buffer: int = 0) -> Session:
         return self.enterContext(Session(port, own_port, receive_buffer))
-
-    def test_nobody_is_cut(self) -> None:
-        server = self.serve(*OPTIONS)
-        self.assertEqual(cut_sessions(server.process.pid, []), (set(), ""))
-        it = self.client(server.port)
-        it.ask("SIZE")
-        self.assertEqual(cut_sessions(server.process.pid, [1, 2]), (set(), ""))
-        self.assertEqual(it.ask("SIZE"), "SIZE 0")
 
     def test_its_own_sessions_alone(self) -> None:
         """Neither a client that waits, nor the door, nor a session of another server whose client has the same port."""
@@ -48,9 +35,12 @@ class CutsTest(ServingTest):
         stranger.ask("SIZE")
         waiting = self.client(server.port)
         waiting.send("POLLFOR 60000000000")
-        ports = served(server)
-        self.assertEqual(sorted(ports), sorted(it.own_port for it in clients))
-        self.assertEqual(cut_sessions(server.process.pid, ports), (set(ports), ""))
+        ports = {it.port for it in look_at(server.port) if it.is_served}
+        self.assertEqual(ports, {it.own_port for it in clients})
+        for nobody in (range(0), range(1, 3)):
+            self.assertEqual(cut_sessions(server.process.pid, nobody), (set(), ""))
+        self.assertEqual(clients[1].ask("SIZE"), "SIZE 0")
+        self.assertEqual(cut_sessions(server.process.pid, ports), (ports, ""))
         self.assertEqual([it.is_cut() for it in clients], [True, True])
         self.assertRegex(waiting.heard(), "^ITEM 1 [0-9]+ 2 job$")
         self.assertEqual(self.client(server.port).ask("SIZE"), "SIZE 0")
@@ -62,22 +52,9 @@ class CutsTest(ServingTest):
         server = self.serve("--workers", 4, "--sessions", 10_000)
         it = self.client(server.port)
         it.ask("SIZE")
-        over = threading.Event()
-        visitor = threading.Thread(target=self.visit, args=(server.port, over))
-        visitor.start()
-        try:
-            self.assertEqual(cut_sessions(server.process.pid, [it.own_port]), ({it.own_port}, ""))
-            self.assertTrue(it.is_cut())
-        finally:
-            over.set()
-            visitor.join()
-
-    def visit(self, port: int, over: threading.Event) -> None:
-        for _ in range(2_000):
-            if over.is_set():
-                return
-            with socket.create_connection((HOST, port)):
-                pass
+        self.addCleanup(Visits(server.port).stop)
+        self.assertEqual(cut_sessions(server.process.pid, [it.own_port]), ({it.own_port}, ""))
+        self.assertTrue(it.is_cut())
 
     def test_a_client_that_does_not_read_is_cut_the_second_time(self) -> None:
         server = self.serve(*OPTIONS)

@@ -2,6 +2,7 @@
 import json
 import unittest
 from dataclasses import replace
+from typing import Any
 
 from servicing.deciding import (
     Seen, Start, crowd_of, how_to_start, is_to_crowd, is_to_prepare, left_until_end, runs_to_drop, sessions_to_use_up,
@@ -46,26 +47,36 @@ class StartTest(unittest.TestCase):
 
 
 class EndTest(unittest.TestCase):
-    def why(self, **told: object) -> Reason | None:
-        return why_to_end(replace(QUIET, **told))
-
-    def test_a_quiet_run_goes_on(self) -> None:
-        self.assertIsNone(self.why())
-        self.assertIsNone(self.why(calls=supply(899), sessions=supply(899)))
-
-    def test_it_ends_in_time(self) -> None:
-        self.assertEqual(self.why(age=3600), Reason.TIME)
-        self.assertIsNone(self.why(age=3599))
-
-    def test_a_good_moment_is_taken_in_the_last_minute(self) -> None:
-        for leaving in (0.0, 2.0):
-            self.assertEqual(self.why(is_prepared=True, leaving=leaving), Reason.TIME)
-            self.assertIsNone(self.why(is_prepared=False, leaving=leaving))
-        self.assertIsNone(self.why(is_prepared=True, leaving=2.1))
-        self.assertIsNone(self.why(is_prepared=True, leaving=None))
-        self.assertEqual(self.why(is_prepared=True, waiting=1), Reason.TIME)  # the last sessions are used up
-        self.assertIsNone(self.why(is_prepared=True, waiting=1, idle=1.9))
-        self.assertIsNone(self.why(waiting=1))
+    def test_why_a_run_ends(self) -> None:
+        """By what is different from a quiet run, which goes on."""
+        late, soon = 10**12 + 31 * 10**9, 10**12 + 29 * 10**9
+        cases: list[tuple[Reason | None, dict[str, Any]]] = [
+            (None, {}), (None, {"calls": supply(899), "sessions": supply(899)}),
+            (Reason.TIME, {"age": 3600}), (None, {"age": 3599}),
+            # A good moment in its last minute.
+            *((Reason.TIME, {"is_prepared": True, "leaving": it}) for it in (0.0, 2.0)),
+            *((None, {"is_prepared": False, "leaving": it}) for it in (0.0, 2.0)),
+            *((None, {"is_prepared": True, "leaving": it}) for it in (2.1, None)),
+            (Reason.TIME, {"is_prepared": True, "waiting": 1}),  # the last sessions are used up
+            (None, {"is_prepared": True, "waiting": 1, "idle": 1.9}), (None, {"waiting": 1}),
+            # Calls run low, or sessions.
+            (Reason.CALLS, {"calls": supply(900)}), (Reason.CALLS, {"is_full": True}),
+            (Reason.CALLS, {"calls": supply(500, pace=5)}),  # 100 seconds, and an end may take 60
+            (None, {"calls": supply(500, pace=4)}),
+            (None, {"calls": supply(499, pace=50)}),  # or a small run would never get anywhere
+            (Reason.SESSIONS, {"sessions": supply(900)}), (Reason.SESSIONS, {"sessions": supply(600, pace=5)}),
+            # A worker is free and takes nobody.
+            (Reason.SESSIONS, {"unanswered": 3.5}), (None, {"unanswered": 2.5}),
+            # Elements that were set aside are due, or there is room for many of them.
+            (Reason.ELEMENTS, {"aside": 5, "first_aside": soon}), (Reason.ELEMENTS, {"aside": 5, "first_aside": late}),
+            (None, {"aside": 5, "first_aside": soon, "elements": 1_000_000}),
+            (None, {"aside": 300_000, "first_aside": late, "elements": 950_000}),
+            (Reason.ELEMENTS, {"aside": 300_000, "first_aside": late, "elements": 899_000}),
+            (None, {"aside": 5, "first_aside": soon, "age": 59}),
+        ]
+        for wanted, told in cases:
+            with self.subTest(told):
+                self.assertEqual(why_to_end(replace(QUIET, **told)), wanted)
 
     def test_the_end_is_prepared_in_the_last_minute_or_half_of_a_short_run(self) -> None:
         for every, ages in ((3600, (3539, 3540)), (10, (4.9, 5))):
@@ -84,30 +95,6 @@ class EndTest(unittest.TestCase):
         self.assertEqual(why_to_end(replace(soon, is_prepared=True, leaving=1.0)), Reason.CALLS)
         self.assertEqual(left_until_end(replace(QUIET, sessions=supply(0, 1000, 2)))[0], 380)
         self.assertEqual(left_until_end(QUIET), (3500, Reason.TIME))
-
-    def test_calls_run_low(self) -> None:
-        self.assertEqual(self.why(calls=supply(900)), Reason.CALLS)
-        self.assertEqual(self.why(is_full=True), Reason.CALLS)
-        self.assertEqual(self.why(calls=supply(500, pace=5)), Reason.CALLS)  # 100 seconds, and an end may take 60
-        self.assertIsNone(self.why(calls=supply(500, pace=4)))
-        self.assertIsNone(self.why(calls=supply(499, pace=50)))  # or a small run would never get anywhere
-
-    def test_sessions_run_low(self) -> None:
-        self.assertEqual(self.why(sessions=supply(900)), Reason.SESSIONS)
-        self.assertEqual(self.why(sessions=supply(600, pace=5)), Reason.SESSIONS)
-
-    def test_a_free_worker_that_takes_nobody_has_no_sessions_left(self) -> None:
-        self.assertEqual(self.why(unanswered=3.5), Reason.SESSIONS)
-        self.assertIsNone(self.why(unanswered=2.5))
-
-    def test_elements_that_were_set_aside_are_wanted(self) -> None:
-        late, soon = 10**12 + 31 * 10**9, 10**12 + 29 * 10**9
-        self.assertEqual(self.why(aside=5, first_aside=soon), Reason.ELEMENTS)
-        self.assertEqual(self.why(aside=5, first_aside=late), Reason.ELEMENTS)  # there is room for all of them
-        self.assertIsNone(self.why(aside=5, first_aside=soon, elements=1_000_000))
-        self.assertIsNone(self.why(aside=300_000, first_aside=late, elements=950_000))
-        self.assertEqual(self.why(aside=300_000, first_aside=late, elements=899_000), Reason.ELEMENTS)
-        self.assertIsNone(self.why(aside=5, first_aside=soon, age=59))
 
 
 class CrowdTest(unittest.TestCase):
@@ -132,16 +119,12 @@ class CrowdTest(unittest.TestCase):
 
 
 class KeepTest(unittest.TestCase):
-    def test_so_many(self) -> None:
-        records = [record(it, WELL) for it in range(1, 10)] + [record(10)]
-        self.assertEqual(runs_to_drop(records, Keep(4, None), 0), [1, 2, 3, 4, 5, 6])
-        self.assertEqual(runs_to_drop(records, Keep(1, None), 0), [1, 2, 3, 4, 5, 6, 7, 8])
-        self.assertEqual(runs_to_drop(records, Keep(50, None), 0), [])
-
-    def test_so_long(self) -> None:
-        records = [record(it, End(1000.0 * it, Reason.TIME)) for it in range(1, 10)]
-        self.assertEqual(runs_to_drop(records, Keep(None, 3000 * 10**9), 7500), [1, 2, 3, 4])
-        self.assertEqual(runs_to_drop(records, Keep(None, 1), 10**6), [1, 2, 3, 4, 5, 6, 7])
+    def test_which_are_dropped(self) -> None:
+        """The last two never are."""
+        records = [record(it, End(1000.0 * it, Reason.TIME)) for it in range(1, 10)] + [record(10)]
+        for keep, now, last in ((Keep(4, None), 0, 6), (Keep(1, None), 0, 8), (Keep(50, None), 0, 0),
+                                (Keep(None, 3000 * 10**9), 7500, 4), (Keep(None, 1), 10**6, 8)):
+            self.assertEqual(runs_to_drop(records, keep, now), [*range(1, last + 1)], keep)
 
 
 class RecordTest(unittest.TestCase):

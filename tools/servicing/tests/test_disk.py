@@ -33,7 +33,7 @@ class FullDiskTest(ServiceTest):
             self.assertEqual(len(service.all("disk")), 1)
             self.make_room()
             service.wait("disk-over")
-            self.until(lambda: self.ask("SIZE") == [f"SIZE {JOBS}"], "all jobs, and the service's own element no more")
+            self.has_left(JOBS)
 
     def make_room(self) -> None:
         subprocess.run(["mount", "-o", "remount,size=4m", self.small], check=True)
@@ -48,43 +48,36 @@ class FullDiskTest(ServiceTest):
         again.kill()
         self.make_room()
         with self.serving(folder=self.small):
-            self.until(lambda: self.ask("SIZE") == [f"SIZE {JOBS}"], "all jobs, and the service's own element no more")
+            self.has_left(JOBS)
 
 
 class FolderTest(ServiceTest):
-    def refused(self, says: str, **told: str) -> None:
-        """A service that ends at once, of which the last line says so."""
-        service = self.start(**told)
-        self.assertEqual(service.end(), 1)
-        self.assertIn(says, service.lines[-1])
-        self.lines = len(service.lines)
+    def test_what_can_not_be_used(self) -> None:
+        """The service ends at once and says why in its last line, which is the only one if nothing was begun."""
+        self.file("plain", "")
+        self.file("unread/run-1.json", "{")
+        for folder, program, says, lines in (
+            ("plain/runs", "", "Not a directory", 1), ("unread", "", "run-1.json is no record of a run", 1),
+            ("runs", "/bin/false", f"no server at port {self.port}: its process has ended", 2),
+        ):
+            service = self.start(folder=self.path(folder), program=program)
+            self.assertEqual((service.end(), len(service.lines)), (1, lines), service.lines)
+            self.assertIn(says, service.lines[-1])
 
-    def test_a_history_that_is_no_history_is_kept_aside(self) -> None:
+    def test_a_history_that_is_no_history_is_kept(self) -> None:
         with self.serving():
             self.offer(2)
         path = Path(self.path("runs/run-1.txt"))
         path.write_text("history 3\nopen 0 0 0\nend 7\n", encoding="ascii")
-        self.refused("run-1.txt")
+        service = self.start()
+        self.assertEqual(service.end(), 1)
+        self.assertRegex(service.lines[-1], "run-1.txt can't be continued: ")
         self.assertTrue(path.exists())
-
-    def test_a_folder_that_can_not_be_used(self) -> None:
-        self.file("plain", "")
-        self.refused("Not a directory", folder=self.path("plain/runs"))
-        self.assertEqual(self.lines, 1)
-
-    def test_a_record_that_can_not_be_read(self) -> None:
-        os.mkdir(self.path("runs"))
-        self.file("runs/run-1.json", "{")
-        self.refused("run-1.json is no record of a run")
-        self.assertEqual(self.lines, 1)
-
-    def test_a_server_that_can_not_start_at_first(self) -> None:
-        self.refused(f"no server at port {self.port}: its process has ended", program="/bin/false")
 
     def test_a_program_that_is_named_from_here(self) -> None:
         """The keeper, which starts it, is in another folder."""
         with self.serving(program=os.path.relpath(tested_program())):
-            self.assertEqual(self.ask("PEEK"), ["NONE"])
+            self.has_left(0)
 
     def test_a_server_that_can_not_start_later_is_tried_again(self) -> None:
         program = self.path("program")
@@ -95,7 +88,7 @@ class FolderTest(ServiceTest):
             service.wait("not-listening")
             os.rename(f"{program}.away", program)
             service.wait("not-listening-over")
-            self.assertEqual(self.ask("SIZE"), ["SIZE 0"])
+            self.has_left(0)
 
     def test_a_machine_that_was_off(self) -> None:
         """An hour later by its date, or with a date that was set back."""

@@ -56,11 +56,10 @@ class OpeningTest(unittest.TestCase):
         self.assertEqual(text_of(made), "history 3\nopen 3 5000 1\nkeep 2 1000 2 1000 1 b\nend 0\n")
         self.assertEqual(left_of(text_of(made)).elements, made.elements)
 
-    def test_the_moment_does_not_go_back_behind_the_last_event(self) -> None:
-        self.assertEqual(opening_after(left_of(HISTORY), {}, 10).moment, 1000)
-
-    def test_no_moment_passes_what_a_text_can_tell(self) -> None:
-        self.assertEqual(opening_after(left_of(HISTORY), {}, 2**64 + 5).moment, 2**64 - 1)
+    def test_its_moment(self) -> None:
+        """It does not go back behind the last event, and none passes what a text can tell."""
+        for moment, wanted in ((10, 1000), (5000, 5000), (2**64 + 5, 2**64 - 1)):
+            self.assertEqual(opening_after(left_of(HISTORY), {}, moment).moment, wanted)
 
     def test_ids_rise_above_all_that_a_lost_run_could_have_given(self) -> None:
         before, aside = Left(500, 7, {b"3": b"9 3 9 1 a"}), {b"4": b"90 4 90 1 b"}

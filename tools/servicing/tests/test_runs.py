@@ -62,12 +62,11 @@ class RunsTest(ServiceTest):
             told = service.all("lost-run")[0]
             self.assertEqual((told["run"], told["opening"], told["level"]), ("2", "500", "error"))
             self.assertIn("the 500 elements that it began with are in the queue again", told["text"])
-            size, offered = self.ask("SIZE", "OFFER 0 other")
-            self.assertEqual(size, "SIZE 500")
-            self.assertGreaterEqual(self.numbers(offered)[0], 500 + 5000)
-            self.assertGreater(self.numbers(offered)[0], lost)
+            self.has_left(500)
+            offered = self.numbers(self.ask("OFFER 0 other")[0])[0]
+            self.assertGreaterEqual(offered, max(500 + 5000, lost + 1))
         with self.serving():
-            self.assertEqual(self.ask("SIZE"), ["SIZE 501"])
+            self.has_left(501)
 
     def test_calls_and_sessions_run_out(self) -> None:
         """Sessions unseen."""
@@ -75,7 +74,7 @@ class RunsTest(ServiceTest):
         self.offer(54)
         service.wait("serving", 2)
         self.assertEqual(service.all("ending")[0]["why"], "calls")
-        self.assertEqual(self.ask("SIZE"), ["SIZE 54"])
+        self.has_left(54)
         self.ends(service)
         with self.serving("--sessions", "20") as service:
             for _ in range(40):
@@ -89,7 +88,7 @@ class RunsTest(ServiceTest):
         (folder / "run-3.txt").write_text(history, encoding="ascii")
         service = self.begin()
         self.assertGreaterEqual(self.numbers(self.ask("OFFER 0 new")[0])[0], 1)
-        self.until(lambda: self.ask("SIZE") == ["SIZE 2"], "both, and the service's own element no more")
+        self.has_left(2)
         self.assertEqual(service.all("serving")[0]["run"], "4")
         self.assertEqual((folder / "run-3.txt").read_text(encoding="ascii"), history)
 

@@ -1,5 +1,6 @@
 """What a service that runs shows over HTTP and in a terminal, through rollovers and a killed server, and what it tells
 systemd."""
+import contextlib
 import http.client
 import os
 import re
@@ -12,7 +13,7 @@ from unittest import mock
 from checking.testing import run_tool
 from common.program import tested_program
 from servicing.saying import notify
-from servicing.tests.process import Service, ServiceTest
+from servicing.tests.process import ServiceTest
 from servicing.tests.test_metrics import PROMTOOL, promtool
 from serving.server import free_port
 
@@ -24,17 +25,14 @@ class ShownTest(ServiceTest):
         super().setUp()
         self.page = free_port()
 
-    def begin_shown(self, *options: object) -> Service:
-        return self.begin("--http", f"127.0.0.1:{self.page}", "--stop-within", "2s", *options)
-
     def get(self, path: str) -> tuple[int, str]:
-        connection = http.client.HTTPConnection("127.0.0.1", self.page, timeout=PATIENCE)
-        try:
+        with contextlib.closing(http.client.HTTPConnection("127.0.0.1", self.page, timeout=PATIENCE)) as connection:
             connection.request("GET", path)
             answer = connection.getresponse()
             return answer.status, answer.read().decode()
-        finally:
-            connection.close()
+
+    def status(self) -> subprocess.CompletedProcess[str]:
+        return run_tool("service", "--status", "--folder", self.path("runs"))
 
     def metric(self, name: str) -> float:
         """The value of a metric, which promtool takes if it is there."""
@@ -45,9 +43,8 @@ class ShownTest(ServiceTest):
         return float(found[1]) if found else -1.0
 
     def test_what_is_counted_goes_on_through_rollovers_and_a_lost_run(self) -> None:
-        service = self.begin_shown("--every", "4s")
-        status, health = self.get("/health")
-        self.assertEqual((status, health.partition(", ")[0]), (200, f"port {self.port}: serving"))
+        service = self.begin("--every", "4s", "--stop-within", "2s", "--http", f"127.0.0.1:{self.page}")
+        self.assertEqual(self.get("/health")[0], 200)
         self.offer(20)
         self.until(lambda: self.metric("offered_total") == 20 and self.metric("elements") == 20, "20 offers")
         service.wait("serving", 2)
@@ -58,28 +55,19 @@ class ShownTest(ServiceTest):
         self.until(lambda: self.metric("lost_runs_total") == 1 and self.get("/health")[0] == 200, "a lost run")
         self.assertEqual(self.metric("lost_run_opening_elements"), 20)
         self.assertEqual(self.metric("offered_total"), 20)
-        self.assertEqual(service.stop(), 0)
-        self.assertRaises(ConnectionRefusedError, self.get, "/health")
-
-    def test_the_status(self) -> None:
-        service = self.begin("--every", "1h")
-        self.offer(3)
-        self.until(lambda: ", 3 elements" in self.status().stdout, "three elements")
         shown = self.status()
         self.assertEqual((shown.returncode, shown.stderr), (0, ""))
-        self.assertRegex(shown.stdout, rf"^port {self.port}: serving, run 1, 3 elements")
+        self.assertRegex(shown.stdout, rf"^port {self.port}: 1 alert, [a-z]+, run [0-9]+, 20 elements, .*1 lost run")
         self.assertEqual(service.stop(), 0)
+        self.assertRaises(ConnectionRefusedError, self.get, "/health")
         self.assertEqual(self.status().returncode, 1)
 
-    def status(self) -> subprocess.CompletedProcess[str]:
-        return run_tool("service", "--status", "--folder", self.path("runs"))
-
     def test_an_address_that_can_not_be_had(self) -> None:
-        self.begin_shown()
-        other = ("--port", free_port(), "--folder", self.path("other"), "--program", tested_program())
-        ran = run_tool("service", *other, "--http", f"127.0.0.1:{self.page}")
+        self.enterContext(socket.create_server(("127.0.0.1", self.page)))
+        ran = run_tool("service", "--port", self.port, "--folder", self.path("other"), "--program", tested_program(),
+                       "--http", f"127.0.0.1:{self.page}")
         says = f"service: --http 127.0.0.1:{self.page}: Address already in use\n"
-        self.assertEqual((ran.returncode, ran.stderr[-len(says):]), (1, says))
+        self.assertEqual((ran.returncode, ran.stderr), (1, says))
 
 
 class NotifyingTest(ServiceTest):

@@ -1,9 +1,8 @@
 """What `ss` prints, and what is read from it."""
 import os
-import tempfile
-import unittest
 from unittest import mock
 
+from checking.testing import RoomTest
 from servicing.sockets import Unwatchable, connections_in, look_at
 from servicing.tests.support import connection
 
@@ -28,7 +27,7 @@ ESTAB  0      0       10.0.0.2:44070 10.0.0.7:7011 users:(("other",pid=7,fd=5)) 
 """
 
 
-class SocketsTest(unittest.TestCase):
+class SocketsTest(RoomTest):
     def test_what_is_listed(self) -> None:
         self.assertEqual(connections_in(LISTED, 7011), [
             connection(44070, key="127.0.0.1:44070 2004", is_served=False, receive_queue=5, heard=1208, told=1244),
@@ -48,18 +47,10 @@ class SocketsTest(unittest.TestCase):
         self.assertEqual(connections_in("", 7011), [])
         self.assertEqual(connections_in("nonsense\n\n a b\n", 7011), [])
 
-    def said_with(self, script: str) -> str:
-        """What is said where the command ss is this script, or missing if that is empty."""
-        with tempfile.TemporaryDirectory(prefix="rb-test-") as room:
-            if script:
-                with open(f"{room}/ss", "w", encoding="ascii") as file:
-                    file.write(script)
-                os.chmod(f"{room}/ss", 0o755)
-            with mock.patch.dict(os.environ, PATH=room), self.assertRaises(Unwatchable) as raised:
-                look_at(25999)
-        return str(raised.exception)
-
     def test_where_ss_is_missing_or_fails(self) -> None:
-        self.assertEqual(self.said_with(""), "the command ss is not there, which iproute2 brings")
         script = "#!/bin/sh\necho 'Cannot open netlink socket' >&2\nexit 1\n"
-        self.assertEqual(self.said_with(script), "the command ss failed: Cannot open netlink socket")
+        for name, said in (("no", "[Errno 2] No such file or directory: 'ss'"), ("ss", "Cannot open netlink socket")):
+            os.chmod(self.file(f"{name}/{name}", script), 0o755)
+            with mock.patch.dict(os.environ, PATH=self.path(name)), self.assertRaises(Unwatchable) as raised:
+                look_at(25999)
+            self.assertEqual(str(raised.exception), f"the command ss of iproute2 failed: {said}")

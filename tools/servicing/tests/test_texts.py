@@ -1,9 +1,8 @@
 """What is shown of states that were written by hand, on the page and in a terminal alike."""
-import dataclasses
 import unittest
 
 from servicing.shown import attention, headline, since, tables, text
-from servicing.state import Phase, Queue, State
+from servicing.state import Queue
 from servicing.tests.support import AT, CLIENTS, FULL_DISK, HELD, connection, first_state, state, troubled_state
 
 STATUS = """\
@@ -24,7 +23,7 @@ Numbers
   Runs since the folder exists, this one included                              12
   When the run began                                                           2026-11-26 06:53:20
   Elements with which the run began                                            1,200
-  Elements beyond those that an opening may have, which wait in a file         0
+  Elements beyond those that an opening may have, which wait in a file         7
   Calls of the run that were used, as far as was seen                          400,000
   Calls for which the run has room                                             1,000,000
   Sessions of the run that were used, as far as was seen                       57
@@ -59,10 +58,6 @@ that failed and could not come back, since the run was full
 class TextsTest(unittest.TestCase):
     maxDiff = None
 
-    def value(self, meaning: str, state: State) -> str | None:
-        """What stands behind a number that means this."""
-        return {row[0]: row[1] for row in tables(state)[0].rows}.get(meaning)
-
     def test_a_service_with_runs_behind_it(self) -> None:
         self.assertEqual(text(state()), STATUS)
 
@@ -84,14 +79,8 @@ class TextsTest(unittest.TestCase):
         self.assertEqual((clients.rows, runs.rows), ([], []))
 
     def test_lateness(self) -> None:
-        meaning = "Time since the first element expired, below 0 before it does, 0 without one"
         for late, says in ((-65.0, "-65.0 s"), (0.0, "0 ns"), (0.004, "4.00 ms"), (86_400.5, "24.0 h")):
-            self.assertEqual(self.value(meaning, state(queue=Queue(AT, 1, late))), says)
-
-    def test_elements_in_a_file(self) -> None:
-        run = dataclasses.replace(HELD, aside=2)
-        meaning = "Elements beyond those that an opening may have, which wait in a file"
-        self.assertEqual(self.value(meaning, state(phase=Phase.BETWEEN, run=run)), "2")
+            self.assertEqual(tables(state(queue=Queue(AT, 1, late)))[0].rows[1][1], says)
 
     def test_more_than_are_listed(self) -> None:
         waiting = tuple(connection(40_000 + it, is_served=False) for it in range(130))

@@ -12,19 +12,16 @@ from servicing.tests.support import SECOND, reading
 
 
 class ClockTest(unittest.TestCase):
-    def test_time_passes_while_the_machine_goes_on(self) -> None:
-        self.assertEqual(elapsed(reading(up=100), reading(up=160.5)), int(60.5 * SECOND))
-
-    def test_a_date_that_is_set_changes_nothing_while_the_machine_goes_on(self) -> None:
-        for date in (0, 1_700_000_000 - 3600, 1_700_000_000 + 3600):
-            self.assertEqual(elapsed(reading(up=100), reading(up=101, date=date)), SECOND)
-
-    def test_a_machine_that_was_off_counts_by_its_date(self) -> None:
-        later = reading(up=5, date=1_700_000_000 + 7200, boot="boot-2")
-        self.assertEqual(elapsed(reading(up=9000), later), 7200 * SECOND)
-
-    def test_a_date_that_was_set_back_over_a_restart_counts_as_no_time(self) -> None:
-        self.assertEqual(elapsed(reading(up=9000), reading(up=5, date=1_600_000_000, boot="boot-2")), 0)
+    def test_the_time_between_two_readings(self) -> None:
+        date, other = 1_700_000_000, "boot-2"
+        for what, since, now, seconds in (
+            ("the machine goes on", reading(100), reading(160.5), 60.5),
+            *(("its date is set meanwhile", reading(100), reading(101, it), 1) for it in (0, date - 3600, date + 3600)),
+            ("it was off, and counts by its date", reading(9000), reading(5, date + 7200, other), 7200),
+            ("its date was set back over a restart", reading(9000), reading(5, 1_600_000_000, other), 0),
+        ):
+            with self.subTest(what):
+                self.assertEqual(elapsed(since, now), int(seconds * SECOND))
 
     def test_the_machine_has_these_clocks(self) -> None:
         one, two = read_clock(), read_clock()
