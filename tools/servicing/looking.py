@@ -6,13 +6,12 @@ from collections import deque
 from typing import Sequence
 
 from servicing.session import OwnSession, Told
-from servicing.sockets import Connection, look_at
+from servicing.sockets import MOMENT, Connection, look_at
 from servicing.state import Queue, Run, Supply
 
 ASK = 5.0  # seconds from one question to the server to the next
 
 WINDOW, SHORTEST = 60.0, 5.0  # seconds over which a pace is measured
-MOMENT = 1_000  # milliseconds; a client that has waited for longer waits indeed
 MANY = 100  # sessions whose length is remembered
 
 
@@ -57,12 +56,14 @@ class Looks:
         self._lasted: deque[float] = deque(maxlen=MANY)  # seconds that others were served, until they left
         self._crowded = self._unseen = 0  # sessions of a crowd, and with visits all that no look lists
         self._free_since: float | None = None  # when a worker was first free since all of them were busy
-        self._session_pace, self._call_pace = Pace(), Pace()
+        self._session_pace, self._call_pace, self._offer_pace, self._left_pace = Pace(), Pace(), Pace(), Pace()
         self._used_calls = 0
         self.queue: Queue | None = None
         self.moment: int | None = None
         self.began: int | None = None  # when the server's clock began to go at the latest, by `clock.up_time`
         self.offered = self.left = 0  # elements of this run; a job that came back is offered again
+        self.offered_a_second: float | None = None
+        self.left_a_second: float | None = None
 
     def look(self, between: float = ASK) -> None:
         """Looks at the connections, and asks the server if that is so long ago. Raises an `Unwatchable`."""
@@ -123,7 +124,10 @@ class Looks:
         # One call for each id, one for each element that has left, and the looks; that of a probe was counted twice.
         calls = ids + self.left + own.calls - own.probes
         self._used_calls = max(self._used_calls, min(calls, record.calls))
-        self._call_pace.add(time.monotonic(), self._used_calls)
+        for pace, number in ((self._call_pace, self._used_calls), (self._offer_pace, self.offered),
+                             (self._left_pace, self.left)):
+            pace.add(time.monotonic(), number)
+        self.offered_a_second, self.left_a_second = self._offer_pace.a_second, self._left_pace.a_second
 
     @property
     def sessions(self) -> Supply:

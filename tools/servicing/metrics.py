@@ -6,15 +6,24 @@ import time
 from typing import Any, Iterator
 
 from reporting.units import SECOND, number, span
+from servicing.sockets import SILENT_FROM
 from servicing.state import State
+
+PACE = "_a_second"  # a number of the table alone: Prometheus makes paces of counters
 
 # The name of each number, which attribute of the state it is, and what it means.
 NUMBERS: tuple[tuple[str, str, str], ...] = (
     ("elements", "queue.elements", "Elements in the queue, expired or not"),
     ("head_late_seconds", "queue.late", "Time since the first element expired, below 0 before it does, 0 without one"),
     ("queue_time_seconds", "queue.at", "When the server last answered about its queue"),
+    ("offered_a_second", "offered_a_second", "Offers a second, in the last minute"),
+    ("left_a_second", "left_a_second", "Gives a second, in the last minute"),
+    ("failed_a_second", "failed_a_second", "Failures a second, in the last run that has ended in good order"),
     ("clients_served", "served", "Clients that have a worker"),
     ("clients_waiting", "waiting", "Clients that wait for a worker"),
+    ("clients_silent", "silent", f"Clients that said nothing for {SILENT_FROM:g} seconds"),
+    ("longest_silence_seconds", "silence", "The longest of these silences, or 0"),
+    ("clients_not_reading", "not_reading", "Clients that do not read their replies"),
     ("workers", "workers", "Clients that can be served at once"),
     ("offered_total", "traffic.offered", "Elements that were offered, jobs that came back among them"),
     ("left_total", "traffic.left", "Elements that were given, removed or cleared"),
@@ -25,8 +34,10 @@ NUMBERS: tuple[tuple[str, str, str], ...] = (
     ("elements_aside", "run.aside", "Elements beyond those that an opening may have, which wait in a file"),
     ("run_calls", "calls.used", "Calls of the run that were used, as far as was seen"),
     ("run_calls_limit", "calls.limit", "Calls for which the run has room"),
+    ("run_calls_left_seconds", "calls.lasts", "Time until none of them is left, at the pace of the last minute"),
     ("run_sessions", "sessions.used", "Sessions of the run that were used, as far as was seen"),
     ("run_sessions_limit", "sessions.limit", "Sessions for which the run has room"),
+    ("run_sessions_left_seconds", "sessions.lasts", "Time until none of them is left, at that pace"),
     ("last_run_closed_seconds", "last.end.closed", "Time between the last two runs without a server for new clients"),
     ("last_run_cut_sessions", "last.end.cut", "Sessions that were cut at the end of the last run"),
     ("last_run_lost_jobs", "last.end.lost_jobs", "Jobs of the last run that failed and could not come back"),
@@ -62,18 +73,21 @@ def told(name: str, value: float) -> str:
         return date(value)
     if name.endswith("_seconds"):
         return span_of(value)
-    return number(int(value))
+    return f"{value:,.2f}" if name.endswith(PACE) else number(int(value))
 
 
 def metrics(state: State) -> str:
     """The text of all metrics."""
     port = f'port="{state.port}"'
+    run = {f'{port},run="{state.run_id}"': 1} if state.run else {}
     named = {f'{port},name="{it}"': 1 for it in sorted({it.name for it in state.alerts})}
     return "".join((
         _metric("up", "Whether a server serves clients", {port: int(state.is_up)}),
         _metric("healthy", "Whether /health says 200", {port: int(state.is_healthy)}),
         _metric("alert", "What an operator has to know of, by its name, for as long as it is so", named),
-        *(_metric(name, meaning, {port: value}) for name, meaning, value in numbers(state))))
+        _metric("run_info", "The run, whose id no other run has", run),
+        *(_metric(name, meaning, {port: value}) for name, meaning, value in numbers(state)
+          if not name.endswith(PACE))))
 
 
 def _metric(name: str, meaning: str, values: dict[str, Any]) -> str:

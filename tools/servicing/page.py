@@ -17,6 +17,7 @@ ALLOWS = "; connect-src 'self'"
 
 def page(state: State) -> str:
     """The page that shows a state."""
+    links = {str(it.number): f'<a href="runs/{it.number}">{it.number}</a>' for it in state.runs if it.has_history}
     alerts = "".join(f"<p>{escape(it)}</p>\n" for it in attention(state))
     return "".join((
         head(f"{headline(state)}: rb_broker {state.port}", STYLE, SCRIPT, ALLOWS),
@@ -24,7 +25,7 @@ def page(state: State) -> str:
         "<noscript><p>Without JavaScript this page stays as it was loaded.</p></noscript></header>\n",
         f'<main><section id="state" class="{_kind(state)}"><p>{escape(since(state))}</p></section>\n',
         f'<section id="attention"><h2>What needs attention</h2>{alerts or "<p>Nothing.</p>"}</section>\n',
-        *map(_section, tables(state)),
+        *(_section(it, links if it.title == "Runs" else {}) for it in tables(state)),
         '</main><footer><p class="note"><a href="metrics">metrics</a> <a href="health">health</a></p></footer>\n',
         f"<script>{SCRIPT}</script>\n</body>\n</html>\n"))
 
@@ -35,9 +36,11 @@ def _kind(state: State) -> str:
     return "fair" if state.phase in (Phase.STARTING, Phase.BETWEEN) and not state.alerts else "bad"
 
 
-def _section(table: Table) -> str:
+def _section(table: Table, links: dict[str, str]) -> str:
+    """A table, with the links that take the place of its first cells."""
     heads = "".join(f'<th scope="col">{it}</th>' for it in table.heading)
-    rows = "".join(f"<tr>{''.join(f'<td>{escape(it)}</td>' for it in row)}</tr>\n" for row in table.rows)
+    told = ([links.get(first, escape(first)), *(escape(it) for it in more)] for first, *more in table.rows)
+    rows = "".join(f"<tr>{''.join(f'<td>{it}</td>' for it in row)}</tr>\n" for row in told)
     notes = "".join(f'<p class="note">{it}</p>' for it in table.notes)
     return (f'<section id="{table.title.split()[0].lower()}"><h2>{table.title}</h2><div class="scrolled"><table><thead>'
             f"<tr>{heads}</tr></thead>\n<tbody>{rows}</tbody></table></div>{notes}</section>\n")

@@ -24,7 +24,7 @@ class Showing:
 
     def __init__(self, settings: Settings, runs: Runs, board: Board) -> None:
         self._board, self._history = board, runs
-        self._state = replace(board.state, workers=settings.workers)
+        self._state = replace(board.state, workers=settings.workers, id=runs.folder.id)
         self.run: Run | None = None
         self.looks: Looks | None = None
         self.waits_for: tuple[str, ...] = ()
@@ -62,7 +62,8 @@ class Showing:
             traffic = traffic._replace(offered=traffic.offered + looks.offered, left=traffic.left + looks.left)
         # No counter falls, not even if the end of a run corrects it: that would look like a reset.
         traffic = Traffic(*(max(pair) for pair in zip(traffic, self._state.traffic)))
-        seen = {it: getattr(looks, it, None) for it in ("queue", "clients", "calls", "sessions")}
+        seen = {it: getattr(looks, it, None) for it in (
+            "queue", "clients", "calls", "sessions", "offered_a_second", "left_a_second")}
         self._state = state = replace(
             self._state, at=time.time(), waits_for=self.waits_for, run=self.run, traffic=traffic, runs=runs,
             lost_runs=self._history.lost, alerts=(*self._raised.values(), *self._alerts(runs)),

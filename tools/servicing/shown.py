@@ -44,13 +44,14 @@ def attention(state: State) -> list[str]:
 
 def tables(state: State) -> tuple[Table, ...]:
     clients, runs = state.clients or (), state.runs
+    present = [_present(state, state.run)] if state.run and state.run.number not in {it.number for it in runs} else []
     return (
         Table("Numbers", ("what", "value"), [(meaning, told(name, value)) for name, meaning, value in numbers(state)],
               left=2),
         Table("Clients", ("client", "program", "last heard", "not read by it", "not read by the server", ""),
               [*map(_client, clients[:MOST_CLIENTS])], left=6, notes=_unlisted(len(clients) - MOST_CLIENTS)),
-        Table("Runs that have ended", ("run", "began", "lasted", "at the start", "calls", "left", "how it ended"),
-              [*map(_run, runs[:MOST_RUNS])], left=7, notes=_unlisted(len(runs) - MOST_RUNS)),
+        Table("Runs", ("run", "began", "lasted", "at the start", "calls", "left", "how it ended"),
+              present + [*map(_run, runs[:MOST_RUNS])], left=7, notes=_unlisted(len(runs) - MOST_RUNS)),
     )
 
 
@@ -60,14 +61,24 @@ def _unlisted(more: int) -> list[str]:
 
 def _client(it: Connection) -> list[str]:
     heard = "" if it.heard is None else f"{span_of(it.heard / 1000)} ago"
-    does = "waits for a worker" if not it.is_served else "has hung up" if it.has_hung_up else ""
+    does = ("waits for a worker" if not it.is_served else "has hung up" if it.has_hung_up else
+            "does not read" if it.is_unread else "says nothing" if it.silence else "")
     return [str(it.port), it.program or "?", heard, f"{it.send_queue:,} B", f"{it.receive_queue:,} B", does]
+
+
+def _present(state: State, run: Run) -> list[str]:
+    used, left = state.calls.used if state.calls else None, state.queue.elements if state.queue else None
+    return _told(run, state.at - run.date, used, left, "it goes on" if state.is_up else f"it is {state.phase.value}")
 
 
 def _run(run: Run) -> list[str]:
     assert run.end
-    known = ("?" if it is None else number(it) for it in (run.opening, run.end.calls, run.end.left))
-    return [str(run.number), date(run.date), span_of(run.lasted), *known, "; ".join(_says(run))]
+    return _told(run, run.lasted, run.end.calls, run.end.left, "; ".join(_says(run)))
+
+
+def _told(run: Run, lasted: float, calls: int | None, left: int | None, says: str) -> list[str]:
+    known = ("?" if it is None else number(it) for it in (run.opening, calls, left))
+    return [str(run.number), date(run.date), span_of(lasted), *known, says]
 
 
 def _says(run: Run) -> Iterator[str]:

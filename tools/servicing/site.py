@@ -3,8 +3,10 @@
     /         the page
     /metrics  the numbers, as Prometheus reads them
     /health   the status as text: 200 as long as clients are served, or will be within seconds, and otherwise 503
+    /runs/N   the report on a run that has ended
 
-Whatever clients send, or leave out, the service goes on: they are answered from the board alone. The same is always
+Whatever clients send, or leave out, the service goes on: they are answered from the board, and from histories that are
+kept, alone. The same is always
 answered at the socket `status` in the folder, for `tools/service --status`: who may use the folder may connect there.
 """
 from __future__ import annotations
@@ -18,6 +20,7 @@ from servicing.folder import Unusable
 from servicing.http import Answer, HttpServer, is_loopback, short_name
 from servicing.metrics import metrics
 from servicing.page import page
+from servicing.reports import report_on
 from servicing.saying import say
 from servicing.shown import text
 from servicing.state import Board
@@ -31,7 +34,7 @@ def serve_pages(board: Board, folder: str, http: tuple[str, int] | None) -> None
     that can't be had."""
 
     def answer(path: str) -> Answer | None:
-        return answer_of(board, path)
+        return answer_of(board, folder, path)
 
     if http:
         try:
@@ -40,7 +43,7 @@ def serve_pages(board: Board, folder: str, http: tuple[str, int] | None) -> None
             raise Unusable(f"--http {http[0]}:{http[1]}: {fault.strerror}") from None
         if not is_loopback(http[0]):
             say("warning", "pages", text=f"{http[0]} is not a loopback address: whoever can reach it can read what the "
-                "page shows, without a password or encryption; nothing can be changed by it")
+                "page shows, and payloads in reports, without a password or encryption; nothing can be changed by it")
     path = os.path.join(folder, SOCKET)
     try:
         Path(path).unlink(missing_ok=True)
@@ -50,7 +53,7 @@ def serve_pages(board: Board, folder: str, http: tuple[str, int] | None) -> None
         say("warning", "pages", text=f"{path}: {fault.strerror}: --status does not work")
 
 
-def answer_of(board: Board, path: str) -> Answer | None:
+def answer_of(board: Board, folder: str, path: str) -> Answer | None:
     """The answer to a path. None if there is nothing."""
     state, status = board.state, HTTPStatus.OK
     if path == "/":
@@ -59,7 +62,8 @@ def answer_of(board: Board, path: str) -> Answer | None:
         return Answer(status, "text/plain; version=0.0.4", metrics(state))
     if path == "/health":
         return Answer(status if state.is_healthy else HTTPStatus.SERVICE_UNAVAILABLE, "text/plain", text(state))
-    return None
+    run = next((it for it in state.runs if it.has_history and path == f"/runs/{it.number}"), None)
+    return report_on(run, folder) if run else None
 
 
 def print_status(folder: str) -> int:

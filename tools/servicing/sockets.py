@@ -14,7 +14,11 @@ HOST, OWN = "127.0.0.1", "127.0.0.2"  # of the server, and of the service's own 
 ADDRESS_ALONE = 24  # IP_BIND_ADDRESS_NO_PORT, by which a port is chosen no earlier than it is known where it leads
 PATIENCE = 10  # seconds that the command may take
 
-_FIELD = re.compile(r"\b(ino|sk|lastrcv|lastsnd):([0-9a-f]+)")
+MOMENT = 1_000  # milliseconds; a client that has waited for longer waits indeed
+CLOSE = 50  # milliseconds between a request and its reply that do not tell which came first
+SILENT_FROM = 10.0  # seconds of silence that count
+
+_FIELD = re.compile(r"\b(ino|sk|lastrcv|lastsnd|data_segs_in|data_segs_out):([0-9a-f]+)")
 _PROGRAM = re.compile(r'users:\(\("([^"]*)",pid=(\d+)')
 
 # The states in which the server still has a connection: the client has closed its side in the second one.
@@ -38,6 +42,7 @@ class Connection:
     heard: int | None  # since something last came from the client
     told: int | None  # since something was last sent to it
     program: str  # the client's name and process, or nothing if this user may not see it
+    owes_reply: bool = False  # whether a request seems to be under way: the system counts pieces, not requests
 
     @property
     def name(self) -> str:
@@ -48,6 +53,19 @@ class Connection:
         """Whether the client has left before it had a worker, and has sent nothing that will be carried out. The end of
         what it sends is counted as a byte."""
         return not self.is_served and self.has_hung_up and self.receive_queue <= 1
+
+    @property
+    def is_unread(self) -> bool:
+        """Whether the client does not read its replies."""
+        return self.is_served and self.send_queue > 0 and self.told is not None and self.told >= MOMENT
+
+    @property
+    def silence(self) -> float:
+        """For how many seconds the client has said nothing, though a worker waits for it. 0 if that does not count."""
+        if not self.is_served or self.has_hung_up or self.is_unread or self.heard is None or self.told is None:
+            return 0.0
+        is_in_call = self.heard < self.told + (CLOSE if self.owes_reply else -CLOSE)
+        return 0.0 if is_in_call or self.heard < SILENT_FROM * 1000 else self.heard / 1000
 
 
 def own_connection(port: int, patience: float) -> socket.socket:
@@ -109,4 +127,5 @@ def _connection(line: str, programs: dict[str, str]) -> Connection:
     return Connection(
         port=int(peer.rpartition(":")[2]), key=f"{peer} {fields.get('sk', '')}", has_hung_up=state == HUNG_UP,
         is_served=fields.get("ino", "0") != "0", receive_queue=int(receive_queue), send_queue=int(send_queue),
-        heard=heard, told=told, program=programs.get(peer, ""))
+        heard=heard, told=told, program=programs.get(peer, ""),
+        owes_reply=int(fields.get("data_segs_in", 0)) > int(fields.get("data_segs_out", 0)))

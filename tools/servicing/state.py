@@ -8,7 +8,7 @@ from __future__ import annotations
 import time
 from dataclasses import dataclass, replace
 from enum import Enum
-from typing import NamedTuple
+from typing import Callable, NamedTuple
 
 from servicing.clock import Reading
 from servicing.sockets import Connection
@@ -60,6 +60,11 @@ class Supply:
     used: int
     limit: int
     a_second: float | None  # over the last minute
+
+    @property
+    def lasts(self) -> float | None:
+        """In how many seconds nothing is left at this pace."""
+        return max(self.limit - self.used, 0) / self.a_second if self.a_second else None
 
 
 class Traffic(NamedTuple):
@@ -127,6 +132,11 @@ class Run:
         return self.lost_before + self.is_lost
 
     @property
+    def has_history(self) -> bool:
+        """Whether its history is kept, of which there can be a report."""
+        return self.end is not None and not self.is_lost
+
+    @property
     def lasted(self) -> float:
         """The seconds of one that has ended."""
         return max(self.end.date - self.date, 0.0) if self.end else 0.0
@@ -149,6 +159,7 @@ class State:
     port: int
     phase: Phase
     since: float  # when that phase began
+    id: str = ""  # the folder's, which no other has
     why: Reason | None = None  # in ENDING, BETWEEN and STOPPED: why the run ends
     waits_for: tuple[str, ...] = ()  # what the phase waits for, a text each: clients that hold a run up, a full disk
     run: Run | None = None
@@ -158,19 +169,37 @@ class State:
     calls: Supply | None = None
     sessions: Supply | None = None
     traffic: Traffic = Traffic()
+    offered_a_second: float | None = None  # over the last minute of the run
+    left_a_second: float | None = None
     runs: tuple[Run, ...] = ()  # those that have ended and are kept, the latest first
     lost_runs: int = 0  # since the folder exists
     alerts: tuple[Alert, ...] = ()
     unwritten: int = 0  # bytes of a file that can't be written, and that are in memory only
 
-    @property
-    def served(self) -> int | None:
-        """How many clients have a worker."""
-        return None if self.clients is None else sum(it.is_served for it in self.clients)
+    # How many clients have a worker, wait for one, do not read and say nothing.
+    served = property(lambda self: self._count(lambda it: it.is_served))
+    waiting = property(lambda self: self._count(lambda it: not it.is_served))
+    not_reading = property(lambda self: self._count(lambda it: it.is_unread))
+    silent = property(lambda self: self._count(lambda it: it.silence > 0))
+
+    def _count(self, holds: Callable[[Connection], bool]) -> int | None:
+        return None if self.clients is None else sum(map(holds, self.clients))
 
     @property
-    def waiting(self) -> int | None:
-        return None if self.clients is None else sum(not it.is_served for it in self.clients)
+    def silence(self) -> float | None:
+        """The longest silence."""
+        return None if self.clients is None else max((it.silence for it in self.clients), default=0.0)
+
+    @property
+    def run_id(self) -> str:
+        """The run's, which no other run of any service has."""
+        return f"{self.id}-{self.run.number}" if self.run else ""
+
+    @property
+    def failed_a_second(self) -> float | None:
+        """Over the last run that has ended in good order: only then is it known."""
+        it = next((it for it in self.runs if it.end and it.end.failed is not None), None)
+        return it.end.failed / max(it.lasted, 1.0) if it and it.end and it.end.failed is not None else None
 
     @property
     def last(self) -> Run | None:

@@ -40,7 +40,7 @@ AT = 1_795_680_000.5  # 2026-11-26 08:00:00 UTC
 
 CLIENTS = (
     connection(41001, heard=725_000, program="python3 11"),
-    connection(41004, heard=30_000, program="python3 12", send_queue=163_298, receive_queue=7),
+    connection(41004, heard=30_000, told=2_000, program="python3 12", send_queue=163_298, receive_queue=7),
     connection(41003, heard=2_000, is_served=False, receive_queue=7),
     connection(41000, heard=100, program="java 9", has_hung_up=True),
 )
@@ -64,8 +64,9 @@ def state(**changes: Any) -> State:
     """A service with four clients, and with a run behind it that was lost."""
     usual = State(
         at=AT, port=7011, phase=Phase.SERVING, since=AT - 3999, run=PRESENT, queue=Queue(AT - 1, 1204, 3.25), workers=8,
-        clients=CLIENTS, calls=Supply(400_000, 1_000_000, 12.5), sessions=Supply(57, 10_000, 0.5),
-        traffic=Traffic(600_000, 590_000, 16_345), runs=(ENDED, LOST, HELD), lost_runs=1)
+        clients=CLIENTS, calls=Supply(400_000, 1_000_000, 12.5), sessions=Supply(57, 10_000, 0.5), id="abc",
+        traffic=Traffic(600_000, 590_000, 16_345), offered_a_second=1234.5, left_a_second=0.25,
+        runs=(ENDED, LOST, HELD), lost_runs=1)
     return dataclasses.replace(usual, **changes)
 
 

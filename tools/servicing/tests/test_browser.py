@@ -58,7 +58,7 @@ class ServedTest(PageTest):
         self.assertEqual(self.browser.complaints, [])
 
     def begin(self, port: int) -> None:
-        self.server = HttpServer(("127.0.0.1", port), lambda path: answer_of(self.board, path))
+        self.server = HttpServer(("127.0.0.1", port), lambda path: answer_of(self.board, "/nowhere", path))
 
     def stop(self) -> None:
         self.server.shutdown()

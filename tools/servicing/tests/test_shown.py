@@ -8,6 +8,7 @@ import signal
 import socket
 import subprocess
 import threading
+from pathlib import Path
 from unittest import mock
 
 from checking.testing import run_tool
@@ -17,7 +18,7 @@ from servicing.tests.process import ServiceTest
 from servicing.tests.test_metrics import PROMTOOL, promtool
 from serving.server import free_port
 
-PATIENCE = 30
+PATIENCE = 120  # for a report, which gives way to all other processes
 
 
 class ShownTest(ServiceTest):
@@ -49,6 +50,10 @@ class ShownTest(ServiceTest):
         self.until(lambda: self.metric("offered_total") == 20 and self.metric("elements") == 20, "20 offers")
         service.wait("serving", 2)
         self.until(lambda: self.metric("runs_total") >= 2, "another run")
+        status, report = self.get("/runs/1")
+        self.assertEqual((status, "<h1>" in report), (200, True), report[:200])
+        identity = Path(self.path("runs/id")).read_text("utf-8").strip()
+        self.assertIn(f',run="{identity}-{int(self.metric("runs_total"))}"}} 1\n', self.get("/metrics")[1])
         self.assertEqual(self.metric("offered_total"), 20)
         self.assertEqual(self.metric("lost_runs_total"), 0)
         os.kill(service.server, signal.SIGKILL)

@@ -1,13 +1,18 @@
-"""What is answered to each path, from states that were written by hand; the page as a text; and the status."""
+"""What is answered to each path, from states that were written by hand and from reports that tools/report makes; the
+page as a text; and the status."""
 import contextlib
+import gzip
 import io
 import os
+import re
 import socket
 import unittest
 from html import unescape
 from unittest import mock
 
 from checking.testing import RoomTest
+from histories.tests.support import RUN
+from servicing import reports
 from servicing import state as served
 from servicing.folder import Unusable
 from servicing.http import Answer, short_name
@@ -16,15 +21,16 @@ from servicing.page import page
 from servicing.shown import text
 from servicing.site import answer_of, print_status, serve_pages
 from servicing.state import Board, Phase
-from servicing.tests.support import FULL_DISK, first_state, state, troubled_state
+from servicing.tests.support import ENDED, FULL_DISK, HELD, LOST, connection, first_state, state, troubled_state
 
 
-class PathsTest(unittest.TestCase):
+class PathsTest(RoomTest):
     def setUp(self) -> None:
+        super().setUp()
         self.board = Board(7011)
 
     def answer(self, path: str) -> Answer:
-        answer = answer_of(self.board, path)
+        answer = answer_of(self.board, self.room, path)
         assert answer is not None
         return answer
 
@@ -37,8 +43,8 @@ class PathsTest(unittest.TestCase):
         for path, kind, says in (("/", "text/html", page(state())), ("/health", "text/plain", text(state())),
                                  ("/metrics", "text/plain; version=0.0.4", metrics(state()))):
             self.assertEqual(self.answer(path), (200, kind, says))
-        for path in ("", "/page", "/metrics/", "/runs/11", "/../health"):
-            self.assertIsNone(answer_of(self.board, path), path)
+        for path in ("", "/page", "/metrics/", "/../health", "/runs/", "/runs/011", "/runs/11/", "/runs/../runs/11"):
+            self.assertIsNone(answer_of(self.board, self.room, path), path)
 
     def test_health(self) -> None:
         for phase, status in ((Phase.STARTING, 503), (Phase.SERVING, 200), (Phase.ENDING, 200), (Phase.BETWEEN, 503),
@@ -58,7 +64,45 @@ class PathsTest(unittest.TestCase):
             self.assertIn('rb_broker_alert{port="7011",name="stale"} 1\n', self.answer("/metrics").text)
 
 
+    def test_reports(self) -> None:
+        """Of histories of ended runs that are kept, whole, compressed or not."""
+        self.enterContext(mock.patch.object(reports, "NICENESS", 0))  # so that other tests do not come first
+        self.board.put(state())
+        for number in (8, 10, 12):  # of a run that is not kept, of one that was lost, and of the present one
+            self.file(f"run-{number}.txt", RUN)
+        self.file("run-9.txt", "history 3\n")
+        for number in (8, 10, 11, 12):
+            self.assertIsNone(answer_of(self.board, self.room, f"/runs/{number}"), number)
+        damaged = self.answer("/runs/9")
+        self.assertEqual((damaged.status, damaged.kind), (500, "text/plain"))
+        self.assertRegex(damaged.text, f"^there is no report: report: {self.room}/run-9.txt: .*\n$")
+        with open(self.path("run-11.txt.gz"), "wb") as file:
+            file.write(gzip.compress(RUN.encode()))
+        answer = self.answer("/runs/11")
+        self.assertEqual((answer.status, answer.kind), (200, "text/html"))
+        self.assertIn("<h1>", answer.text)
+        self.assertIn("2026-11-26 05:53:20", answer.text, "the run began 7,600 seconds before 08:00:00.5")
+        for name, limit, says in (("MOST_SECONDS", 0.05, "timed out"), ("MOST_BYTES", 10, "larger than 10 bytes")):
+            with mock.patch.object(reports, name, limit):
+                self.assertIn(says, self.answer("/runs/11").text)
+        self.assertEqual(self.answer("/runs/11").status, 200, "what failed is tried again")
+
+    def test_one_report_at_a_time(self) -> None:
+        """Who asks meanwhile is told so at once."""
+        self.board.put(state())
+        self.file("run-11.txt", RUN)
+        meanwhile: list[Answer] = []
+        with mock.patch("subprocess.run", side_effect=lambda *_, **told: meanwhile.append(self.answer("/runs/11"))):
+            self.answer("/runs/11")
+        self.assertEqual(meanwhile, [(503, "text/plain", "another report is being made: try again later\n")])
+
+
 class PageTest(unittest.TestCase):
+    def test_links_to_reports(self) -> None:
+        """Of the runs that have a history, and of no other cell of their number."""
+        told = page(state(runs=(ENDED, LOST, HELD), clients=(connection(11),)))
+        self.assertEqual(re.findall('<a href="(runs/[0-9]+)">', told), ["runs/11", "runs/9"])
+
     def test_it_loads_nothing_and_changes_nothing(self) -> None:
         """No script but its own may run."""
         text = unescape(page(troubled_state()))

@@ -1,5 +1,6 @@
 """What `ss` prints, and what is read from it."""
 import os
+from typing import Any
 from unittest import mock
 
 from checking.testing import RoomTest
@@ -30,10 +31,28 @@ ESTAB  0      0       10.0.0.2:44070 10.0.0.7:7011 users:(("other",pid=7,fd=5)) 
 class SocketsTest(RoomTest):
     def test_what_is_listed(self) -> None:
         self.assertEqual(connections_in(LISTED, 7011), [
-            connection(44070, key="127.0.0.1:44070 2004", is_served=False, receive_queue=5, heard=1208, told=1244),
+            connection(44070, key="127.0.0.1:44070 2004", is_served=False, receive_queue=5, heard=1208, told=1244,
+                       owes_reply=True),
             connection(44066, key="127.0.0.1:44066 2005", receive_queue=57136, send_queue=163298, heard=952, told=36,
-                       program="py?[2Jthon3 30175"),
-            connection(44056, key="127.0.0.1:44056 2008", has_hung_up=True, receive_queue=1, told=1208)])
+                       program="py?[2Jthon3 30175", owes_reply=True),
+            connection(44056, key="127.0.0.1:44056 2008", has_hung_up=True, receive_queue=1, told=1208,
+                       owes_reply=True)])
+
+    def test_who_does_not_read_and_who_says_nothing(self) -> None:
+        """A client in a call is not silent. Where both came at once, the pieces tell whether a reply is owed."""
+        rows: tuple[tuple[dict[str, Any], bool, float], ...] = (
+            ({}, False, 0), ({"heard": 10_000}, False, 10), ({"heard": 9_999}, False, 0),
+            ({"heard": 20_000, "told": 19_000}, False, 20), ({"heard": 20_000, "told": 21_000}, False, 0),
+            ({"heard": 20_000, "told": 20_000}, False, 20), ({"heard": 20_000, "told": 20_010}, False, 20),
+            ({"heard": 20_000, "told": 20_000, "owes_reply": True}, False, 0),
+            ({"heard": 20_000, "told": 19_000, "owes_reply": True}, False, 20),
+            ({"heard": 20_000, "has_hung_up": True}, False, 0), ({"heard": 20_000, "is_served": False}, False, 0),
+            ({"heard": None, "told": None, "send_queue": 1}, False, 0),
+            ({"send_queue": 1, "told": 999}, False, 0), ({"heard": 20_000, "send_queue": 1, "told": 1000}, True, 0),
+        )
+        for told, is_unread, silence in rows:
+            it = connection(**told)
+            self.assertEqual((it.is_unread, it.silence), (is_unread, silence), told)
 
     def test_another_port(self) -> None:
         self.assertEqual(connections_in(LISTED, 7012), [])

@@ -14,8 +14,14 @@ Numbers
   Elements in the queue, expired or not                                        1,204
   Time since the first element expired, below 0 before it does, 0 without one  3.25 s
   When the server last answered about its queue                                2026-11-26 07:59:59
+  Offers a second, in the last minute                                          1,234.50
+  Gives a second, in the last minute                                           0.25
+  Failures a second, in the last run that has ended in good order              1.11
   Clients that have a worker                                                   3
   Clients that wait for a worker                                               1
+  Clients that said nothing for 10 seconds                                     1
+  The longest of these silences, or 0                                          12.1 min
+  Clients that do not read their replies                                       1
   Clients that can be served at once                                           8
   Elements that were offered, jobs that came back among them                   600,000
   Elements that were given, removed or cleared                                 590,000
@@ -26,8 +32,10 @@ Numbers
   Elements beyond those that an opening may have, which wait in a file         7
   Calls of the run that were used, as far as was seen                          400,000
   Calls for which the run has room                                             1,000,000
+  Time until none of them is left, at the pace of the last minute              13.3 h
   Sessions of the run that were used, as far as was seen                       57
   Sessions for which the run has room                                          10,000
+  Time until none of them is left, at that pace                                5.52 h
   Time between the last two runs without a server for new clients              310 ms
   Sessions that were cut at the end of the last run                            0
   Jobs of the last run that failed and could not come back                     0
@@ -39,13 +47,14 @@ Numbers
 
 Clients
   client  program     last heard    not read by it  not read by the server
-  41001   python3 11  12.1 min ago  0 B             0 B
-  41004   python3 12  30.0 s ago    163,298 B       7 B
+  41001   python3 11  12.1 min ago  0 B             0 B                     says nothing
+  41004   python3 12  30.0 s ago    163,298 B       7 B                     does not read
   41003   ?           2.00 s ago    0 B             7 B                     waits for a worker
   41000   java 9      100 ms ago    0 B             0 B                     has hung up
 
-Runs that have ended
+Runs
   run  began                lasted    at the start  calls      left   how it ended
+  12   2026-11-26 06:53:20  66.7 min  1,200         400,000    1,204  it goes on
   11   2026-11-26 05:53:20  60.0 min  900           250,000    1,200  its time was over; new clients waited 310 ms
   10   2026-11-26 05:30:00  23.3 min  900           ?          ?      lost: its server was killed; the next run began \
 again with the 900 elements of its opening; new clients waited 1.25 s
@@ -85,5 +94,5 @@ class TextsTest(unittest.TestCase):
     def test_more_than_are_listed(self) -> None:
         waiting = tuple(connection(40_000 + it, is_served=False) for it in range(130))
         _, clients, runs = tables(state(clients=CLIENTS + waiting, runs=(HELD,) * 105))
-        self.assertEqual([len(it.rows) for it in (clients, runs)], [32, 100])
+        self.assertEqual([len(it.rows) for it in (clients, runs)], [32, 101])
         self.assertEqual([*clients.notes, *runs.notes], ["102 more are not listed.", "5 more are not listed."])

@@ -58,7 +58,11 @@ class WatchedTest(ServingTest):
         unread = self.connect(server, receive_buffer=4096)
         unread.fill()
         taking = self.connect(server, "TAKE")
-        self.until(looks, lambda: len(looks.served) == 3 and self.seen(looks, unread).send_queue > 10_000)
+        self.until(looks, lambda: len(looks.served) == 3 and self.seen(looks, unread).is_unread)
+        self.assertGreater(self.seen(looks, unread).send_queue, 10_000)
+        self.until(looks, lambda: self.seen(looks, silent).silence >= 10)
+        self.assertEqual([it.port for it in looks.served if it.silence or it.is_unread],
+                         [silent.own_port, unread.own_port])
         self.assertEqual((looks.clients or ())[0].port, silent.own_port)
         self.assertEqual({it.program.split(" ")[-1] for it in looks.served}, {str(os.getpid())})
         self.assertEqual([len(looks.waiting), looks.count], [0, 3])
@@ -151,6 +155,8 @@ class WatchedTest(ServingTest):
             client.ask("OFFER 0 a")
         self.until(looks, lambda: looks.calls.a_second)
         self.assertEqual(looks.calls.used, 201 + looks.own.calls)
+        self.assertGreater(looks.offered_a_second or 0, 0)
+        self.assertEqual(looks.left_a_second, 0)
 
     def test_sessions_that_were_seen(self) -> None:
         """The service's own is one, and no pace."""
