@@ -25,7 +25,7 @@ def page(state: State) -> str:
         "<noscript><p>Without JavaScript this page stays as it was loaded.</p></noscript></header>\n",
         f'<main><section id="state" class="{_kind(state)}"><p>{escape(since(state))}</p></section>\n',
         f'<section id="attention"><h2>What needs attention</h2>{alerts or "<p>Nothing.</p>"}</section>\n',
-        *(_section(it, links if it.title == "Runs" else {}) for it in tables(state)),
+        *(_section(it, links if it.heading[0] == "run" else {}) for it in tables(state)),
         '</main><footer><p class="note"><a href="metrics">metrics</a> <a href="health">health</a></p></footer>\n',
         f"<script>{SCRIPT}</script>\n</body>\n</html>\n"))
 

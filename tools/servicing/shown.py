@@ -12,6 +12,7 @@ from servicing.state import Reason, Run, State
 
 MOST_CLIENTS, MOST_RUNS, MOST_HELD_BY = 32, 100, 2  # that are told one by one; and of those who held up one run
 LATE = 1.0  # seconds from which on lateness is told
+RUN = ("run", "began", "lasted", "at the start", "calls", "left")  # the columns of each run
 
 WHY = {
     Reason.ASKED: "asked to end", Reason.TIME: "its time was over", Reason.CALLS: "few calls were left",
@@ -50,8 +51,9 @@ def tables(state: State) -> tuple[Table, ...]:
               left=2),
         Table("Clients", ("client", "program", "last heard", "not read by it", "not read by the server", ""),
               [*map(_client, clients[:MOST_CLIENTS])], left=6, notes=_unlisted(len(clients) - MOST_CLIENTS)),
-        Table("Runs", ("run", "began", "lasted", "at the start", "calls", "left", "how it ended"),
-              present + [*map(_run, runs[:MOST_RUNS])], left=7, notes=_unlisted(len(runs) - MOST_RUNS)),
+        Table("This run", (*RUN, ""), present, left=7),
+        Table("Runs that have ended", (*RUN, "how it ended"), [*map(_run, runs[:MOST_RUNS])], left=7,
+              notes=_unlisted(len(runs) - MOST_RUNS)),
     )
 
 

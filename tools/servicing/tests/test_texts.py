@@ -52,9 +52,12 @@ Clients
   41003   ?           2.00 s ago    0 B             7 B                     waits for a worker
   41000   java 9      100 ms ago    0 B             0 B                     has hung up
 
-Runs
+This run
+  run  began                lasted    at the start  calls    left
+  12   2026-11-26 06:53:20  66.7 min  1,200         400,000  1,204  it goes on
+
+Runs that have ended
   run  began                lasted    at the start  calls      left   how it ended
-  12   2026-11-26 06:53:20  66.7 min  1,200         400,000    1,204  it goes on
   11   2026-11-26 05:53:20  60.0 min  900           250,000    1,200  its time was over; new clients waited 310 ms
   10   2026-11-26 05:30:00  23.3 min  900           ?          ?      lost: its server was killed; the next run began \
 again with the 900 elements of its opening; new clients waited 1.25 s
@@ -82,10 +85,10 @@ class TextsTest(unittest.TestCase):
         self.assertEqual(text(it).splitlines()[2:9], [*(f"! {it}" for it in told), ""])
 
     def test_what_is_not_known_is_left_out(self) -> None:
-        numbers, clients, runs = tables(first_state())
+        numbers, clients, run, runs = tables(first_state())
         self.assertEqual(headline(first_state()), "starting")
         self.assertEqual([row[1] for row in numbers.rows], ["0"] * 6)
-        self.assertEqual((clients.rows, runs.rows), ([], []))
+        self.assertEqual((clients.rows, run.rows, runs.rows), ([], [], []))
 
     def test_lateness(self) -> None:
         for late, says in ((-65.0, "-65.0 s"), (0.0, "0 ns"), (0.004, "4.00 ms"), (86_400.5, "24.0 h")):
@@ -93,6 +96,6 @@ class TextsTest(unittest.TestCase):
 
     def test_more_than_are_listed(self) -> None:
         waiting = tuple(connection(40_000 + it, is_served=False) for it in range(130))
-        _, clients, runs = tables(state(clients=CLIENTS + waiting, runs=(HELD,) * 105))
-        self.assertEqual([len(it.rows) for it in (clients, runs)], [32, 101])
+        _, clients, _, runs = tables(state(clients=CLIENTS + waiting, runs=(HELD,) * 105))
+        self.assertEqual([len(it.rows) for it in (clients, runs)], [32, 100])
         self.assertEqual([*clients.notes, *runs.notes], ["102 more are not listed.", "5 more are not listed."])
