@@ -89,7 +89,8 @@ def delays(program, is_async):
     """Of jobs that come one by one: the milliseconds until each begins, and those until its end is told."""
     offered, chance = {}, random.Random(7)
     with tempfile.TemporaryDirectory() as room, Server(OPTIONS, program) as server:
-        run = Run(is_async, server.port, NAP, 8, f"{room}/record")
+        record = open(f"{room}/record", "a", encoding="ascii")
+        run = Run(is_async, server.port, NAP, 8, record)
         with Producer(server.port) as producer:
             for number in range(SPARSE):
                 offered[str(number)] = time.monotonic()
@@ -97,7 +98,8 @@ def delays(program, is_async):
                 time.sleep(chance.expovariate(1 / PAUSE))
         run.await_done(SPARSE)
         run.stop()
-        with open(f"{room}/record", encoding="ascii") as file:
+        record.close()
+        with open(record.name, encoding="ascii") as file:
             lines = [json.loads(it) for it in file]
     done = [(int(it["request"].split()[1]), it["received"]) for it in lines if it["request"].startswith("DONE")]
     begins = [1e3 * (run.begun[it] - offered[it]) for it in offered]

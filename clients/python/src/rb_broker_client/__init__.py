@@ -8,26 +8,23 @@
 Delays, waits, timeouts and patience are seconds or a `timedelta`. Moments of the protocol are whole nanoseconds of the
 server's clock, under names that end in `_ns`.
 """
-from .clients import AsyncBroker, AsyncHeldJob, AsyncProducer, Broker, HeldJob, Producer
+from .broker import AsyncBroker, Broker
 from .dead_letters import DeadLetters
 from .durations import Duration, Pauses
 from .errors import (
-    BrokerError, DisconnectedError, FullError, HeldTooManyError, InDoubtError, LineRefusedError, NotHeldError,
-    NotOfferedError, NumberRefusedError, OutOfMemoryError, PayloadRefusedError, RangeRefusedError, RefusedError,
-    StoppedError, SyntaxRefusedError, UnknownReplyError,
+    BrokerError, DisconnectedError, FullError, InDoubtError, NotHeldError, NotOfferedError, OutOfMemoryError,
+    RefusedError, StoppedError, UnknownReplyError,
 )
-from .job import GREATEST_NUMBER, LONGEST_PAYLOAD, MOST_HELD, Again, Dead, Job, Offered, Report, Verdict
-from .record import RecordTarget
+from .job import Again, Dead, Job, Offered, Report, Verdict
+from .producer import AsyncProducer, Producer
 from .request import Request
-from .worker import AsyncHandler, AsyncWorker, Handler, OnDead, Worker
+from .worker import AsyncWorker, Worker
 
 __version__ = "2.0.0"
 
 __all__ = [
-    "Again", "AsyncBroker", "AsyncHandler", "AsyncHeldJob", "AsyncProducer", "AsyncWorker", "Broker", "BrokerError",
-    "Dead", "DeadLetters", "DisconnectedError", "Duration", "FullError", "GREATEST_NUMBER", "Handler", "HeldJob",
-    "HeldTooManyError", "InDoubtError", "Job", "LONGEST_PAYLOAD", "LineRefusedError", "MOST_HELD", "NotHeldError",
-    "NotOfferedError", "NumberRefusedError", "Offered", "OnDead", "OutOfMemoryError", "Pauses", "PayloadRefusedError",
-    "Producer", "RangeRefusedError", "RecordTarget", "RefusedError", "Report", "Request", "StoppedError",
-    "SyntaxRefusedError", "UnknownReplyError", "Verdict", "Worker", "__version__",
+    "Again", "AsyncBroker", "AsyncProducer", "AsyncWorker", "Broker", "BrokerError", "Dead", "DeadLetters",
+    "DisconnectedError", "Duration", "FullError", "InDoubtError", "Job", "NotHeldError", "NotOfferedError", "Offered",
+    "OutOfMemoryError", "Pauses", "Producer", "RefusedError", "Report", "Request", "StoppedError", "UnknownReplyError",
+    "Verdict", "Worker", "__version__",
 ]

@@ -1,7 +1,230 @@
-"""python3 -m rb_broker_client: see `command`."""
-import sys
+"""The package as a command: python3 -m rb_broker_client COMMAND .. --port P
 
-from .command import main
+A worker calls the function with each job, until SIGTERM or Ctrl-C, and a second one ends it at
+once. It logs to standard error, goes on looking for a server until it is stopped, and prints
+finally what became of its jobs. The module is looked for in the current folder too. A coroutine
+function runs in an event loop. The others print the server's replies as docs/PROTOCOL.md has them,
+such as `SIZE 3`. COMMAND --help has an example.
+
+Exit status: 0; 1 if there is no server, or it refuses, or something else fails; 2 if a word is
+wrong, or an option names a file that can't be used. Standard error says why.
+"""
+from __future__ import annotations
+
+import argparse
+import asyncio
+import inspect
+import logging
+import pkgutil
+import re
+import signal
+import ssl
+import sys
+from collections.abc import Callable, Iterable, Iterator
+from contextlib import contextmanager
+from functools import partial
+from typing import Any
+
+from . import __version__
+from .broker import Broker
+from .dead_letters import read_letters, take_letters
+from .durations import seconds
+from .errors import BrokerError
+from .job import MOST_HELD
+from .producer import Producer
+from .request import Request
+from .worker import AsyncWorker, Function, Worker
+
+NAME = "rb_broker_client"
+FORM = argparse.RawDescriptionHelpFormatter
+UNITS = {"ns": 1e-9, "us": 1e-6, "ms": 1e-3, "": 1, "s": 1, "m": 60, "h": 3_600, "d": 86_400}  # in seconds
+Asked = argparse.Namespace
+
+
+def main(words: list[str] | None = None) -> int:
+    """Runs the command that these words ask for. Gives the exit status."""
+    asked = _parser().parse_args(words)
+    try:
+        for line in asked.run(asked):
+            print(line, flush=True)
+        return 0
+    except KeyboardInterrupt:
+        status, text = 1, "it was broken off"
+    except (BrokerError, OSError, ArithmeticError) as fault:
+        status, text = 1, f"{asked.host}:{asked.port}: {fault}" if asked.port else str(fault)
+    except ValueError as fault:  # a payload that is none, a host that is none
+        status, text = 2, str(fault)
+    print(f"{NAME}: {text}", file=sys.stderr)
+    return status
+
+
+def _words_of_each(is_port_needed: bool) -> argparse.ArgumentParser:
+    words = argparse.ArgumentParser(add_help=False)
+    add = words.add_argument
+    add("--port", type=_whole(1, 65_535), required=is_port_needed, metavar="P", help="the server's port")
+    add("--host", default="127.0.0.1", metavar="H", help="where it is (default: 127.0.0.1)")
+    add("--patience", type=_seconds, default=5.0, metavar="SECONDS",
+        help="how long a server is looked for, and a reply waited for (default: 5)")
+    add("--record", type=argparse.FileType("a"), metavar="FILE", help="adds each request and its reply to this file")
+    add("--tls", action="store_true", help="encrypts, as the next three do; the certificate must be for --host")
+    add("--ca", metavar="FILE", help="the certificates whose owners are trusted (default: those of the system)")
+    add("--cert", metavar="FILE", help="the certificate that is shown to the server")
+    add("--key", metavar="FILE", help="its key, if it is not in the same file")
+    return words
+
+
+def _parser() -> argparse.ArgumentParser:
+    about, _, rest = (__doc__ or "").partition("\n\n")
+    parser = argparse.ArgumentParser(f"python3 -m {NAME}", description=about, epilog=rest, allow_abbrev=False,
+                                     formatter_class=FORM)
+    parser.add_argument("--version", action="version", version=f"{NAME} {__version__}")
+    commands = parser.add_subparsers(metavar="COMMAND", required=True)
+
+    def command(name: str, help: str, run: Callable[..., Iterator[str]], example: str = "") -> Callable[..., Any]:
+        added = commands.add_parser(name, help=help, description=help, parents=[_words_of_each(name != "dead")],
+                                    epilog=f"example: python3 -m {NAME} {name} {example}--port 7011",
+                                    allow_abbrev=False, formatter_class=FORM)
+        added.set_defaults(run=run)
+        return added.add_argument
+
+    add = command("worker", "calls a function with each job", _work, "letters:deliver --concurrency 8 ")
+    add("handler", type=_function, metavar="MODULE:FUNCTION", help="what is called with each job")
+    add("--concurrency", type=_whole(1, MOST_HELD), default=1, metavar="N",
+        help=f"how many jobs run at the same time, 1 to {MOST_HELD} (default: 1)")
+    add("--session", type=_seconds, default=30.0, metavar="SECONDS",
+        help="leaves a session that is so old, and begins the next (default: 30)")
+    add("--timeout", type=_seconds, metavar="SECONDS", help="fails a job that takes longer")
+    add("--on-dead", type=_function, metavar="MODULE:FUNCTION",
+        help="what is called with each job whose last attempt failed")
+    add = command("offer", "offers jobs that expire after this delay", _offer, "2s letter-17 letter-18 ")
+    add("delay", type=_delay, metavar="DELAY", help="5s, 2m, 1.5h, or a number of seconds (units: ns us ms s m h d)")
+    add("payloads", nargs="*", metavar="PAYLOAD",
+        help="1 to 64 characters of printable ASCII, no space (default: the lines of standard input)")
+    command("size", "counts the elements in the queue, expired or not", partial(_ask, lambda _: [Request.size()]))
+    command("peek", "shows an element of least expiry, expired or not", partial(_ask, lambda _: [Request.peek()]))
+    command("clear", "takes all elements out, expired or not", partial(_ask, lambda _: [Request.clear()]))
+    add = command("remove", "takes the elements of these ids out, expired or not",
+                  partial(_ask, lambda asked: map(Request.remove, asked.ids)), "17 18 ")
+    add("ids", nargs="+", type=_whole(0, 2**64 - 1), metavar="ID", help="what `OFFERED` told")
+    add = command("drain", "takes out the jobs that have expired, and finishes each", _drain, "10 ")
+    add("most", nargs="?", type=_whole(1, 10**9), default=10**9, metavar="MOST", help="how many (default: all)")
+    add = command("dead", "shows dead letters, or offers them again", _dead, "dead.jsonl --offer ")
+    add("file", metavar="FILE", help="what DeadLetters wrote")
+    add("--offer", action="store_true", help="offers each, which needs --port, and takes it out of the file")
+    return parser
+
+
+def _client(kind: Callable[..., Any], asked: Asked, *words: Any, **options: Any) -> Any:
+    """A client of this kind, as the words of each command say."""
+    tls = None
+    if asked.tls or asked.ca or asked.cert or asked.key:
+        try:
+            tls = ssl.create_default_context(cafile=asked.ca)
+            if asked.cert:
+                tls.load_cert_chain(asked.cert, asked.key)
+        except OSError as fault:  # which names no file
+            raise ValueError(f"--ca, --cert or --key can't be used: {fault}") from None
+    return kind(*words, asked.port, asked.host, patience=asked.patience, tls=tls, record=asked.record, **options)
+
+
+def _work(asked: Asked) -> Iterator[str]:
+    logging.basicConfig(level=logging.INFO, format="%(asctime)s %(levelname)s %(message)s")
+    is_async = inspect.iscoroutinefunction(asked.handler)
+    if inspect.iscoroutinefunction(asked.on_dead) and not is_async:
+        raise ValueError("--on-dead can be a coroutine function only if the handler is one")
+    worker = _client(AsyncWorker if is_async else Worker, asked, asked.handler, concurrency=asked.concurrency,
+                     session=asked.session, timeout=asked.timeout, on_dead=asked.on_dead)
+
+    def stop(number: int, _: Any) -> None:
+        signal.signal(number, signal.SIG_DFL)  # whoever asks twice does not want to wait
+        worker.stop()
+
+    for number in (signal.SIGINT, signal.SIGTERM):
+        signal.signal(number, stop)
+    report = asyncio.run(worker.run()) if is_async else worker.run()
+    yield ", ".join(f"{name} {count}" for name, count in vars(report).items())
+
+
+def _offer(asked: Asked) -> Iterator[str]:
+    with _client(Producer, asked) as producer:
+        for payload in asked.payloads or (it.rstrip("\r\n") for it in sys.stdin):
+            offered = producer.offer(payload, delay=asked.delay)
+            yield f"OFFERED {offered.id} {offered.expires_at_ns}"
+
+
+@contextmanager
+def _broker(asked: Asked) -> Iterator[Broker]:
+    """A session, which is left with `QUIT` if nothing went wrong."""
+    with _client(Broker, asked) as broker:
+        broker.await_service()  # a question that is given up before that costs no call
+        yield broker
+        broker.quit()
+
+
+def _ask(requests: Callable[[Asked], Iterable[Request[Any]]], asked: Asked) -> Iterator[str]:
+    """Shows the line of the reply to each of these requests."""
+    with _broker(asked) as broker:
+        for request in requests(asked):
+            def read(lines: Iterator[bytes]) -> str:
+                line = next(lines)
+                request.read(iter([line]))
+                return line.decode()
+
+            (answer,) = broker.ask_all([Request(request.line, read)])
+            if isinstance(answer, BrokerError):
+                raise answer
+            yield answer
+
+
+def _drain(asked: Asked) -> Iterator[str]:
+    left = asked.most
+    with _broker(asked) as broker:
+        while left and (jobs := broker.drain(min(left, MOST_HELD))):
+            for job in jobs:
+                yield f"ITEM {job.id} {job.expires_at_ns} {job.attempt} {job.payload}"
+                job.done()  # once it is printed
+            left -= len(jobs)
+
+
+def _dead(asked: Asked) -> Iterator[str]:
+    if not asked.offer:
+        yield from read_letters(asked.file)
+        return
+    if asked.port is None:
+        raise ValueError("--offer needs --port")
+    with _client(Producer, asked) as producer:
+        yield f"offered {take_letters(asked.file, producer.offer)}"
+
+
+def _whole(least: int, most: int) -> Callable[[str], int]:
+    def read(word: str) -> int:
+        if not word.isascii() or not word.isdecimal() or not least <= int(word) <= most:
+            raise argparse.ArgumentTypeError(f"{word} is not from {least} to {most}")
+        return int(word)
+
+    return read
+
+
+def _delay(word: str) -> float:
+    found = re.fullmatch(r"([0-9]+(?:\.[0-9]+)?)(|ns|us|ms|s|m|h|d)", word, re.ASCII)
+    if found is None:
+        raise argparse.ArgumentTypeError(f"{word} is no delay, such as 5s, 2m, 1.5h or 250")
+    return float(found[1]) * UNITS[found[2]]
+
+
+def _seconds(word: str) -> float:
+    return seconds(float(word))
+
+
+def _function(word: str) -> Function:
+    try:
+        found: Function = pkgutil.resolve_name(word)
+    except Exception as fault:  # whatever goes wrong in a module of the caller
+        raise argparse.ArgumentTypeError(f"{word} can't be had: {type(fault).__name__}: {fault}") from None
+    if not callable(found):
+        raise argparse.ArgumentTypeError(f"{word} is not of the form MODULE:FUNCTION")
+    return found
+
 
 if __name__ == "__main__":
     sys.exit(main())

@@ -1,61 +1,43 @@
-"""Sessions with a server, as the brokers of both kinds have them in `clients`."""
+"""Sessions with a server: `Broker` blocks, and `AsyncBroker` is for asyncio."""
 from __future__ import annotations
 
 import socket
 import ssl
-from collections.abc import Callable, Iterable
+from collections.abc import Callable, Coroutine, Iterable
 from contextlib import ExitStack
+from functools import wraps
 from selectors import EVENT_READ, EVENT_WRITE
-from typing import Any, ClassVar, Union
+from typing import Any, ClassVar, Concatenate, Self, TextIO
 
 from .dialogue import Dialogue
 from .durations import Duration, seconds
-from .errors import BrokerError, DisconnectedError, NotHeldError, RefusedError, StoppedError, UnknownReplyError
-from .job import Job, Verdict
-from .record import Record, RecordTarget
+from .errors import BrokerError, DisconnectedError, UnknownReplyError
+from .job import Job
 from .request import Answer, Request
-from .waiting import Kind, run
-
-Either = Union[Answer, RefusedError, StoppedError]  # an answer, or the exception in its place
+from .waiting import Blocking, Kind, Looping, Words, blocking, run
 
 _NOT_NOW = (BlockingIOError, ssl.SSLWantReadError, ssl.SSLWantWriteError)
 
 
 class Session:
-    """One session with `rb_broker serve`, from the connection to its end. One thread or task at a time may use it.
-
-    There is a method for each request, which sends it, waits for the reply and gives that as a value. A refusal is
-    raised as a kind of `RefusedError`, a lost connection as an `OSError`. To send several requests in one piece use
-    `ask_all`, or `send` and then a `receive` for each.
-
-    The jobs that a session holds fail when it ends, by `quit`, by `close` or at the end of a `with`: they come back to
-    other sessions until their attempts are used up. An exception in the middle of a wait, such as that of a signal
-    handler, loses no byte that was received.
-    """
+    """What `Broker` and `AsyncBroker` have in common."""
 
     _kind: ClassVar[Kind]
     _socket: socket.socket  # once it is connected
 
     def __init__(self, port: int, host: str = "127.0.0.1", patience: Duration | None = None, *,
-                 tls: ssl.SSLContext | None = None, record: RecordTarget | None = None) -> None:
-        """A reply that does not come within `patience` raises `TimeoutError`; it is still due then. With `tls` the
-        connection is encrypted, and the certificates are those of this context. To `record`, a path or an open text
-        file, a line is added for each request and its reply."""
+                 tls: ssl.SSLContext | None = None, record: TextIO | None = None) -> None:
+        """A reply that does not come within `patience` raises `TimeoutError`. With `tls` the connection is encrypted,
+        and the certificates are those of this context. To `record`, a text file, a line is added for each request and
+        its reply."""
         self._port, self._host, self._tls = port, host, tls
         self.patience = None if patience is None else seconds(patience)
         self._fault: Exception | None = RuntimeError("the broker is not connected")
         self._unsent = bytearray()
-        recorded, self.at_end = Record(record), ExitStack()
-        self.dialogue = Dialogue(recorded.note)
-        self.at_end.callback(recorded.close)
+        self.dialogue, self.at_end = Dialogue(record), ExitStack()
         self.at_end.callback(self.dialogue.end)
         if not self._kind.is_async:
             run(self._connect())
-
-    @property
-    def unanswered(self) -> int:
-        """How many requests were sent whose replies have not been received."""
-        return self.dialogue.unanswered
 
     @property
     def is_sent(self) -> bool:
@@ -87,9 +69,9 @@ class Session:
         self._fault = self._fault or DisconnectedError("this side hung up")
         self.at_end.close()
 
-    def post(self, *questions: Request[Any]) -> None:
+    def post(self, *requests: Request[Any]) -> None:
         """Sends requests in one piece, as far as the connection takes it now. The rest is sent with what follows."""
-        self._unsent += self.dialogue.ask(*questions)
+        self._unsent += self.dialogue.ask(*requests)
         self._demand()
         try:
             while self._unsent:
@@ -122,33 +104,30 @@ class Session:
         made.setblocking(False)
         return made
 
-    async def _send(self, *questions: Request[Any]) -> None:
-        """Sends requests in one piece, and waits for no reply. If this raises an `OSError`, some may have been
-        served."""
-        self.post(*questions)
-        await self._wait_until(lambda: self.is_sent)
-
-    async def _receive(self) -> Any:
-        """The answer to the first request that has none yet. A refusal is raised."""
-        answer = await self._receive_either()
-        if isinstance(answer, BrokerError):
-            raise answer
-        return answer
-
     async def _ask(self, request: Request[Answer]) -> Answer:
-        """Sends a request and gives its answer."""
+        answer: Answer
         (answer,) = await self._ask_all([request])
         if isinstance(answer, BrokerError):
             raise answer
         return answer
 
-    async def _ask_all(self, questions: Iterable[Request[Answer]]) -> list[Either[Answer]]:
+    async def _ask_all(self, requests: Iterable[Request[Any]]) -> list[Any]:
         """Sends any number of requests in one piece, and gives the answer to each. For a request that was refused, or
         whose wait was given up, the answer is that exception."""
-        if self.unanswered:
-            raise RuntimeError(f"{self.unanswered} replies have to be received first")
-        await self._send(*questions)
-        return [await self._receive_either() for _ in range(self.unanswered)]
+        self._demand()
+        if self.dialogue.unanswered:
+            raise RuntimeError("the wait for a reply was broken off, so that the session can only be closed")
+        self.post(*requests)
+        await self._wait_until(lambda: self.is_sent)
+        answers = []
+        while self.dialogue.unanswered:
+            await self._wait_until(lambda: bool(self.dialogue.answers))
+            answer = self._take()
+            for it in answer if isinstance(answer, list) else [answer]:
+                if isinstance(it, Job):
+                    vars(it)["_session"] = self  # past the lock of a frozen class
+            answers.append(answer)
+        return answers
 
     async def _quit(self) -> None:
         """Ends the session, waits until the server has read so, and hangs up."""
@@ -159,12 +138,6 @@ class Session:
         """Waits until the server serves this session. One that connects while all of the server's workers are busy is
         only served when one of them is free. This is no call and changes nothing."""
         await self._ask(Request.greeting())
-
-    async def _receive_either(self) -> Any:
-        if not self.unanswered:
-            raise RuntimeError("no reply is due")
-        await self._wait_until(lambda: bool(self.dialogue.answers))
-        return self._take()
 
     def _take(self) -> Any:
         answer = self.dialogue.answers.popleft()
@@ -189,23 +162,76 @@ class Session:
                 self.post()
 
 
-class Held(Job):
-    """A job that a session holds until it is done or fails, or the session ends."""
+def _asks(make: Callable[Words, Request[Answer]]) -> Callable[
+        Concatenate[Session, Words], Coroutine[Any, Any, Answer]]:
+    # The method that asks what this one makes.
+    @wraps(make)
+    async def ask(session: Session, /, *words: Words.args, **options: Words.kwargs) -> Answer:
+        return await session._ask(make(*words, **options))
 
-    _session: Session
+    return ask
 
-    def __init__(self, session: Session, job: Job) -> None:
-        vars(self).update(vars(job), _session=session)  # past the lock of a frozen class
 
-    async def _settle(self, request: Request[Answer]) -> Answer:
-        if self._session.is_lost():
-            raise NotHeldError(f"job {self.payload} is no longer held: its session has ended")
-        return await self._session._ask(request)
+class AsyncBroker(Session):
+    """A `Broker` for asyncio: `async with AsyncBroker(7011) as broker`. Its methods are coroutine functions."""
 
-    async def _done(self) -> None:
-        """The job is finished. Raises `NotHeldError` if it isn't held any more, also if its session has ended."""
-        await self._settle(Request.done(self.id))
+    _kind = Looping
 
-    async def _fail(self) -> Verdict:
-        """The job failed now. Gives `Again` or `Dead`, and raises what `done` does."""
-        return await self._settle(Request.fail(self.id))
+    offer = _asks(Request.offer)
+    offer_at = _asks(Request.offer_at)
+    poll = _asks(Request.poll)
+    poll_for = _asks(Request.poll_for)
+    take = _asks(Request.take)
+    peek = _asks(Request.peek)
+    drain = _asks(Request.drain)
+    done = _asks(Request.done)
+    fail = _asks(Request.fail)
+    remove = _asks(Request.remove)
+    clear = _asks(Request.clear)
+    size = _asks(Request.size)
+    ask_all = Session._ask_all
+    quit = Session._quit
+    await_service = Session._await_service
+
+    async def __aenter__(self) -> Self:
+        await self._connect()
+        return self
+
+    async def __aexit__(self, *fault: object) -> None:
+        self.close()
+
+
+class Broker(Session):
+    """One session with `rb_broker serve`, from the connection to its end. One thread or task at a time may use it.
+
+    There is a method for each request, which sends it, waits for the reply and gives that as a value. A refusal is
+    raised as a kind of `RefusedError`, a lost connection as an `OSError`. `ask_all` sends several in one piece.
+
+    The jobs that a session holds fail when it ends, by `quit`, by `close` or at the end of a `with`: they come back to
+    other sessions until their attempts are used up. If the wait for a reply is broken off, by `patience` or by the
+    exception of a signal handler, the session can only be closed.
+    """
+
+    _kind = Blocking
+
+    offer = blocking(AsyncBroker.offer)
+    offer_at = blocking(AsyncBroker.offer_at)
+    poll = blocking(AsyncBroker.poll)
+    poll_for = blocking(AsyncBroker.poll_for)
+    take = blocking(AsyncBroker.take)
+    peek = blocking(AsyncBroker.peek)
+    drain = blocking(AsyncBroker.drain)
+    done = blocking(AsyncBroker.done)
+    fail = blocking(AsyncBroker.fail)
+    remove = blocking(AsyncBroker.remove)
+    clear = blocking(AsyncBroker.clear)
+    size = blocking(AsyncBroker.size)
+    ask_all = blocking(Session._ask_all)
+    quit = blocking(Session._quit)
+    await_service = blocking(Session._await_service)
+
+    def __enter__(self) -> Self:
+        return self
+
+    def __exit__(self, *fault: object) -> None:
+        self.close()

@@ -6,12 +6,11 @@ import os
 from collections.abc import Callable, Iterator
 from contextlib import contextmanager
 from datetime import datetime, timezone
-from typing import IO, Union
+from typing import IO
 
-from .clients import AsyncProducer, Producer
 from .job import Job
+from .producer import AsyncProducer, Producer
 
-Path = Union[str, "os.PathLike[str]"]
 _LONGEST = 4_096  # bytes of no line are more
 
 
@@ -19,18 +18,18 @@ class DeadLetters:
     """Keeps dead jobs: `Worker(.., on_dead=DeadLetters("dead.jsonl"))`.
 
     A file has a line of JSON for each, which is on the disk when the call returns. Several workers may have one file. A
-    producer, of a server that is the queue for such jobs, offers each to it.
+    producer, of a server that is the queue for such jobs, offers each to it: an `AsyncProducer` in an `AsyncWorker`.
     """
 
-    def __init__(self, target: Path | Producer | AsyncProducer) -> None:
+    def __init__(self, target: str | os.PathLike[str] | Producer | AsyncProducer) -> None:
         """Raises `OSError` if the file can't be written."""
         self._target = target
-        if isinstance(target, (str, os.PathLike)):
+        if not isinstance(target, (Producer, AsyncProducer)):
             open(target, "ab").close()
 
     def __call__(self, job: Job) -> object:
         """Keeps a job. What is given for an `AsyncProducer` is to be awaited."""
-        if not isinstance(self._target, (str, os.PathLike)):
+        if isinstance(self._target, (Producer, AsyncProducer)):
             return self._target.offer(job.payload)
         died = datetime.now(timezone.utc).isoformat(timespec="milliseconds")
         letter = {"payload": job.payload, "attempts": job.attempt, "died": died, "id": job.id}
@@ -39,28 +38,31 @@ class DeadLetters:
         return None
 
 
-def read_letters(path: str) -> list[bytes]:
-    """The lines of a file of dead letters."""
+def read_letters(path: str) -> Iterator[str]:
+    """The lines of a file of dead letters. Raises `ValueError` at one that is none."""
     with _locked(path, "rb") as file:
-        return file.read().splitlines()
+        lines = file.read().splitlines()
+    for line in lines:
+        _payload_of(line)
+        yield line.decode()
 
 
 def take_letters(path: str, use: Callable[[str], object]) -> int:
     """Calls this with each payload, the latest first, and then takes its line out of the file. Gives how many there
     were. One that is added meanwhile is left, unless it takes the place of one that is."""
-    count = len(read_letters(path))
+    with _locked(path, "r+b") as file:
+        count = sum(1 for _ in file)
     for _ in range(count):
         with _locked(path, "r+b") as file:  # no line is added while one is taken out
             end = file.seek(0, os.SEEK_END)
             file.seek(max(end - _LONGEST, 0))
             last = file.read().splitlines(keepends=True)[-1]
-            use(payload_of(last))
+            use(_payload_of(last))
             file.truncate(end - len(last))
     return count
 
 
-def payload_of(line: bytes) -> str:
-    """The payload of a line. Raises `ValueError` if it is no dead letter."""
+def _payload_of(line: bytes) -> str:
     try:
         payload: str = json.loads(line)["payload"]
         return payload
@@ -69,13 +71,12 @@ def payload_of(line: bytes) -> str:
 
 
 @contextmanager
-def _locked(path: Path, mode: str) -> Iterator[IO[bytes]]:
+def _locked(path: str | os.PathLike[str], mode: str) -> Iterator[IO[bytes]]:
     """The file, while nobody else has it. What is written is on the disk at the end."""
     import fcntl  # not on each system
 
     with open(path, mode) as file:
         fcntl.flock(file, fcntl.LOCK_EX)
         yield file
-        if mode != "rb":
-            file.flush()
-            os.fsync(file.fileno())
+        file.flush()
+        os.fsync(file.fileno())

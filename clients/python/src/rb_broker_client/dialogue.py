@@ -1,26 +1,33 @@
-"""The protocol of one session, without its connection: no socket, thread or event loop is here."""
+"""The protocol of one session, without its connection."""
 from __future__ import annotations
 
+import json
+import logging
 import math
+import threading
 import time
+import uuid
 from collections import deque
-from collections.abc import Callable
 from operator import length_hint
-from typing import Any
+from typing import Any, TextIO
 
 from .errors import BrokerError, UnknownReplyError
 from .job import LONGEST_REPLY
 from .request import Request
+
+log = logging.getLogger(__name__)
+
+_RECORDING = threading.Lock()  # clients of several threads may write to one file
 
 
 class Dialogue:
     """The requests of a session, and what came to answer them: a client sends the bytes that `ask` gives it, feeds
     those that come, and has the `answers`."""
 
-    def __init__(self, note: Callable[..., object]) -> None:
-        """`note` is told of each request once it has its answer, or at the end: when it was sent, when its reply had
-        come (None if that never came), its line, and the reply's lines."""
-        self._note = note
+    def __init__(self, record: TextIO | None = None) -> None:
+        """To `record`, if there is one, each request is written once it has its answer, or at the end: when it was
+        sent, when its reply had come (null if that never came), its line, and the reply's lines."""
+        self._record, self._name = record, uuid.uuid4().hex
         self._due: deque[tuple[Request[Any], int]] = deque()  # with when each was sent
         self._lines: deque[bytes] = deque()  # that came, and are not taken for a reply
         self._rest, self._came = b"", 0  # of a line of which more is to come, and when that came
@@ -57,7 +64,7 @@ class Dialogue:
     def end(self) -> None:
         """Nothing is sent and nothing comes any more. What has no answer never gets one."""
         for request, sent in self._due:
-            self._note(sent, None, request.line, [*self._lines])
+            self._note(sent, None, request, [*self._lines])
             self._lines.clear()
         self._due.clear()
         self.answers.clear()
@@ -74,8 +81,19 @@ class Dialogue:
                 answer = instead
                 self._is_unclear = isinstance(instead, UnknownReplyError)
             self._due.popleft()
-            reply = []
-            for _ in range(len(self._lines) - length_hint(lines)):
-                reply.append(self._lines.popleft())
-            self._note(sent, self._came, request.line, reply)
+            reply = [self._lines.popleft() for _ in range(len(self._lines) - length_hint(lines))]
+            self._note(sent, self._came, request, reply)
             self.answers.append(answer)
+
+    def _note(self, sent: int, came: int | None, request: Request[Any], reply: list[bytes]) -> None:
+        if self._record is None:
+            return
+        told = [it.decode("utf-8", "backslashreplace") for it in reply]
+        line = {"session": self._name, "sent": sent, "received": came, "request": str(request), "reply": told}
+        try:
+            with _RECORDING:
+                self._record.write(json.dumps(line) + "\n")
+                self._record.flush()  # in one piece: other processes may add to the file
+        except (OSError, ValueError) as fault:  # a file that was closed is a ValueError
+            log.error("the record can't be written, and ends here: %s", fault)
+            self._record = None

@@ -3,22 +3,18 @@ from __future__ import annotations
 
 import math
 import random
-import re
 from datetime import timedelta
 from fractions import Fraction
-from typing import Union
 
 from .job import GREATEST_NUMBER
 
-Duration = Union[int, float, timedelta]
+Duration = int | float | timedelta
 """Seconds as a number, or a `timedelta`."""
 
 WAITED = 0.1  # seconds after which a session was served late: others may be waiting now
 BRIEF = 3.0  # seconds of a session while others may be waiting
 FOR_EVER = 1e6  # seconds of a wait that only what happens ends
 SECOND = 1_000_000_000  # nanoseconds
-UNITS = {"ns": 1, "us": 1_000, "ms": 1_000_000, "": SECOND, "s": SECOND, "m": 60 * SECOND, "h": 3_600 * SECOND,
-         "d": 86_400 * SECOND}
 
 
 def nanoseconds(duration: Duration | Fraction) -> int:
@@ -42,29 +38,14 @@ def seconds(duration: Duration) -> float:
     return value
 
 
-def read_delay(text: str) -> Fraction:
-    """The seconds of `5s`, `1.5h` or `250`. Raises `ValueError` with a sentence."""
-    found = re.fullmatch(r"([0-9]+(?:\.[0-9]+)?)(|ns|us|ms|s|m|h|d)", text, re.ASCII)
-    if found is None:
-        raise ValueError(f"{text} is no delay: write seconds, or 5s, 2m or 1h (ns, us, ms, s, m, h, d)")
-    delay = Fraction(found[1]) * UNITS[found[2]]
-    if delay.denominator != 1:
-        raise ValueError(f"{text} is not a whole number of nanoseconds")
-    if delay > GREATEST_NUMBER:
-        raise ValueError(f"{text} is longer than 2^64 - 1 nanoseconds")
-    return delay / SECOND
-
-
 class Pauses:
     """The pauses between tries that fail one after the other. Each is twice as long as the one before, from `first` up
     to `longest`, less a random part, up to a half: clients that lose their server together do not come back together.
     """
 
     def __init__(self, first: Duration = 0.1, longest: Duration = 10.0) -> None:
-        self._first, self._longest = seconds(first), seconds(longest)
-        if self._first > self._longest:
-            raise ValueError("the first pause is at most the longest")
-        self._next = self._first
+        self._longest = seconds(longest)
+        self._next = self._first = min(seconds(first), self._longest)
 
     def next(self) -> float:
         """The seconds of the pause before the next try."""

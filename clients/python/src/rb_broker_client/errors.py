@@ -30,27 +30,11 @@ class InDoubtError(BrokerError):
 
 
 class RefusedError(BrokerError):
-    """The server refused the request. It changed nothing, and the session goes on."""
-
-
-class SyntaxRefusedError(RefusedError):
-    """`ERR 1`: the line is no request."""
-
-
-class NumberRefusedError(RefusedError):
-    """`ERR 2`: a number is not a whole one from 0 to 2^64 - 1."""
-
-
-class RangeRefusedError(RefusedError):
-    """`ERR 3`: the element would expire later than at 2^64 - 1."""
-
-
-class PayloadRefusedError(RefusedError):
-    """`ERR 4`: the payload has more than 64 characters, or one that is not printable ASCII."""
+    """The server refused the request, as the text says: `ERR 2 number`. It changed nothing, and the session goes on."""
 
 
 class NotHeldError(RefusedError):
-    """`ERR 5`: the session holds no job of this id, or the session that held it has ended."""
+    """`ERR 5`: the session holds no job of this id."""
 
 
 class FullError(RefusedError):
@@ -61,17 +45,8 @@ class OutOfMemoryError(RefusedError):
     """`ERR 7`: the server has no memory for it now. The same request may be sent again."""
 
 
-class LineRefusedError(RefusedError):
-    """`ERR 8`: the line of the request is longer than 256 bytes."""
-
-
-class HeldTooManyError(RefusedError):
-    """`ERR 9`: the session already holds 64 jobs."""
-
-
 REFUSALS = {
-    b"ERR 1 syntax": SyntaxRefusedError, b"ERR 2 number": NumberRefusedError,
-    b"ERR 3 range": RangeRefusedError, b"ERR 4 payload": PayloadRefusedError,
-    b"ERR 5 not-held": NotHeldError, b"ERR 6 full": FullError, b"ERR 7 memory": OutOfMemoryError,
-    b"ERR 8 line": LineRefusedError, b"ERR 9 held": HeldTooManyError,
+    b"ERR 1 syntax": RefusedError, b"ERR 2 number": RefusedError, b"ERR 3 range": RefusedError,
+    b"ERR 4 payload": RefusedError, b"ERR 5 not-held": NotHeldError, b"ERR 6 full": FullError,
+    b"ERR 7 memory": OutOfMemoryError, b"ERR 8 line": RefusedError, b"ERR 9 held": RefusedError,
 }

@@ -1,8 +1,10 @@
 """The values of requests and replies: their limits, jobs, and what became of jobs."""
 from __future__ import annotations
 
-from dataclasses import astuple, dataclass
-from typing import Union
+from dataclasses import dataclass
+from typing import Any, ClassVar
+
+from .errors import NotHeldError
 
 GREATEST_NUMBER = 2**64 - 1  # that a request or a reply may have
 LONGEST_PAYLOAD = 64  # characters, each of which is printable ASCII and none a space
@@ -18,21 +20,32 @@ class Offered:
     expires_at_ns: int
 
 
-@dataclass(frozen=True, eq=False)
+@dataclass(frozen=True)
 class Job:
-    """An element of the queue: one that was given, or one that `peek` shows. Its `attempt` is 1 for the first attempt.
-    Jobs of the same values are equal, whoever holds them."""
+    """An element of the queue: one that was given, or one that `peek` shows. Its `attempt` is 1 for the first one.
+
+    What `done` and `fail` give is to be awaited if an `AsyncBroker` took the job. They raise `NotHeldError` if the job
+    isn't held any more, also if its session has ended, and for the jobs of a worker, which tells the server itself.
+    """
 
     id: int
     expires_at_ns: int
     attempt: int
     payload: str
+    _session: ClassVar[Any] = None  # a broker sets its own in each job that it took
 
-    def __eq__(self, other: object) -> bool:
-        return isinstance(other, Job) and astuple(self) == astuple(other)
+    def done(self) -> Any:
+        """The job is finished."""
+        return self._holder().done(self.id)
 
-    def __hash__(self) -> int:
-        return hash(astuple(self))
+    def fail(self) -> Any:
+        """The job failed now. Gives `Again` or `Dead`."""
+        return self._holder().fail(self.id)
+
+    def _holder(self) -> Any:
+        if self._session is None or self._session.is_lost():
+            raise NotHeldError(f"job {self.payload} is not held: no broker took it, or its session has ended")
+        return self._session
 
 
 @dataclass(frozen=True)
@@ -47,7 +60,7 @@ class Dead:
     id: int
 
 
-Verdict = Union[Again, Dead]
+Verdict = Again | Dead
 """What became of a job that failed."""
 
 

@@ -12,15 +12,15 @@ import time
 from collections.abc import AsyncIterator, Callable
 from contextlib import ExitStack, asynccontextmanager, suppress
 from functools import partial
-from typing import Any, ClassVar
+from typing import Any, ClassVar, Self, TextIO
 
-from .broker import Session
+from .broker import AsyncBroker, Broker, Session
 from .durations import FOR_EVER, Ages, Duration, Pauses, nanoseconds, seconds
 from .errors import BrokerError, FullError, InDoubtError, NotOfferedError, OutOfMemoryError
 from .job import Offered
-from .record import RecordTarget, check_record
 from .request import Request
 from .run import Run
+from .waiting import blocking
 
 log = logging.getLogger(__name__)
 
@@ -28,27 +28,16 @@ LONG = 1.0  # seconds of a wait for one of the server's workers from which it is
 
 
 class BaseProducer:
-    """Offers jobs, and connects again when its connection is lost. Threads, or tasks of one event loop, may share it:
-    their offers take turns. A process that was forked begins a session of its own.
-
-    An offer is tried again, for up to `patience`, when the job was surely not accepted: no server was there, or none of
-    its workers was free, or it refused the offer because its run is full or it has no memory. Other refusals are raised
-    at once. If the connection is lost between an offer and its reply, nobody can tell whether the job was accepted.
-    Then it raises `InDoubtError`, or with `may_double=True` offers again: each job at least once, and perhaps twice.
-
-    An offer begins a session if there is none, which keeps one of the server's workers busy. It is left `session`
-    seconds later, by a daemon thread or in the loop, or with the next offer, and after three seconds if others may be
-    waiting.
-    """
+    """What `Producer` and `AsyncProducer` have in common."""
 
     _session_of: ClassVar[type[Session]]
 
     def __init__(self, port: int, host: str = "127.0.0.1", *, may_double: bool = False, patience: Duration = 30.0,
                  session: Duration | None = 30.0, tls: ssl.SSLContext | None = None, pauses: Pauses | None = None,
-                 record: RecordTarget | None = None) -> None:
+                 record: TextIO | None = None) -> None:
         """Connects to nothing yet. An offer is tried for up to `patience`, and so long is each reply waited for. With
         None for `session` each is kept as long as it can be had. `tls` and `record` are those of a `Broker`."""
-        self._session_at = partial(self._session_of, port, host, tls=tls, record=check_record(record))
+        self._session_at = partial(self._session_of, port, host, tls=tls, record=record)
         self._may_double, self._patience = may_double, seconds(patience)
         self._pauses, self._ages = pauses or Pauses(longest=2.0), Ages(session, first_is_brief=False)
         self._run, self._kind = Run(log, f"{host}:{port}"), self._session_of._kind
@@ -63,25 +52,14 @@ class BaseProducer:
 
     async def _offer(self, payload: str, *, delay: Duration = 0) -> Offered:
         """Offers a job that expires this delay after the server has accepted it, in seconds or as a `timedelta`."""
-        return await self._offered(Request.offer(payload, delay=delay), delay)
-
-    async def _offer_at(self, payload: str, *, expires_at_ns: int) -> Offered:
-        """Offers a job that expires at this moment of the server's clock, which may have passed."""
-        return await self._offered(Request.offer_at(payload, expires_at_ns=expires_at_ns))
-
-    async def _close(self) -> None:
-        """Ends the session, if there is one, once the offer of another is answered."""
-        async with self._in_turn():
-            self._hang_up()
-
-    async def _offered(self, request: Request[Offered], delay: Duration | None = None) -> Offered:
+        request, delay_ns = Request.offer(payload, delay=delay), nanoseconds(delay)
         deadline, doubt, pauses = time.monotonic() + self._patience, None, copy.copy(self._pauses)
         pauses.reset()  # of other offers, which may be tried at the same time
         while True:
             try:
                 async with self._in_turn(max(deadline - time.monotonic(), 0), request):
                     offered = await self._try(request)
-                    self._run.offered(offered.id, 0 if delay is None else offered.expires_at_ns - nanoseconds(delay))
+                    self._run.offered(offered.id, offered.expires_at_ns - delay_ns)
                     return offered
             except (InDoubtError, NotOfferedError, FullError, OutOfMemoryError) as fault:
                 if isinstance(fault, InDoubtError):
@@ -90,6 +68,11 @@ class BaseProducer:
                 if doubt and not self._may_double or time.monotonic() + pause > deadline:
                     raise doubt or fault  # once a try is in doubt, no later one takes that back
             await self._kind.sleep(pause)
+
+    async def _close(self) -> None:
+        """Ends the session, if there is one, once the offer of another is answered."""
+        async with self._in_turn():
+            self._hang_up()
 
     @asynccontextmanager
     async def _in_turn(self, seconds: float = FOR_EVER, what: object = "") -> AsyncIterator[None]:
@@ -105,7 +88,7 @@ class BaseProducer:
         try:
             session = await self._served()
         except OSError as fault:
-            raise NotOfferedError(f"{request}: {fault}") from fault
+            raise NotOfferedError(f"{request} was not accepted: {fault}") from fault
         try:
             return await session._ask(request)
         except FullError:
@@ -113,12 +96,12 @@ class BaseProducer:
             raise
         except OSError as fault:
             self._hang_up()
-            raise InDoubtError(f"{request}: {fault}") from fault
+            raise InDoubtError(f"{request} was accepted or not: {fault}") from fault
 
     async def _served(self) -> Session:
         # One that is served already, so that an offer is in doubt only while it is answered.
         if self._session is not None:
-            if self._process != os.getpid() or self._session.unanswered or self._session.is_lost():
+            if self._process != os.getpid() or self._session.dialogue.unanswered or self._session.is_lost():
                 self._hang_up()  # this process may have been forked, and the session is that of the other one then
             elif time.monotonic() >= self._end:
                 await self._leave(self._session)
@@ -153,7 +136,7 @@ class BaseProducer:
 
     async def _leave(self, session: Session) -> None:
         with suppress(OSError, BrokerError):  # each offer has had its answer all the same
-            if session.unanswered == 0:
+            if not session.dialogue.unanswered:
                 await session._quit()
         self._hang_up()
 
@@ -162,3 +145,40 @@ class BaseProducer:
         if self._session is not None:
             self._session.close()
         self._session = None
+
+
+class AsyncProducer(BaseProducer):
+    """A `Producer` for asyncio, which tasks of one event loop may share."""
+
+    _session_of = AsyncBroker
+    offer, close = BaseProducer._offer, BaseProducer._close
+
+    async def __aenter__(self) -> Self:
+        return self
+
+    async def __aexit__(self, *fault: object) -> None:
+        await self.close()
+
+
+class Producer(BaseProducer):
+    """Offers jobs, and connects again when its connection is lost. Threads may share it: their offers take turns. A
+    process that was forked begins a session of its own.
+
+    An offer is tried again, for up to `patience`, when the job was surely not accepted: no server was there, or none of
+    its workers was free, or it refused the offer because its run is full or it has no memory. Other refusals are raised
+    at once. If the connection is lost between an offer and its reply, nobody can tell whether the job was accepted.
+    Then it raises `InDoubtError`, or with `may_double=True` offers again: each job at least once, and perhaps twice.
+
+    An offer begins a session if there is none, which keeps one of the server's workers busy. It is left `session`
+    seconds later, by a daemon thread or in the loop, or with the next offer, and after three seconds if others may be
+    waiting.
+    """
+
+    _session_of = Broker
+    offer, close = blocking(BaseProducer._offer), blocking(BaseProducer._close)
+
+    def __enter__(self) -> Self:
+        return self
+
+    def __exit__(self, *fault: object) -> None:
+        self.close()

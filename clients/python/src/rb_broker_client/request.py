@@ -5,7 +5,7 @@ from __future__ import annotations
 import re
 from collections.abc import Callable, Iterator, Mapping
 from dataclasses import dataclass
-from typing import Generic, NoReturn, Optional, TypeVar
+from typing import Generic, NoReturn, TypeVar
 
 from .durations import Duration, nanoseconds
 from .errors import REFUSALS, BrokerError, StoppedError, UnknownReplyError
@@ -13,7 +13,7 @@ from .job import GREATEST_NUMBER, LONGEST_PAYLOAD, Again, Dead, Job, Offered, Ve
 
 Answer = TypeVar("Answer")
 Reader = Callable[[Iterator[bytes]], Answer]  # of a reply, of which it takes as many lines as there are
-_NONE = {b"NONE": None}
+
 _PAYLOAD = "[!-~]{1,%d}" % LONGEST_PAYLOAD
 _WAITS: Mapping[bytes, type[BrokerError]] = {**REFUSALS, b"STOPPED": StoppedError}
 
@@ -47,9 +47,9 @@ def _form(text: str, make: Callable[..., Answer]) -> Callable[[bytes], Answer]:
     return read
 
 
-def _reader(exact: Mapping[bytes, Answer], form: Callable[[bytes], Answer] = _unknown,
+def _reader(form: Callable[[bytes], Answer] = _unknown, exact: Mapping[bytes, Answer] = {},
             refusals: Mapping[bytes, type[BrokerError]] = REFUSALS) -> Reader[Answer]:
-    # Of a reply that is one of these lines, or of this form.
+    # Of a reply that is of this form, or one of these lines.
     def read(lines: Iterator[bytes]) -> Answer:
         line = next(lines)
         if line in exact:
@@ -62,7 +62,8 @@ def _reader(exact: Mapping[bytes, Answer], form: Callable[[bytes], Answer] = _un
 
 
 _item, _head, _offered = _form("ITEM # # @ *", Job), _form("HEAD # # @ *", Job), _form("OFFERED # #", Offered)
-_again, _size, _count = _form("AGAIN # #", Again), _form("SIZE #", int), _reader({}, _form("DRAINED %", int))
+_again, _size, _count = _form("AGAIN # #", Again), _form("SIZE #", int), _reader(_form("DRAINED %", int))
+_NONE = {b"NONE": None}
 
 
 @dataclass
@@ -84,33 +85,33 @@ class Request(Generic[Answer]):
     def offer(cls, payload: str, *, delay: Duration = 0) -> Request[Offered]:
         """Offers an element that expires this delay from now. Raises `ValueError` for a payload that is not 1 to 64
         characters of printable ASCII without a space."""
-        return Request(b"OFFER %d %s" % (nanoseconds(delay), _checked(payload)), _reader({}, _offered))
+        return Request(b"OFFER %d %s" % (nanoseconds(delay), _checked(payload)), _reader(_offered))
 
     @classmethod
     def offer_at(cls, payload: str, *, expires_at_ns: int) -> Request[Offered]:
         """Offers an element that expires at this moment of the server's clock, even a past one."""
-        return Request(b"OFFERAT %d %s" % (expires_at_ns, _checked(payload)), _reader({}, _offered))
+        return Request(b"OFFERAT %d %s" % (expires_at_ns, _checked(payload)), _reader(_offered))
 
     @classmethod
-    def poll(cls) -> Request[Optional[Job]]:
+    def poll(cls) -> Request[Job | None]:
         """Takes a job that has expired, or gives None if there is none."""
-        return Request(b"POLL", _reader(_NONE, _item))
+        return Request(b"POLL", _reader(_item, _NONE))
 
     @classmethod
-    def poll_for(cls, timeout: Duration) -> Request[Optional[Job]]:
+    def poll_for(cls, timeout: Duration) -> Request[Job | None]:
         """Takes a job, waiting for one up to this timeout. Gives None if none has expired."""
-        return Request(b"POLLFOR %d" % nanoseconds(timeout), _reader(_NONE, _item, _WAITS))
+        return Request(b"POLLFOR %d" % nanoseconds(timeout), _reader(_item, _NONE, _WAITS))
 
     @classmethod
     def take(cls) -> Request[Job]:
         """Takes a job, and waits until there is one. Nothing cancels the wait, and a program that is killed meanwhile
         may cost the next job an attempt, so a loop of `poll_for(1)` is better in a service."""
-        return Request(b"TAKE", _reader({}, _item, _WAITS))
+        return Request(b"TAKE", _reader(_item, refusals=_WAITS))
 
     @classmethod
-    def peek(cls) -> Request[Optional[Job]]:
+    def peek(cls) -> Request[Job | None]:
         """Shows an element of least expiry, expired or not, or gives None if there is none."""
-        return Request(b"PEEK", _reader(_NONE, _head))
+        return Request(b"PEEK", _reader(_head, _NONE))
 
     @classmethod
     def drain(cls, most: int) -> Request[list[Job]]:
@@ -120,37 +121,37 @@ class Request(Generic[Answer]):
     @classmethod
     def done(cls, id: int) -> Request[None]:
         """The job that is held under this id is finished."""
-        return Request(line := b"DONE %d" % id, _reader({line: None}))
+        return Request(line := b"DONE %d" % id, _reader(exact={line: None}))
 
     @classmethod
     def fail(cls, id: int) -> Request[Verdict]:
         """The job that is held under this id failed now. Gives `Again` or `Dead`."""
-        return Request(b"FAIL %d" % id, _reader({b"DEAD %d" % id: Dead(id)}, _again))
+        return Request(b"FAIL %d" % id, _reader(_again, {b"DEAD %d" % id: Dead(id)}))
 
     @classmethod
     def remove(cls, id: int) -> Request[bool]:
         """Takes the element of this id out, expired or not. Gives whether it was there."""
-        return Request(b"REMOVE %d" % id, _reader({b"REMOVED yes": True, b"REMOVED no": False}))
+        return Request(b"REMOVE %d" % id, _reader(exact={b"REMOVED yes": True, b"REMOVED no": False}))
 
     @classmethod
     def clear(cls) -> Request[None]:
         """Takes all elements out of the queue, expired or not."""
-        return Request(b"CLEAR", _reader({b"CLEARED": None}))
+        return Request(b"CLEAR", _reader(exact={b"CLEARED": None}))
 
     @classmethod
     def size(cls) -> Request[int]:
         """Counts the elements in the queue, expired or not."""
-        return Request(b"SIZE", _reader({}, _size))
+        return Request(b"SIZE", _reader(_size))
 
     @classmethod
     def quit(cls) -> Request[None]:
         """Ends the session. Nothing after it is served."""
-        return Request(b"QUIT", _reader({b"BYE": None}))
+        return Request(b"QUIT", _reader(exact={b"BYE": None}))
 
     @classmethod
     def greeting(cls) -> Request[None]:
         """Asks what each server refuses, which is no call. The reply tells that it is served."""
-        return Request(b"AT 0", _reader({b"ERR 1 syntax": None}))
+        return Request(b"AT 0", _reader(exact={b"ERR 1 syntax": None}))
 
 
 def _checked(payload: str) -> bytes:

@@ -4,7 +4,7 @@ from __future__ import annotations
 import logging
 
 SHARDS = 64  # queues that a broker on Redis may have under one name, by whose number ids count
-_PIECE, _MOST_PIECES = 1_024, 4_096  # ids of one number, of each a bit, and how many are kept
+PIECE, MOST_PIECES = 1_024, 4_096  # ids of one number, of each a bit, and how many of these are kept
 
 
 class Run:
@@ -15,13 +15,9 @@ class Run:
     def __init__(self, log: logging.Logger, place: str) -> None:
         """`place` is what the log calls the server."""
         self._log, self.place, self._is_away = log, place, False
-        self._begin()
-
-    def _begin(self) -> None:
         self._offers: dict[int, tuple[int, int]] = {}  # of each queue: its last id and moment
-        self._offered = 0  # offers of this client that were accepted
-        self._given, self._returned = _Once(), _Once()
-        self._greatest = -1  # the greatest id that was seen
+        self._given: dict[int, int] = {}  # bits of ids, in pieces
+        self._returned: dict[int, int] = {}
 
     def away(self, text: str, fault: OSError) -> None:
         """There is no session. The text says so of a place and a reason."""
@@ -34,47 +30,34 @@ class Run:
             self._log.info("served again at %s", self.place)
         self._is_away = False
 
-    def offered(self, id: int, moment: int = 0) -> None:
-        """An offer was accepted under this id, at this moment if that is known."""
+    def offered(self, id: int, moment: int) -> None:
+        """An offer was accepted under this id, at this moment."""
         last_id, last_moment = self._offers.get(id % SHARDS, (-1, 0))
-        if id <= last_id or moment and moment < last_moment:
-            self._lost(f"it gave id {id} to a new job")
+        if id <= last_id or moment < last_moment:
+            self._lost(f"gave id {id} to a new job")
             last_moment = 0
         self._offers[id % SHARDS] = id, max(moment, last_moment)
-        self._offered += 1
-        self._greatest = max(id, self._greatest)
 
     def given(self, id: int) -> None:
         """A job of this id was given, as each is once."""
-        if not self._given.add(id):
-            self._lost(f"it gave a job of id {id} for the second time")
-            self._given.add(id)
-        self._greatest = max(id, self._greatest)
+        self._see(self._given, id, "gave a job of id {} for the second time")
 
     def came_back(self, id: int) -> None:
         """A job that failed has this new id."""
-        if not self._returned.add(id):
-            self._lost(f"it gave id {id} to a second job that failed")
-            self._returned.add(id)
-        self._greatest = max(id, self._greatest)
+        self._see(self._returned, id, "gave id {} to a second job that failed")
+
+    def _see(self, seen: dict[int, int], id: int, sign: str) -> None:
+        # What was seen long ago is forgotten.
+        piece, bit = id // PIECE, 1 << id % PIECE
+        if seen.get(piece, 0) & bit:
+            self._lost(sign.format(id))
+        seen[piece] = seen.get(piece, 0) | bit
+        if len(seen) > MOST_PIECES:
+            del seen[next(iter(seen))]
 
     def _lost(self, sign: str) -> None:
-        self._log.error("the server at %s has lost its run: %s, and ids up to %d were known. What stood in its queue "
-                        "is gone, with what was not done of the %d jobs that this client had offered, and ids of that "
-                        "run name other jobs now", self.place, sign, self._greatest, self._offered)
-        self._begin()
-
-
-class _Once:
-    """Ids that are seen once, in whatever order. Those that were seen long ago are forgotten."""
-
-    def __init__(self) -> None:
-        self._pieces: dict[int, int] = {}
-
-    def add(self, id: int) -> bool:
-        """Sees an id. Gives whether it was not seen before."""
-        seen, bit = self._pieces.get(id // _PIECE, 0), 1 << id % _PIECE
-        self._pieces[id // _PIECE] = seen | bit
-        if len(self._pieces) > _MOST_PIECES:
-            del self._pieces[next(iter(self._pieces))]
-        return not seen & bit
+        self._log.error("the server at %s has lost its run: it %s. What stood in its queue is gone, and ids of that "
+                        "run name other jobs now", self.place, sign)
+        self._offers.clear()
+        self._given.clear()
+        self._returned.clear()

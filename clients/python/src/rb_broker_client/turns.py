@@ -10,13 +10,14 @@ import contextvars
 import queue
 import selectors
 import socket
+import threading
 from collections.abc import Callable
 from contextlib import suppress
-from typing import Any, Optional
+from typing import Any
 
-from .waiting import Task, run, start_thread
+from .waiting import Task, run
 
-Turn = Callable[[], Optional[float]]
+Turn = Callable[[], float | None]
 
 
 class ThreadTurns:
@@ -29,8 +30,8 @@ class ThreadTurns:
     has_started = False  # nothing that is waited for
 
     def __init__(self, is_apart: bool) -> None:
-        self.is_apart, self._threads = is_apart, 0
-        self._tasks: queue.SimpleQueue[Optional[Task]] = queue.SimpleQueue()
+        self._is_apart, self._threads = is_apart, 0
+        self._tasks: queue.SimpleQueue[Task | None] = queue.SimpleQueue()
         self._reader, self._writer = socket.socketpair()
         self._is_rung = False  # whether a byte is in it or about to be: one is enough
         self._selector = selectors.DefaultSelector()
@@ -68,13 +69,14 @@ class ThreadTurns:
 
     def start(self, task: Task, running: int) -> Callable[[], object]:
         """Runs a task, beside so many others. Gives what cancels it, which no thread can be."""
-        if not self.is_apart:
+        if not self._is_apart:
             run(task)
-        else:
-            self._tasks.put(task)
-            if running >= self._threads:
-                self._threads += 1
-                start_thread(self._work, str(self._threads))
+            return lambda: None
+        self._tasks.put(task)
+        if running >= self._threads:
+            self._threads += 1
+            # Those of an executor would be waited for at the end of the program, even if one hangs.
+            threading.Thread(target=self._work, name=f"rb_broker_client-{self._threads}", daemon=True).start()
         return lambda: None
 
     def _work(self) -> None:
@@ -82,8 +84,8 @@ class ThreadTurns:
             run(task)
 
     def ended(self) -> None:
-        """A task that was started ends now."""
-        if self.is_apart:
+        """A task ends now."""
+        if self._is_apart:
             self.wake()
 
     async def close(self) -> None:
@@ -99,8 +101,6 @@ class LoopTurns:
     told in one piece, and its place is free when more is fetched. Its methods do what those of `ThreadTurns` do.
     """
 
-    is_apart = True
-
     def __init__(self, is_apart: bool) -> None:
         self._tasks: set[Any] = set()
         self._loop: asyncio.AbstractEventLoop | None = None  # the one in which it runs
@@ -108,7 +108,7 @@ class LoopTurns:
         self._timer: asyncio.TimerHandle | None = None
 
     async def run(self, turn: Turn) -> None:
-        self._turn, self._context = turn, contextvars.copy_context()  # in which each task begins
+        self._turn, self._context = turn, contextvars.copy_context()  # in a copy of which each task runs
         self._loop = asyncio.get_running_loop()
         self._over = self._loop.create_future()
         self._take()
@@ -172,7 +172,7 @@ class LoopTurns:
 
     def start(self, task: Task, running: int) -> Callable[[], object]:
         self.has_started = True
-        started: asyncio.Task[object] = self._context.run(lambda: asyncio.get_running_loop().create_task(task))
+        started = asyncio.get_running_loop().create_task(task, context=self._context.copy())
         self._tasks.add(started)
         return started.cancel
 

@@ -7,11 +7,13 @@ import socket
 import threading
 import time
 from collections.abc import Callable, Coroutine
-from concurrent.futures import Future
+from concurrent.futures import ThreadPoolExecutor
 from contextlib import suppress
-from typing import Any, TypeVar, Union
+from functools import wraps
+from typing import Any, ParamSpec, TypeVar
 
 Result = TypeVar("Result")
+Words = ParamSpec("Words")
 Task = Coroutine[Any, Any, object]
 
 _Selector: Any = getattr(selectors, "PollSelector", selectors.SelectSelector)  # no descriptor more
@@ -27,9 +29,14 @@ def run(coroutine: Coroutine[Any, Any, Result]) -> Result:
     raise RuntimeError("a blocking client is to wait for an event loop")
 
 
-def start_thread(function: Callable[[], object], name: str) -> None:
-    """Runs this function in a daemon thread, which does not outlive the program."""
-    threading.Thread(target=function, name=f"rb_broker_client-{name}", daemon=True).start()
+def blocking(coroutine: Callable[Words, Coroutine[Any, Any, Result]]) -> Callable[Words, Result]:
+    """The function that runs what this one gives."""
+
+    @wraps(coroutine)
+    def call(*words: Words.args, **options: Words.kwargs) -> Result:
+        return run(coroutine(*words, **options))
+
+    return call
 
 
 class Blocking:
@@ -71,27 +78,23 @@ class Looping:
 
     @staticmethod
     async def apart(function: Callable[[], Result]) -> Result:
-        made: Future[Result] = Future()
-        made.set_running_or_notify_cancel()
-
-        def work() -> None:
-            try:
-                made.set_result(function())
-            except BaseException as fault:  # for the task that waits
-                made.set_exception(fault)
-
-        start_thread(work, "connects")  # those of the loop's executor may be busy
-        return await asyncio.wrap_future(made)
+        thread = ThreadPoolExecutor(1)  # those of the loop's executor may be busy
+        try:
+            return await asyncio.get_running_loop().run_in_executor(thread, function)
+        finally:
+            thread.shutdown(wait=False)
 
     @staticmethod
     async def ready(of: socket.socket, events: int, seconds: float | None) -> bool:
-        loop = asyncio.get_running_loop()
-        can: asyncio.Future[None] = loop.create_future()
-        loop.add_reader(of, _end, can)  # which is always waited for
+        loop, can = asyncio.get_running_loop(), asyncio.Event()
+        loop.add_reader(of, can.set)  # which is always waited for
         if events & selectors.EVENT_WRITE:
-            loop.add_writer(of, _end, can)
+            loop.add_writer(of, can.set)
         try:
-            return bool((await asyncio.wait([can], timeout=seconds))[0])
+            async with asyncio.timeout(seconds):
+                return await can.wait()
+        except TimeoutError:
+            return False
         finally:
             loop.remove_reader(of)
             loop.remove_writer(of)
@@ -99,8 +102,9 @@ class Looping:
     @staticmethod
     async def acquire(lock: Any, seconds: float) -> bool:
         try:
-            return bool(await asyncio.wait_for(lock.acquire(), seconds))
-        except asyncio.TimeoutError:
+            async with asyncio.timeout(seconds):
+                return bool(await lock.acquire())
+        except TimeoutError:
             return False
 
     @staticmethod
@@ -108,9 +112,4 @@ class Looping:
         return asyncio.get_running_loop().call_later(seconds, lambda: asyncio.ensure_future(begin())).cancel
 
 
-Kind = Union[type[Blocking], type[Looping]]
-
-
-def _end(waits: asyncio.Future[None]) -> None:
-    if not waits.done():
-        waits.set_result(None)
+Kind = type[Blocking] | type[Looping]

@@ -14,7 +14,7 @@ from time import monotonic
 from typing import Any
 
 from .durations import Ages, Pauses
-from .errors import BrokerError, FullError, HeldTooManyError, OutOfMemoryError, StoppedError
+from .errors import BrokerError, FullError, OutOfMemoryError, StoppedError
 from .job import Again, Job, Report
 from .request import Request
 from .run import Run
@@ -150,8 +150,7 @@ class Work:
             self._next_try = self._fetched + min(self._pauses.next(), self._wait)
             if monotonic() >= self._next_try:
                 self._pauses.reset()
-        elif isinstance(refused, (FullError, HeldTooManyError)):
-            # Nothing more can be had here. A full server can end only when its clients have left.
+        elif isinstance(refused, FullError):  # the server can end only when its clients have left
             log.warning("left the session at %s: %s", self._run.place, refused)
             self.is_used_up = True
         else:

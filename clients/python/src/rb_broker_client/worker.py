@@ -9,20 +9,18 @@ import ssl
 import threading
 import time
 from collections import deque
-from collections.abc import Awaitable, Callable
+from collections.abc import Callable
 from contextlib import ExitStack
 from dataclasses import dataclass
 from functools import partial
-from typing import Any, ClassVar, Generic, Optional, TypeVar
+from typing import Any, ClassVar, TextIO
 
-from .broker import Session
-from .clients import AsyncBroker, Broker
+from .broker import AsyncBroker, Broker, Session
 from .durations import FOR_EVER, Ages, Duration, Pauses, seconds
 from .job import MOST_HELD, Job, Report
-from .record import RecordTarget, check_record
 from .run import Run
 from .turns import LoopTurns, ThreadTurns
-from .waiting import run, start_thread
+from .waiting import blocking
 from .work import Work
 
 log = logging.getLogger(__name__)
@@ -31,39 +29,33 @@ BESIDE = 1.0  # seconds within which a session is to be connected beside another
 LONG = 60.0  # seconds after which a handler that runs is logged, and may hang
 SOON = 0.01  # seconds after which what the connection did not take is tried again
 
-Handler = Callable[[Job], object]
-"""Does a job, which is done when this returns, and fails when it raises an `Exception`."""
-AsyncHandler = Callable[[Job], Awaitable[object]]
-"""Does a job, as a `Handler`, for asyncio."""
-OnDead = Callable[[Job], object]
-"""Is told of a job that failed in its last attempt, and that the server no longer has. For an `AsyncWorker` it may be a
-coroutine function."""
-AnyHandler = TypeVar("AnyHandler", Handler, AsyncHandler)
+Function = Callable[[Job], object]  # or a coroutine function, for asyncio
 
 
 @dataclass(eq=False)
 class _Call:
     """A handler that runs, or what is told of a dead job, which is of no session any more."""
 
-    function: Callable[[Job], object]
+    function: Function
     job: Job
     work: Work | None
     began: float
     is_told: bool = False  # whether it has ended as far as the server is told
-    is_logged: bool = False
+    is_logged: bool = False  # whether it was logged that it takes long
     cancel: Callable[[], object] = lambda: None
 
 
-class BaseWorker(Generic[AnyHandler]):
+class BaseWorker:
     """What `Worker` and `AsyncWorker` have in common."""
 
     _session_of: ClassVar[type[Session]]
     _turns_of: ClassVar[Any]
 
-    def __init__(self, handler: AnyHandler, port: int, host: str = "127.0.0.1", *, concurrency: int = 1,
+    def __init__(self, handler: Function, port: int, host: str = "127.0.0.1", *, concurrency: int = 1,
                  wait: Duration = 1.0, patience: Duration = 10.0, session: Duration | None = 30.0,
-                 timeout: Duration | None = None, on_dead: OnDead | None = None, tls: ssl.SSLContext | None = None,
-                 pauses: Pauses | None = None, record: RecordTarget | None = None) -> None:
+                 timeout: Duration | None = None, on_dead: Function | None = None,
+                 tls: ssl.SSLContext | None = None, pauses: Pauses | None = None,
+                 record: TextIO | None = None) -> None:
         """Connects to nothing yet.
 
         `wait` is how long the worker waits for a job at a time, and so how long a stop takes at most while it is idle.
@@ -78,9 +70,8 @@ class BaseWorker(Generic[AnyHandler]):
         """
         if not 1 <= concurrency <= MOST_HELD:
             raise ValueError(f"from 1 to {MOST_HELD} jobs can run at the same time")
-        self._handler: Callable[[Job], object] = handler
-        self._on_dead, self._concurrency = on_dead, concurrency
-        self._session_at = partial(self._session_of, port, host, tls=tls, record=check_record(record))
+        self._handler, self._on_dead, self._concurrency = handler, on_dead, concurrency
+        self._session_at = partial(self._session_of, port, host, tls=tls, record=record)
         self._wait, self._patience = seconds(wait), seconds(patience)
         self._timeout = math.inf if timeout is None else seconds(timeout)
         self._ages, self._pauses = Ages(session, first_is_brief=True), pauses or Pauses()
@@ -90,8 +81,8 @@ class BaseWorker(Generic[AnyHandler]):
         self._visits: dict[Work, Session] = {}  # two at most, the older one first
         self._next_visit = 0.0  # when the next may begin
         self._calls: set[_Call] = set()  # that run
-        self._ends: deque[tuple[Optional[_Call], bool, Optional[BaseException]]] = deque()
-        self._next_look = math.inf  # when one of them may have been running for too long
+        self._ends: deque[tuple[_Call, bool]] = deque()  # of those that have ended: whether the job is done
+        self._fault: BaseException | None = None  # of a handler or of the host, for the caller of `run`
         self.report = Report()
 
     def stop(self, *_: object) -> None:
@@ -101,13 +92,27 @@ class BaseWorker(Generic[AnyHandler]):
         self._turns.wake()
 
     async def _work(self) -> Report:
+        """Works until `stop`, once for each worker. At the end no job is held, and the session has ended."""
+        is_over = threading.Event()
+        watch = threading.Thread(target=self._watch, args=[is_over], name="rb_broker_client-watches", daemon=True)
         try:
+            watch.start()
             await self._turns.run(self._turn)
         finally:
+            is_over.set()
             for work in [*self._visits]:
                 self._end(work)
             await self._turns.close()
         return self.report
+
+    def _watch(self, is_over: threading.Event) -> None:
+        # In a thread of its own: there is no turn while a handler hangs in the thread of `run`, or holds up the loop.
+        while not is_over.wait(LONG / 4):
+            for it in [*self._calls]:
+                if not it.is_logged and it.began + LONG <= time.monotonic():
+                    it.is_logged = True
+                    log.warning("%s of job %s, attempt %d, has been running for %g seconds",
+                                "the handler" if it.work else "on_dead", it.job.payload, it.job.attempt, LONG)
 
     def _turn(self) -> float | None:
         self._settle()
@@ -149,16 +154,18 @@ class BaseWorker(Generic[AnyHandler]):
         except OSError as fault:
             self._run_known.away("no server at %s: %s", fault)
             self._next_visit = time.monotonic() + self._pauses.next()
-        except Exception as fault:  # as of a host that is none, for the caller of `run`
-            self._ends.append((None, False, fault))
+        except Exception as fault:  # as of a host that is none
+            self._fault = fault
         self._is_connecting = False
         self._turns.ended()
 
     def _pause(self) -> float:
         now = time.monotonic()
-        pause = min(self._next_look - now, FOR_EVER)
+        pause = min(self._next_timeout() - now, FOR_EVER)
         if self._next_visit > now:
             pause = min(self._next_visit - now, pause)
+        if len(self._visits) == 2:
+            pause = min(pause, BESIDE)  # the older one may fetch on once its jobs take long
         for work, session in self._visits.items():
             pause = min(self._late(work, session) - now, work.pause(), pause if session.is_sent else SOON)
         return max(pause, 0)
@@ -208,14 +215,13 @@ class BaseWorker(Generic[AnyHandler]):
         session.close()
         self._next_visit = max(self._next_visit, time.monotonic() + pause)
 
-    def _start(self, function: Callable[[Job], object], job: Job, work: Work | None) -> None:
+    def _start(self, function: Function, job: Job, work: Work | None) -> None:
         call = _Call(function, job, work, time.monotonic())
-        self._next_look = min(self._next_look, call.began + min(LONG, self._timeout))
         self._calls.add(call)
         call.cancel = self._turns.start(self._run(call), len(self._calls) - 1)
 
     async def _run(self, call: _Call) -> None:
-        job, is_done, fault = call.job, False, None
+        job, is_done = call.job, False
         try:
             called = call.function(job)
             if self._session_of._kind.is_async and inspect.isawaitable(called):
@@ -229,58 +235,52 @@ class BaseWorker(Generic[AnyHandler]):
         except asyncio.CancelledError:
             if call.work is not None and not call.is_told:
                 log.warning("attempt %d of job %s was cancelled", job.attempt, job.payload)
-        except BaseException as raised:  # for the caller of `run`
-            fault = raised
-        self._ends.append((call, is_done, fault))
+        except BaseException as fault:
+            self._fault = fault
+        self._ends.append((call, is_done))
         self._turns.ended()
 
     def _settle(self) -> None:
+        if self._fault is not None:
+            raise self._fault
         while self._ends:
-            call, is_done, fault = self._ends.popleft()
-            if fault is not None:
-                raise fault
-            if call is not None:
-                self._calls.discard(call)
-                if call.work is not None and not call.is_told:
-                    call.work.ended(call.job, is_done)
-        if time.monotonic() >= self._next_look:
-            self._look()
+            call, is_done = self._ends.popleft()
+            self._calls.discard(call)
+            if call.work is not None and not call.is_told:
+                call.work.ended(call.job, is_done)
+        if self._next_timeout() <= time.monotonic():
+            self._fail_what_takes_too_long()
 
-    def _look(self) -> None:
-        now = time.monotonic()
-        for it in [*self._calls]:  # which another thread may do too
-            if it.work is None:
-                continue
-            if it.began + LONG <= now and not it.is_logged:
-                it.is_logged = True
-                log.warning("the handler of job %s, attempt %d, has been running for %g seconds", it.job.payload,
-                            it.job.attempt, LONG)
-            if it.began + self._timeout <= now and not it.is_told:
+    def _next_timeout(self) -> float:
+        if self._timeout == math.inf:
+            return math.inf
+        return min((it.began for it in self._calls if it.work and not it.is_told), default=math.inf) + self._timeout
+
+    def _fail_what_takes_too_long(self) -> None:
+        latest = time.monotonic() - self._timeout
+        for it in self._calls:
+            if it.work is not None and not it.is_told and it.began <= latest:
                 log.error("the handler of job %s, attempt %d, takes longer than %g seconds: the job fails",
                           it.job.payload, it.job.attempt, self._timeout)
                 it.is_told = True
                 it.work.ended(it.job, False)
                 it.cancel()
-        looks = [it.began + limit for it in [*self._calls] for limit in (LONG, self._timeout)]
-        self._next_look = min((it for it in looks if it > now), default=math.inf)
 
 
-class AsyncWorker(BaseWorker[AsyncHandler]):
-    """Takes jobs and runs the handler on each, up to `concurrency` of them at the same time, as `Worker`, for asyncio.
+class AsyncWorker(BaseWorker):
+    """A `Worker` for asyncio, whose handler is a coroutine function.
 
     Each job is a task of the loop, which is cancelled after `timeout`. If `run` is cancelled so are these tasks, and
-    the session ends with their jobs.
+    the session ends with their jobs. `on_dead` may be a coroutine function too.
     """
 
     _session_of, _turns_of = AsyncBroker, LoopTurns
-
-    async def run(self) -> Report:
-        """Works until `stop`, once for each worker. At the end no job is held, and the session has ended."""
-        return await self._work()
+    run = BaseWorker._work
 
 
-class Worker(BaseWorker[Handler]):
-    """Takes jobs and runs the handler on each, up to `concurrency` of them at the same time.
+class Worker(BaseWorker):
+    """Takes jobs and runs the handler on each, up to `concurrency` of them at the same time. A job is done when the
+    handler returns, and fails when it raises an `Exception`.
 
     With a `concurrency` of 1 and no `timeout` the handler runs in the thread of `run`, and else in up to 64 threads of
     its own: it must bear to be called by several at a time.
@@ -296,18 +296,4 @@ class Worker(BaseWorker[Handler]):
     """
 
     _session_of, _turns_of = Broker, ThreadTurns
-
-    def run(self) -> Report:
-        """Works until `stop`, once for each worker. At the end no job is held, and the session has ended."""
-        is_over = threading.Event()
-
-        def watch() -> None:  # while a handler runs in the thread of `run`, nothing else does there
-            while not is_over.wait(LONG / 4):
-                self._look()
-
-        if not self._turns.is_apart:
-            start_thread(watch, "watches")
-        try:
-            return run(self._work())
-        finally:
-            is_over.set()
+    run = blocking(BaseWorker._work)

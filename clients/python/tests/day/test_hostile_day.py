@@ -48,7 +48,7 @@ class WorkerProcess:
 
     @property
     def may_end(self):
-        """Whether a signal ends it in good order. Before it has asked something, one might end it as any other process."""
+        """Whether a signal ends it in good order, as it does once it has asked something."""
         return self.has_begun
 
     def kill(self):
@@ -132,7 +132,7 @@ class HostileDayTest(ServedTest):
 
     def end(self):
         """Lets the server end, while clients go on."""
-        self.server.use_up(LONGEST)
+        self.server.use_up()
         lines = self.assert_ends(self.server, SESSIONS, self.histories[-1], POLICY, faults="[0-9]+", lost="[0-9]+")
         self.lost += int(lines[0].split(" ")[-1])
 
@@ -158,7 +158,8 @@ class HostileDayTest(ServedTest):
                 self.workers[place] = self.start_worker(worker.handler)
 
     def options(self):
-        return {"session": 1, "patience": LONGEST, "pauses": Pauses(0.05, 0.5), "record": self.record("producer")}
+        return {"session": 1, "patience": LONGEST, "pauses": Pauses(0.05, 0.5),
+                "record": open(self.record("producer"), "a", encoding="ascii")}
 
     def produce(self):
         with Producer(self.port, **self.options()) as producer:

@@ -1,30 +1,25 @@
 """Several workers in threads, and a note of what they handled."""
+import asyncio
 import threading
-from typing import Any, Callable, List
 
-from rb_broker_client import Job, Pauses, Report, Worker
-
-PATIENCE = 30  # seconds that a test waits for anything
-
-
-class Failure(Exception):
-    """A job that is to fail."""
+from rb_broker_client import AsyncWorker, Job, Pauses, Report, Worker
+from serving import PATIENCE
 
 
 class Crew:
-    """Workers of one port, with these options. `is_done` says whether an attempt of a job is done, or fails."""
+    """Workers of one port, with these options; each second one is of asyncio. `is_done` says whether an attempt of a
+    job is done, or fails."""
 
-    def __init__(self, port: int, count: int, is_done: Callable[[Job], bool], **options: Any) -> None:
+    def __init__(self, port, count, is_done, **options):
         self._is_done = is_done
         self._lock = threading.Lock()
-        self.handled: List[Job] = []
+        self.handled: list[Job] = []
         options = {"pauses": Pauses(first=0.05, longest=0.2), **options}
-        self.workers = [Worker(self._handle, port, **options) for _ in range(count)]
-        self._threads = [threading.Thread(target=it.run, daemon=True) for it in self.workers]
-        for thread in self._threads:
-            thread.start()
+        self.workers = [AsyncWorker(self._handle_async, port, **options) if it % 2 else
+                        Worker(self._handle, port, **options) for it in range(count)]
+        self._threads = [run_in_thread(it) for it in self.workers]
 
-    def stop(self) -> Report:
+    def stop(self):
         """Stops all of them, and waits until they have ended. The sum of their reports."""
         for worker in self.workers:
             worker.stop()
@@ -34,13 +29,25 @@ class Crew:
                 raise RuntimeError("a worker does not stop")
         return Report(**{name: sum(getattr(it.report, name) for it in self.workers) for name in vars(Report())})
 
-    def done(self) -> List[str]:
+    def done(self):
         """The payloads of the jobs whose handler returned."""
         with self._lock:
             return [it.payload for it in self.handled if self._is_done(it)]
 
-    def _handle(self, job: Job) -> None:
+    def _handle(self, job):
         with self._lock:
             self.handled.append(job)
         if not self._is_done(job):
-            raise Failure(job.payload)
+            raise ValueError(f"{job.payload} is to fail")
+
+    async def _handle_async(self, job):
+        await asyncio.sleep(0)
+        self._handle(job)
+
+
+def run_in_thread(worker):
+    """Runs a worker of either kind in a thread of its own, until it is stopped."""
+    is_async = isinstance(worker, AsyncWorker)
+    thread = threading.Thread(target=lambda: asyncio.run(worker.run()) if is_async else worker.run(), daemon=True)
+    thread.start()
+    return thread

@@ -28,26 +28,12 @@ class Certificates:
         """Its key."""
         return os.path.join(self.room, f"{name}.key")
 
-    def joined(self, name):
-        """A file with both."""
-        path = os.path.join(self.room, f"{name}-joined.pem")
-        with open(path, "w", encoding="ascii") as file:
-            for part in (self.path(name), self.key(name)):
-                with open(part, encoding="ascii") as it:
-                    file.write(it.read())
-        return path
-
     def client(self, authority="ca", name="client"):
         """What a client is given that trusts this authority, and shows this certificate."""
         context = ssl.create_default_context(cafile=self.path(authority))
         if name is not None:
             context.load_cert_chain(self.path(name), self.key(name))
         return context
-
-    def words(self, authority="ca", name="client"):
-        """What the command is given for the same."""
-        shows = ["--cert", self.path(name), "--key", self.key(name)] if name is not None else []
-        return ["--tls", "--ca", self.path(authority), *shows]
 
     def server(self, name="server"):
         """What a server is given that shows this certificate, and wants one of `ca`."""

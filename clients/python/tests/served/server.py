@@ -1,30 +1,20 @@
-"""The program as a server, and what it leaves. RB_BROKER_PROGRAM names another program than the built one.
-
-It is no part of the repository's tools: the tests of this package need nothing but the program.
-"""
-import asyncio
+"""What tests have that run clients against servers: the program, or the one that RB_BROKER_PROGRAM names."""
 import atexit
-import inspect
 import logging
-import os
-import random
-import socket
 import subprocess
 import sys
-import tempfile
 import threading
 import time
-import unittest
 
-from crew import PATIENCE, Crew
+from common.program import TOP, tested_program
+from crew import Crew, run_in_thread
 from history import History
 from rb_broker_client import Broker, Request
-
-TOP = os.path.realpath(os.path.join(os.path.dirname(os.path.realpath(__file__)), *[os.pardir] * 4))
-PROGRAM = os.environ.get("RB_BROKER_PROGRAM") or os.path.join(TOP, "crates", "rb_broker", "out", "rb_broker")
+from serving import PATIENCE
+from serving.testing import ServingTest
 
 PIECE = 1_000  # offers
-LONGEST = 600  # seconds after which a server is killed, so that no test lasts for ever
+LONGEST = 600  # seconds of what may take long
 
 
 def start(words, **options):
@@ -34,63 +24,13 @@ def start(words, **options):
     return process
 
 
-class Server:
-    """A server with these options, at this port or at one that nobody else uses."""
-
-    def __init__(self, *options, port=None):
-        tries = [port] if port else [random.randrange(20_000, 32_000) for _ in range(20)]  # below the clients' ports
-        for self.port in tries:
-            words = [PROGRAM, "serve", "--port", str(self.port), *map(str, options)]
-            self._process = start(words, stderr=subprocess.PIPE, encoding="utf-8")
-            if self._process.stdout.readline() == f"listening 127.0.0.1:{self.port}\n":
-                self._watch = threading.Timer(LONGEST, self._process.kill)
-                self._watch.daemon = True
-                self._watch.start()
-                return
-            self._process.kill()
-            fault = self._process.communicate()[1].strip()
-        raise RuntimeError(f"no server could be started: {fault}")
-
-    def use_up(self, seconds=PATIENCE):
-        """Uses up the sessions that are left, so that the server ends once those that go on have ended."""
-        deadline = time.monotonic() + seconds
-        while time.monotonic() < deadline:
-            try:
-                socket.create_connection(("127.0.0.1", self.port), timeout=PATIENCE).close()
-            except OSError:
-                return
-            time.sleep(0.002)
-        raise RuntimeError("the server listens on and on")
-
-    def end(self):
-        """Waits for its end. Its status, and the lines that it wrote then to standard output and standard error."""
-        said, errors = self._process.communicate(timeout=PATIENCE)
-        self._watch.cancel()
-        return self._process.returncode, said.splitlines() + errors.splitlines()
-
-    def kill(self):
-        """Ends it at once, if it has not ended."""
-        self._watch.cancel()
-        self._process.kill()
-        self._process.wait()
-        self._process.stdout.close()
-        self._process.stderr.close()
-
-
-class ServedTest(unittest.TestCase):
+class ServedTest(ServingTest):
     """A test that starts servers and workers, each of which is gone at its end."""
 
     def setUp(self):
+        super().setUp()
         logging.disable(logging.CRITICAL)  # workers tell of each job that fails and each server that goes away
         self.addCleanup(logging.disable, logging.NOTSET)
-        room = tempfile.TemporaryDirectory()
-        self.addCleanup(room.cleanup)
-        self.room = room.name
-
-    def serve(self, *options, port=None):
-        server = Server(*options, port=port)
-        self.addCleanup(server.kill)
-        return server
 
     def gather(self, server, count, is_done, **options):
         """This many workers of the server's port."""
@@ -107,8 +47,8 @@ class ServedTest(unittest.TestCase):
 
     def begin_worker(self, worker):
         """Runs a worker of either kind in a thread of its own, until it is stopped."""
-        is_async = inspect.iscoroutinefunction(worker.run)
-        thread = self.begin(lambda: asyncio.run(worker.run()) if is_async else worker.run())
+        thread = run_in_thread(worker)
+        self.addCleanup(thread.join, PATIENCE)
         self.addCleanup(worker.stop)
         return thread
 
@@ -130,14 +70,13 @@ class ServedTest(unittest.TestCase):
     def assert_ends(self, server, sessions, history=None, policy=(), faults="0", lost="0"):
         """The server ends well after so many sessions. By the program's own replay the history is legal, its retries
         are right, and its audit line is that which the server wrote. Gives the lines that it wrote."""
-        status, lines = server.end()
-        self.assertEqual(status, 0, lines)
+        status, lines, errors = server.end()
+        self.assertEqual((status, errors), (0, ""), lines)
         self.assertRegex(lines[0], f"^sessions {sessions} faults {faults} lost {lost}$")
         if history is not None:
-            process = start([PROGRAM, "replay", history, "--chains", *map(str, policy)], stderr=subprocess.STDOUT,
-                            encoding="utf-8")
-            said, _ = process.communicate(timeout=LONGEST)
-            self.assertEqual((process.returncode, said.strip()), (0, lines[1]))
+            words = [tested_program(), "replay", history, "--chains", *map(str, policy)]
+            ran = subprocess.run(words, capture_output=True, encoding="utf-8", timeout=LONGEST)
+            self.assertEqual((ran.returncode, ran.stdout.strip(), ran.stderr), (0, lines[1], ""))
         return lines
 
     def assert_cut(self, server, sessions, *history, lost="0"):
@@ -157,14 +96,14 @@ class ServedTest(unittest.TestCase):
 
     def assert_verified(self, *words):
         """By tools/verify a history has what these records tell."""
-        ran = subprocess.run([sys.executable, os.path.join(TOP, "tools", "verify"), *words], stdout=subprocess.PIPE,
+        ran = subprocess.run([sys.executable, f"{TOP}/tools/verify", *words], stdout=subprocess.PIPE,
                              stderr=subprocess.STDOUT, encoding="utf-8", timeout=LONGEST)
         self.assertEqual((ran.returncode, ran.stdout.splitlines()[-1]), (0, "0 faults"), ran.stdout)
 
     def command(self, port, *words):
         """Runs the package's command to its end. Its status, and what it wrote."""
         words = [sys.executable, "-m", "rb_broker_client", *map(str, words), "--port", str(port)]
-        ran = subprocess.run(words, stdout=subprocess.PIPE, stderr=subprocess.PIPE, encoding="ascii", timeout=PATIENCE)
+        ran = subprocess.run(words, capture_output=True, encoding="ascii", timeout=PATIENCE)
         return ran.returncode, ran.stdout, ran.stderr
 
     def start_worker(self, port, *words, **options):

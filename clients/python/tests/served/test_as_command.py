@@ -1,8 +1,9 @@
-"""The package as a command, with the built program."""
+"""The package as a command, with the built program; and its worker as a process that is killed, or sent signals."""
 import signal
 import subprocess
 import time
 
+from history import History
 from server import PATIENCE, ServedTest
 
 HANDLERS = """
@@ -30,8 +31,7 @@ async def keep_async(job):
 class CommandTest(ServedTest):
     def setUp(self):
         super().setUp()
-        with open(f"{self.room}/handlers.py", "w", encoding="ascii") as file:
-            file.write(HANDLERS)
+        self.file("handlers.py", HANDLERS)
 
     def start(self, server, *words, handler="handlers:deliver"):
         return self.start_worker(server.port, handler, *words, cwd=self.room, stderr=subprocess.PIPE)
@@ -49,32 +49,24 @@ class CommandTest(ServedTest):
         self.assertEqual((worker.returncode, told), (0, said))
         return errors
 
-    def test_a_job_from_its_offer_to_its_end(self):
-        server = self.serve("--sessions", 6, "--workers", 2, "--attempts", 2)
-        self.assertEqual(self.assert_done(server, "peek"), "NONE\n")
-        said = self.assert_done(server, "offer", "1ms", "letter")
-        self.assertRegex(said, "^OFFERED 0 [0-9]+\n$")
-        self.assertEqual(self.assert_done(server, "peek"), f"HEAD 0 {said.split()[2]} 1 letter\n")
-        self.assertEqual(self.assert_done(server, "size"), "SIZE 1\n")
-        self.assert_done(server, "offer", "0s", "bad")
-        worker = self.start(server, "--on-dead", "handlers:keep", "--concurrency", "4")
-        self.assertEqual({worker.stdout.readline() for _ in range(2)}, {"letter 1\n", "dead bad 2\n"})
-        errors = self.assert_stops(worker, "done 1, again 1, dead 1, lost 0, unheard 0\n")
-        self.assertIn("WARNING attempt 1 of job bad failed", errors)
-        self.assert_ends(server, 6)
+    def test_jobs_from_their_offers_to_their_ends(self):
+        for functions in (("handlers:deliver", "handlers:keep"), ("handlers:deliver_async", "handlers:keep_async")):
+            server = self.serve("--sessions", 6, "--workers", 2, "--attempts", 2)
+            self.assertEqual(self.assert_done(server, "peek"), "NONE\n")
+            said = self.assert_done(server, "offer", "0.001", "letter")
+            self.assertRegex(said, "^OFFERED 0 [0-9]+\n$")
+            self.assertEqual(self.assert_done(server, "peek"), f"HEAD 0 {said.split()[2]} 1 letter\n")
+            self.assertEqual(self.assert_done(server, "size"), "SIZE 1\n")
+            self.assert_done(server, "offer", "0", "bad")
+            worker = self.start(server, "--on-dead", functions[1], "--concurrency", "4", handler=functions[0])
+            self.assertEqual({worker.stdout.readline() for _ in range(2)}, {"letter 1\n", "dead bad 2\n"})
+            errors = self.assert_stops(worker, "done 1, again 1, dead 1, lost 0, unheard 0\n")
+            self.assertIn("WARNING attempt 1 of job bad failed", errors)
+            self.assert_ends(server, 6)
 
-    def test_a_coroutine_function(self):
-        server = self.serve("--sessions", 3, "--workers", 2, "--attempts", 1)
-        for payload in ("bad", "letter"):
-            self.assert_done(server, "offer", 0, payload)
-        worker = self.start(server, "--on-dead", "handlers:keep_async", handler="handlers:deliver_async")
-        self.assertEqual({worker.stdout.readline() for _ in range(2)}, {"letter 1\n", "dead bad 1\n"})
-        self.assert_stops(worker, "done 1, again 0, dead 1, lost 0, unheard 0\n")
-        self.assert_ends(server, 3)
-
-    def start_slow(self):
+    def start_slow(self, sessions=2, *options):
         """A server, and a worker in the middle of a slow job."""
-        server = self.serve("--sessions", 2)
+        server = self.serve("--sessions", sessions, *options)
         self.assert_done(server, "offer", 0, "slow")
         worker = self.start(server)
         self.assertEqual(worker.stdout.readline(), "slow has begun\n")
@@ -94,6 +86,16 @@ class CommandTest(ServedTest):
         said, _ = worker.communicate(timeout=PATIENCE)
         self.assertEqual((worker.returncode, said), (-signal.SIGTERM, ""))
 
+    def test_a_worker_that_is_killed_with_a_job(self):
+        server, killed = self.start_slow(3, "--history", self.path("history"))
+        killed.kill()
+        worker = self.start(server)
+        self.assertEqual([worker.stdout.readline() for _ in range(2)], ["slow has begun\n", "slow 2\n"])
+        self.assert_stops(worker, "done 1, again 0, dead 0, lost 0, unheard 0\n")
+        self.assert_ends(server, 3, self.path("history"))
+        history = History(self.path("history"))
+        self.assertEqual((history.attempts(), history.given), ({"slow": [1, 2]}, [0, 1]))
+
     def test_it_says_when_a_server_is_gone_and_when_it_is_served_again(self):
         server = self.serve("--sessions", 9)
         worker = self.start(server)
@@ -104,11 +106,9 @@ class CommandTest(ServedTest):
         following = self.serve("--sessions", 2, port=server.port)
         self.assert_done(following, "offer", 0, "second")
         self.assertEqual(worker.stdout.readline(), "second 1\n")
-        worker.send_signal(signal.SIGTERM)
-        _, errors = worker.communicate(timeout=PATIENCE)
-        lost, again, run = errors.splitlines()
+        lost, again, run = self.assert_stops(worker, "done 2, again 0, dead 0, lost 0, unheard 0\n").splitlines()
         place = f"127.0.0.1:{server.port}"
         self.assertRegex(lost, f" WARNING the session at {place} was lost: ")
         self.assertRegex(again, f" INFO served again at {place}$")
-        told = f" ERROR the server at {place} has lost its run: it gave a job of id 0 for the second time, "
+        told = f" ERROR the server at {place} has lost its run: it gave a job of id 0 for the second time"
         self.assertIn(told, run)

@@ -1,12 +1,13 @@
-"""Workers and producers that nobody stops, while servers end and are followed by the next."""
-from datetime import timedelta
+"""Workers and producers that nobody stops, while servers end, are full or are killed, and are followed by the next."""
+import asyncio
+import logging
 
 from history import History
-from rb_broker_client import Pauses, Producer, Report
+from rb_broker_client import AsyncProducer, Broker, FullError, Pauses, Producer, Report, Request
 from server import PATIENCE, ServedTest
 
 POLICY = ("--delay", 1_000_000, "--attempts", 5)
-JOBS, SERVERS = 1_500, 4
+JOBS, SERVERS, SESSIONS = 1_500, 3, 1_000
 
 
 def is_done(job):
@@ -15,61 +16,99 @@ def is_done(job):
 
 
 class LeavingTest(ServedTest):
-    def serve_run(self, number, port=None):
-        """The server of this number, which continues the run of the one before."""
-        self.histories = [f"{self.room}/{it}" for it in range(number + 1)]
-        opening = ["--from", self.histories[-2]] if number else []
-        return self.serve("--workers", 5, "--sessions", 1_000, "--calls", 100_000, *POLICY, *opening, "--history",
+    def setUp(self):
+        super().setUp()
+        self.histories = []
+
+    def serve_run(self, port=None, calls=100_000):
+        """The next server, which continues the run of the one before."""
+        opening = ["--from", self.histories[-1]] if self.histories else []
+        self.histories.append(f"{self.room}/{len(self.histories)}")
+        return self.serve("--workers", 6, "--sessions", SESSIONS, "--calls", calls, *POLICY, *opening, "--history",
                           self.histories[-1], port=port)
 
-    def assert_ends_well(self, server):
+    def assert_ends_well(self, server, **counts):
         """The server ends once its sessions are used up, though no client is told to leave."""
-        self.assert_cut(server, 1_000, self.histories[-1], POLICY)
+        return self.assert_cut(server, SESSIONS, self.histories[-1], POLICY, **counts)
 
-    def test_a_server_ends_beside_an_idle_worker_and_an_idle_producer(self):
-        server = self.serve_run(0)
-        crew = self.gather(server, 1, is_done, session=0.5)
-        with Producer(server.port, session=0.5) as producer:
-            producer.offer("1", delay=timedelta(hours=1))
-            producer.offer("2")
-            self.wait_until(lambda: crew.done() == ["2"])
-            self.assert_ends_well(server)
-            following = self.serve_run(1, server.port)
-            producer.offer("3")
-            self.wait_until(lambda: crew.done() == ["2", "3"])
-            self.assert_ends_well(following)
-        self.assertEqual(crew.stop(), Report(done=2))
-        history = History(*self.histories)
-        left = {it.payload for id, it in history.elements.items() if id not in history.given}
-        self.assertEqual(left, {"1"})
+    def produce(self, port):
+        """Half of the jobs by a producer, and half by tasks that share another, at the same time."""
+        options = {"patience": 2 * PATIENCE, "session": 0.2, "pauses": Pauses(0.05, 0.2)}
+
+        async def produce_async():
+            async with AsyncProducer(port, **options) as producer:
+                async def offer(first):
+                    for number in range(first, JOBS, 8):
+                        await producer.offer(str(number))
+
+                await asyncio.gather(*(offer(it) for it in (1, 3, 5, 7)))
+
+        other = self.begin(lambda: asyncio.run(produce_async()))
+        with Producer(port, **options) as producer:
+            for number in range(0, JOBS, 2):
+                producer.offer(str(number))
+        other.join(PATIENCE)
 
     def test_jobs_are_done_through_servers_in_a_row(self):
-        server = self.serve_run(0)
+        server = self.serve_run()
         crew = self.gather(server, 3, is_done, session=0.2)
         producing = self.begin(lambda: self.produce(server.port))
         for number in range(1, SERVERS):
             self.wait_until(lambda: len(crew.done()) >= number * JOBS // (SERVERS + 1), 2 * PATIENCE)
             self.assert_ends_well(server)
-            server = self.serve_run(number, server.port)
+            server = self.serve_run(server.port)
         producing.join(PATIENCE)
         self.wait_until(lambda: len(crew.done()) >= JOBS, 2 * PATIENCE)
         self.assertEqual(crew.stop(), Report(done=JOBS, again=JOBS // 5))
         self.assert_ends_well(server)
         self.assert_attempts(self.histories, crew.handled, {str(it): [1] if it % 5 else [1, 2] for it in range(JOBS)})
 
-    def produce(self, port):
-        with Producer(port, patience=2 * PATIENCE, session=0.2, pauses=Pauses(0.05, 0.2)) as producer:
-            for number in range(JOBS):
-                producer.offer(str(number))
+    def test_what_a_full_run_left_is_worked_off_in_the_next(self):
+        first = self.serve_run(calls=JOBS)
+        crew = self.gather(first, 3, is_done)
+        producing = self.begin(lambda: self.produce(first.port))
+        with Broker(first.port, patience=PATIENCE) as broker:
+            self.wait_until(lambda: isinstance(broker.ask_all([Request.size()])[0], FullError))
+        told = self.assert_ends_well(first, lost="[0-9]+")[0]
+        following = self.serve_run(first.port)
+        producing.join(2 * PATIENCE)
+        self.wait_until(lambda: len(crew.done()) + sum(it.report.lost for it in crew.workers) >= JOBS)
+        report = crew.stop()
+        self.assertEqual((report.done, report.unheard), (JOBS - report.lost, 0))
+        self.assertRegex(told, f" lost {report.lost}$")
+        self.assert_ends_well(following)
+        # Each job was offered once, though the server was replaced; each element that was given was handled once; and
+        # each job that was not lost was done once.
+        history = History(*self.histories)
+        first_attempts = sorted(it.payload for it in history.elements.values() if it.attempt == 1)
+        self.assertEqual(first_attempts, sorted(map(str, range(JOBS))))
+        self.assertEqual(sorted(it.id for it in crew.handled), sorted(history.given))
+        self.assertEqual([len(crew.done()), len({*crew.done()})], [JOBS - report.lost] * 2)
 
-    def test_dead_jobs_are_told_with_their_last_attempt(self):
-        server = self.serve("--delay", 0, "--attempts", 2, "--sessions", 2)
-        dead = []
-        crew = self.gather(server, 1, lambda job: job.payload == "good", on_dead=dead.append)
-        with Producer(server.port) as producer:
-            for payload in ("bad", "good", "worse"):
-                producer.offer(payload)
-        self.wait_until(lambda: len(dead) == 2 and crew.done() == ["good"])
-        self.assertEqual(crew.stop(), Report(done=1, again=2, dead=2))
-        self.assertEqual(sorted((it.attempt, it.payload) for it in dead), [(2, "bad"), (2, "worse")])
-        self.assert_ends(server, 2)
+    def test_a_run_that_was_lost_is_logged_and_one_that_goes_on_is_not(self):
+        """A worker and a producer are idle when a server ends well and one is killed, and go on with the next."""
+        server = self.serve_run()
+        crew = self.gather(server, 1, is_done, session=0.3)
+        logging.disable(logging.NOTSET)
+        with self.assertLogs("rb_broker_client", logging.ERROR) as said, \
+                Producer(server.port, patience=PATIENCE, session=0.3) as producer:
+            def offer(*numbers):
+                for it in numbers:
+                    producer.offer(str(it))
+                self.wait_until(lambda: {str(it) for it in numbers} <= {*crew.done()})
+
+            offer(*range(1, 30))
+            self.assert_ends_well(server)
+            server = self.serve_run(server.port)
+            offer(*range(30, 60))
+            self.assertEqual(said.records, [])
+            server.kill()
+            self.histories.pop()
+            self.serve_run(server.port)
+            offer(*range(60, 90))
+            crew.stop()
+        logging.disable(logging.CRITICAL)
+        names = [it.name for it in said.records]
+        self.assertEqual(({*names}, names.count("rb_broker_client.producer")),
+                         ({"rb_broker_client.producer", "rb_broker_client.worker"}, 1))
+        self.assertTrue(all("has lost its run" in it.getMessage() for it in said.records))

@@ -1,35 +1,20 @@
 """Thousands of jobs, of which some fail, and several workers; and workers that run many jobs over one session."""
+import asyncio
 import threading
 import time
 
-from rb_broker_client import MOST_HELD, Broker, Report, Worker
+from rb_broker_client import AsyncProducer, AsyncWorker, Broker, Producer, Report, Worker
+from rb_broker_client.job import MOST_HELD
 from server import LONGEST, PATIENCE, ServedTest
 
 ATTEMPTS = 3
 POLICY = ("--delay", 1_000_000, "--attempts", ATTEMPTS)
 
 
-class Gate:
-    """A handler whose jobs wait until as many run as are wanted."""
-
-    def __init__(self, wanted):
-        self._barrier = threading.Barrier(wanted)
-        self._lock = threading.Lock()
-        self.running = self.most = 0
-
-    def __call__(self, job):
-        with self._lock:
-            self.running += 1
-            self.most = max(self.most, self.running)
-        self._barrier.wait(PATIENCE)
-        with self._lock:
-            self.running -= 1
-
-
 class ManyJobsTest(ServedTest):
     def assert_handled(self, count, needed, assert_ends, sessions, crew, **options):
         """Jobs of which each needs so many attempts are handled by workers until they are done or dead."""
-        path = f"{self.room}/history"
+        path = self.path("history")
         server = self.serve("--workers", crew + 1, "--sessions", sessions, "--calls", 1_000_000, *POLICY, "--history",
                             path)
         crew = self.gather(server, crew, lambda job: job.attempt == needed(int(job.payload)), **options)
@@ -50,73 +35,52 @@ class ManyJobsTest(ServedTest):
         needed = lambda number: 1 + (number % 7 == 0) + (number % 49 == 0)
         self.assert_handled(6_000, needed, self.assert_cut, 200, crew=2, concurrency=16, session=0.3)
 
+    def test_by_their_records_tools_verify_finds_no_fault(self):
+        history, jobs = self.path("history"), 1_000
+        server = self.serve("--workers", 5, "--sessions", 300, "--calls", 100_000, *POLICY, "--history", history)
+        with open(self.path("record"), "a", encoding="ascii") as record:
+            options = {"session": 0.5, "record": record}
+            crews = [self.gather(server, count, lambda job: job.attempt > 1 or int(job.payload) % 5, concurrency=most,
+                                 **options) for count, most in ((1, 1), (2, 8))]
+
+            async def offer():
+                async with AsyncProducer(server.port, **options) as producer:
+                    for number in range(1, jobs, 2):
+                        await producer.offer(str(number))
+
+            other = self.begin(lambda: asyncio.run(offer()))
+            with Producer(server.port, **options) as producer:
+                for number in range(0, jobs, 2):
+                    producer.offer(str(number))
+            other.join(PATIENCE)
+            self.wait_until(lambda: sum(len(it.done()) for it in crews) >= jobs)
+            counts = [vars(it.stop()) for it in crews]
+        self.assert_cut(server, 300)
+        self.assertEqual([sum(it[name] for it in counts) for name in vars(Report())], [jobs, jobs // 5, 0, 0, 0])
+        self.assert_verified("--all", history, self.path("record"))  # the record has each call
+
 
 class ConcurrentJobsTest(ServedTest):
-    def work(self, handler, server, concurrency):
-        """A worker, and the thread that runs it."""
-        worker = Worker(handler, server.port, concurrency=concurrency)
-        return worker, self.begin_worker(worker)
-
     def test_as_many_run_as_a_session_holds_and_no_more(self):
-        server = self.serve("--sessions", 2)
-        self.offer(server, *range(3 * MOST_HELD))
-        gate = Gate(MOST_HELD)
-        worker, thread = self.work(gate, server, MOST_HELD)
-        self.wait_until(lambda: worker.report.done == 3 * MOST_HELD)
-        self.assert_stops(worker, thread, Report(done=3 * MOST_HELD))
-        self.assertEqual(gate.most, MOST_HELD)
-        self.assert_ends(server, 2)
-
-    def test_what_can_not_be_started_is_left_to_others(self):
-        server = self.serve("--sessions", 3)
-        self.offer(server, *range(10))
+        """The others are left in the queue."""
         may_end = threading.Event()
-        worker, thread = self.work(lambda job: may_end.wait(PATIENCE), server, 4)
-        with Broker(server.port, patience=PATIENCE) as broker:
-            self.wait_until(lambda: broker.size() == 6)
-            time.sleep(0.5)
-            self.assertEqual(broker.size(), 6)
-            others = broker.drain(10)
-            self.assertEqual(len(others), 6)
-            for job in others:
-                broker.done(job.id)
-            broker.quit()
-        worker.stop()
-        time.sleep(0.2)
-        self.assertTrue(thread.is_alive())
-        may_end.set()
-        self.assert_stops(worker, thread, Report(done=4))
-        self.assert_ends(server, 3)
 
-    def test_the_end_of_a_job_is_told_while_others_run(self):
-        server = self.serve("--sessions", 2, "--workers", 2)
-        ends = {it: threading.Event() for it in ("slow", "quick")}
-        worker, thread = self.work(lambda job: ends[job.payload].wait(PATIENCE), server, 3)
-        with Broker(server.port, patience=PATIENCE) as broker:
-            for payload in ends:
-                broker.offer(payload)
-            self.wait_until(lambda: broker.size() == 0)
-            time.sleep(0.3)
-            ends["quick"].set()
-            began = time.monotonic()
-            self.wait_until(lambda: worker.report.done == 1)
-            self.assertLess(time.monotonic() - began, 0.5)  # a wait beside a job that runs lasts 0.2 s
-            broker.quit()
-        ends["slow"].set()
-        self.assert_stops(worker, thread, Report(done=2))
+        async def wait(job):
+            while not may_end.is_set():
+                await asyncio.sleep(0.05)
 
-    def test_a_server_that_is_killed_while_many_run(self):
-        server = self.serve("--sessions", 5)
-        self.offer(server, *range(8))
-        may_end = threading.Event()
-        worker, thread = self.work(lambda job: may_end.wait(PATIENCE), server, 8)
-        with Broker(server.port, patience=PATIENCE) as broker:
-            self.wait_until(lambda: broker.size() == 0)
-        server.kill()
-        self.wait_until(lambda: worker.report.unheard == 8)
-        following = self.serve("--sessions", 2, "--delay", 100_000_000, port=server.port)
-        may_end.set()
-        self.offer(following, *range(8))
-        self.wait_until(lambda: worker.report.done == 8)
-        self.assert_stops(worker, thread, Report(done=8, unheard=8))
-        self.assert_ends(following, 2)
+        for kind, handler in ((Worker, lambda job: may_end.wait(PATIENCE)), (AsyncWorker, wait)):
+            may_end.clear()
+            server = self.serve("--sessions", 3)
+            self.offer(server, *range(2 * MOST_HELD))
+            worker = kind(handler, server.port, concurrency=MOST_HELD)
+            thread = self.begin_worker(worker)
+            with Broker(server.port, patience=PATIENCE) as broker:
+                self.wait_until(lambda: broker.size() == MOST_HELD)
+                time.sleep(0.5)
+                self.assertEqual(broker.size(), MOST_HELD)
+                broker.quit()
+            may_end.set()
+            self.wait_until(lambda: worker.report.done == 2 * MOST_HELD)
+            self.assert_stops(worker, thread, Report(done=2 * MOST_HELD))
+            self.assert_ends(server, 3)

@@ -1,9 +1,10 @@
-"""Handlers that hang, and more clients than workers."""
+"""Handlers that hang, more clients than workers, and servers that are busy or let nothing wait."""
 import asyncio
 import threading
 import time
 import unittest.mock
 
+from history import History
 from rb_broker_client import AsyncWorker, Broker, Producer, Report, Worker
 from server import PATIENCE, ServedTest
 
@@ -46,29 +47,20 @@ class HangTest(ServedTest):
         self.may_end.set()
         self.assert_stops(worker, thread, report)
 
-    def test_jobs_go_on_being_fetched(self):
+    def test_jobs_go_on_being_fetched_by_two_sessions_at_most(self):
         for kind in (Worker, AsyncWorker):
             self.done.clear()
             self.may_end.clear()
-            server = self.serve("--workers", 4, "--sessions", 100)
+            server = self.serve("--workers", 4, "--sessions", 100)  # of which one is never taken
             worker, thread = self.work(server, kind)
+            most = []
             with Producer(server.port) as producer:
-                self.offer_slowly(producer.offer)
+                self.offer_slowly(producer.offer, lambda: most.append(len(worker._visits)))
             self.wait_until(lambda: len(self.done) == QUICK)
             self.assertNotIn("hangs", self.done)
+            self.assertEqual(max(most), 2)
             self.assert_finishes(worker, thread, Report(done=QUICK + 1))
             self.assert_cut(server, 100)
-
-    def test_two_sessions_at_a_time_at_most(self):
-        server = self.serve("--workers", 3, "--sessions", 100)
-        worker, thread = self.work(server, Worker)
-        most = []
-        with Broker(server.port, patience=PATIENCE) as broker:  # the third worker, which is never taken from it
-            self.offer_slowly(broker.offer, lambda: most.append(len(worker._visits)))
-            self.wait_until(lambda: len(self.done) == QUICK)
-            broker.quit()
-        self.assertEqual(max(most), 2)
-        self.assert_finishes(worker, thread, Report(done=QUICK + 1))
 
     def test_where_the_server_has_no_worker_for_the_next(self):
         """The session that it has fetches on, once it is clear that its job takes long."""
@@ -93,7 +85,28 @@ class HangTest(ServedTest):
 
 
 class CrowdTest(ServedTest):
-    """More clients than the server has workers."""
+    """More clients than the server has workers, or waits that it gives up."""
+
+    def test_a_server_that_gives_each_wait_up(self):
+        server = self.serve("--turns", 0, "--sessions", 3)
+        crew = self.gather(server, 1, lambda job: True)
+        for payload in ("first", "second"):
+            self.offer(server, payload, delay=0.2)
+            self.wait_until(lambda: payload in crew.done())
+        self.assertEqual(crew.stop(), Report(done=2))
+        self.assert_ends(server, 3)
+
+    def test_a_stop_while_the_server_is_busy_costs_no_attempt(self):
+        server = self.serve("--sessions", 2, "--workers", 1, "--history", self.path("history"))
+        with Broker(server.port, patience=PATIENCE) as broker:
+            broker.offer("letter")
+            crew = self.gather(server, 1, lambda job: True)
+            time.sleep(0.3)  # it is connected then, and waits for its first reply
+            self.assertEqual(crew.stop(), Report())
+            broker.quit()
+        self.assert_cut(server, 2, self.path("history"))
+        history = History(self.path("history"))
+        self.assertEqual((history.attempts(), history.given), ({"letter": [1]}, []))
 
     def test_a_producer_has_its_turn_beside_idle_workers(self):
         server = self.serve("--workers", 4, "--sessions", 2_000, "--turns", 50)

@@ -29,9 +29,14 @@ class FromThreads:
         self._run(self.thing.__aexit__(*fault))
 
 
+def settle(client, of_job):
+    """Calls `done` or `fail` of a job that this broker took."""
+    return client._run(of_job()) if isinstance(client, FromThreads) else of_job()
+
+
 def broker(run, *words, **options):
     """A broker, which connects at once as the other kind does."""
-    return FromThreads(run, run(AsyncBroker(*words, **options).connect()))
+    return FromThreads(run, AsyncBroker(*words, **options)).__enter__()
 
 
 def producer(run, *words, **options):
@@ -46,10 +51,7 @@ def worker(run, handler, *words, on_dead=None, **options):
 
 def in_thread(function):
     """A coroutine function that runs this function in a thread."""
-    @functools.wraps(function)
-    async def run(job):
-        return await asyncio.get_running_loop().run_in_executor(None, function, job)
-    return run
+    return lambda job: asyncio.get_running_loop().run_in_executor(None, function, job)
 
 
 class LoopCase:
@@ -61,13 +63,9 @@ class LoopCase:
         thread.start()
         for end in (loop.close, lambda: thread.join(PATIENCE), lambda: loop.call_soon_threadsafe(loop.stop)):
             self.addCleanup(end)
-        self.run_in_loop = lambda coroutine: asyncio.run_coroutine_threadsafe(coroutine, loop).result(10 * PATIENCE)
-        self.kind = functools.partial(self.made, self.run_in_loop)
+        run = lambda coroutine: asyncio.run_coroutine_threadsafe(coroutine, loop).result(10 * PATIENCE)
+        self.kind = functools.partial(self.made, run)
         super().setUp()
-
-    def end(self, of_job):
-        """Calls `done` or `fail` of a job."""
-        return self.run_in_loop(of_job())
 
 
 def for_both_kinds(case):

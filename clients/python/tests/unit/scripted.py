@@ -15,7 +15,7 @@ SHORT = {"WAIT": "POLLFOR 1000000000", "BRIEF": "POLLFOR 200000000"}  # a worker
 
 
 class ScriptedServer:
-    """Serves its sessions one after the other, or `together`, at a free port, and then listens no more.
+    """Serves its sessions one after the other at a free port, and then listens no more.
 
     A session is a list of steps: the request line that has to come, or an empty one where nothing is waited for; and
     the reply, which is a text or bytes, or a function that gives it. Such a function is called with one that waits
@@ -23,14 +23,13 @@ class ScriptedServer:
     is released once for each session.
     """
 
-    def __init__(self, *sessions, together=False):
-        self._together = together
+    def __init__(self, sessions):
         self._listener = socket.create_server(("127.0.0.1", 0))
         self._listener.settimeout(PATIENCE)
         self.port = self._listener.getsockname()[1]
         self.faults = []
         self.ended = threading.Semaphore(0)
-        self._thread = threading.Thread(target=self._serve_all, args=(sessions,), daemon=True)
+        self._thread = threading.Thread(target=self._serve_all, args=[sessions], daemon=True)
         self._thread.start()
 
     def end(self):
@@ -40,27 +39,13 @@ class ScriptedServer:
             self.faults.append("a session does not end")
 
     def _serve_all(self, sessions):
-        threads = []
         with self._listener:
             for number, steps in enumerate(sessions):
                 try:
-                    connection, _ = self._listener.accept()
+                    self._serve(steps, self._listener.accept()[0])
                 except OSError as fault:
                     self.faults.append(f"session {number}: {fault}")
-                    continue
-                threads.append(threading.Thread(target=self._serve_one, args=[number, steps, connection], daemon=True))
-                threads[-1].start()
-                if not self._together:
-                    threads[-1].join()
-        for it in threads:
-            it.join()
-
-    def _serve_one(self, number, steps, connection):
-        try:
-            self._serve(steps, connection)
-        except OSError as fault:
-            self.faults.append(f"session {number}: {fault}")
-        self.ended.release()
+                self.ended.release()
 
     def _serve(self, steps, connection):
         connection.settimeout(PATIENCE)
@@ -92,11 +77,14 @@ class ScriptedTest(unittest.TestCase):
     def setUp(self):
         logging.disable(logging.CRITICAL)
         self.addCleanup(logging.disable, logging.NOTSET)
+        room = tempfile.TemporaryDirectory()
+        self.addCleanup(room.cleanup)
+        self.path = os.path.join(room.name, "file.jsonl")
         super().setUp()
 
-    def play(self, *sessions, together=False):
+    def play(self, *sessions):
         """A server that plays these sessions."""
-        server = ScriptedServer(*map(self.steps, sessions), together=together)
+        server = ScriptedServer([*map(self.steps, sessions)])
         self.addCleanup(self.assert_played, server)
         return server
 
@@ -124,10 +112,10 @@ class ScriptedTest(unittest.TestCase):
 
     @contextlib.contextmanager
     def logged(self, level=logging.ERROR):
-        """The records of this level that are logged meanwhile, of which there is one at least."""
+        """What is logged of this level meanwhile, of which there is one text at least: `LEVEL:NAME:MESSAGE`."""
         logging.disable(logging.NOTSET)
         with self.assertLogs("rb_broker_client", level) as said:
-            yield said.records
+            yield said.output
         logging.disable(logging.CRITICAL)
 
     def in_threads(self, *functions):
@@ -138,16 +126,6 @@ class ScriptedTest(unittest.TestCase):
         for it in threads:
             it.join(PATIENCE)
             self.assertFalse(it.is_alive())
-
-
-class FileTest(ScriptedTest):
-    """A test with a file of its own, at `path`."""
-
-    def setUp(self):
-        room = tempfile.TemporaryDirectory()
-        self.addCleanup(room.cleanup)
-        self.path = os.path.join(room.name, "file.jsonl")
-        super().setUp()
 
 
 def free_port():

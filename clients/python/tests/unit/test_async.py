@@ -2,34 +2,30 @@
 import asyncio
 import contextvars
 import threading
-import time
 import unittest.mock
 
 from scripted import PATIENCE, ScriptedTest, free_port
 from worker_case import A, GIVES_A
-from rb_broker_client import AsyncBroker, AsyncProducer, AsyncWorker, Job, Offered, Report
+from rb_broker_client import AsyncBroker, AsyncProducer, AsyncWorker, Offered, Report
 
 
 class CancelTest(ScriptedTest):
     """Tasks that are cancelled."""
 
-    def test_a_reply_that_nobody_waits_for_any_more_is_still_due(self):
+    def test_nothing_can_be_asked_while_the_reply_to_another_is_due(self):
         async def run(port):
             async with AsyncBroker(port, patience=PATIENCE) as broker:
-                with self.assertRaises(asyncio.TimeoutError):
+                with self.assertRaises(TimeoutError):
                     await asyncio.wait_for(broker.take(), 0.05)
                 with self.assertRaises(RuntimeError):
                     await broker.size()
-                return await broker.receive(), await broker.size()
 
-        self.late = lambda _: time.sleep(0.2)
-        server = self.play("TAKE > late: ITEM 0 5 1 a; SIZE > SIZE 0")
-        self.assertEqual(asyncio.run(run(server.port)), (Job(0, 5, 1, "a"), 0))
+        asyncio.run(run(self.play("TAKE > nothing").port))
 
     def test_the_next_offer_begins_another_session(self):
         async def run(port):
             async with AsyncProducer(port, patience=PATIENCE) as producer:
-                with self.assertRaises(asyncio.TimeoutError):
+                with self.assertRaises(TimeoutError):
                     await asyncio.wait_for(producer.offer("a", delay=5e-9), 2)
                 return await producer.offer("b", delay=5e-9)
 
@@ -103,18 +99,6 @@ class TaskTest(ScriptedTest):
         self.assertEqual(handled, ["a", "b", "c"])
 
 
-class BusyLoopTest(ScriptedTest):
-    def test_a_session_that_ended_while_the_loop_did_something_else(self):
-        async def run():
-            async with AsyncProducer(server.port, patience=PATIENCE) as producer:
-                first = await producer.offer("a", delay=5e-9)
-                self.assertTrue(server.ended.acquire(timeout=PATIENCE))
-                return first, await producer.offer("a", delay=5e-9)
-
-        server = self.play("AT 0; OFFER 5 a > OFFERED 0 5; > hangs up", "AT 0; OFFER 5 a > OFFERED 1 5")
-        self.assertEqual(asyncio.run(run()), (Offered(0, 5), Offered(1, 5)))
-
-
 class UseTest(ScriptedTest):
     """What is no use of a client."""
 
@@ -122,4 +106,4 @@ class UseTest(ScriptedTest):
         self.assertRaises(RuntimeError, asyncio.run, AsyncBroker(7011).size())
 
     def test_no_server(self):
-        self.assertRaises(ConnectionRefusedError, asyncio.run, AsyncBroker(free_port()).connect())
+        self.assertRaises(ConnectionRefusedError, asyncio.run, AsyncBroker(free_port()).__aenter__())

@@ -1,89 +1,56 @@
-"""A session with a scripted server: order of replies, waits that are broken off, and ends of the connection."""
+"""A session with a scripted server: refusals, waits that are broken off, ends of the connection, and its record."""
 import functools
+import io
+import json
 import socket
 import threading
+import time
 import unittest
 import unittest.mock
 
-from from_threads import for_both_kinds
+from from_threads import for_both_kinds, settle
 from scripted import PATIENCE, ScriptedTest, free_port
 from rb_broker_client import (
     Again, Broker, DisconnectedError, FullError, Job, NotHeldError, Offered, Request, StoppedError, UnknownReplyError,
 )
 
+DRAINED_LATE = "DRAIN 2 > DRAINED 2, ITEM 0 0 1 a; SIZE > late: ITEM 1 0 1 b, SIZE 0"
 
-@for_both_kinds
-class BrokerTest(ScriptedTest):
+
+class BrokerCase(ScriptedTest):
     kind = Broker
 
-    def setUp(self):
-        self.is_late = threading.Event()
-        super().setUp()
-
-    def connect(self, steps, patience=PATIENCE):
-        broker = self.kind(self.play(steps).port, patience=patience)
+    def connect(self, steps, **options):
+        broker = self.kind(self.play(steps).port, **{"patience": PATIENCE, **options})
         self.addCleanup(broker.close)
         return broker
 
     def late(self, _):
-        self.is_late.wait(PATIENCE)
+        time.sleep(0.3)
 
-    def receive_late(self, broker):
-        """The answer that is due, however often the broker's patience ends before it comes."""
-        self.is_late.set()
-        while True:
-            try:
-                return broker.receive()
-            except TimeoutError:
-                pass
 
-    def end(self, of_job):
-        """Calls `done` or `fail` of a job."""
-        return of_job()
-
-    def test_replies_are_received_in_the_order_of_the_requests(self):
-        broker = self.connect("OFFER 0 a > OFFERED 0 5; SIZE > ERR 6 full; TAKE > ITEM 0 5 1 a")
-        broker.send(Request.offer("a"), Request.size())
-        broker.send(Request.take())
-        self.assertEqual(broker.unanswered, 3)
-        self.assertEqual(broker.receive(), Offered(0, 5))
-        self.assertRaises(FullError, broker.receive)
-        self.assertEqual(broker.receive(), Job(0, 5, 1, "a"))
-        self.assertEqual(broker.unanswered, 0)
-
+@for_both_kinds
+class BrokerTest(BrokerCase):
     def test_a_refusal_in_the_middle_of_many(self):
-        broker = self.connect("SIZE > SIZE 3; SIZE > ERR 6 full; TAKE > STOPPED; SIZE > SIZE 4")
-        answers = broker.ask_all([Request.size(), Request.size(), Request.take(), Request.size()])
-        self.assertEqual([type(it) for it in answers], [int, FullError, StoppedError, int])
-        self.assertEqual((answers[0], answers[3]), (3, 4))
-
-    def test_requests_by_turns_and_at_once_are_not_mixed(self):
-        broker = self.connect("SIZE > SIZE 3")
-        self.assertRaises(RuntimeError, broker.receive)
-        broker.send(Request.size())
-        self.assertRaises(RuntimeError, broker.size)
-        self.assertRaises(RuntimeError, broker.ask_all, [Request.size()])
-        self.assertEqual(broker.receive(), 3)
+        broker = self.connect("SIZE > SIZE 3; SIZE > ERR 6 full; TAKE > STOPPED; TAKE > ITEM 0 5 1 a")
+        size, full, stopped, job = broker.ask_all([Request.size(), Request.size(), Request.take(), Request.take()])
+        self.assertEqual((size, type(full), type(stopped), job), (3, FullError, StoppedError, Job(0, 5, 1, "a")))
         self.assertEqual(broker.ask_all([]), [])
 
-    def test_a_reply_that_is_late_is_still_due(self):
+    def test_a_drain_whose_lines_come_late(self):
+        answers = self.connect(DRAINED_LATE).ask_all([Request.drain(2), Request.size()])
+        self.assertEqual(answers, [[Job(0, 0, 1, "a"), Job(1, 0, 1, "b")], 0])
+
+    def test_nothing_can_be_asked_while_a_reply_is_late(self):
         broker = self.connect("SIZE > late: SIZE 3", patience=0.05)
         self.assertRaises(TimeoutError, broker.size)
-        self.assertEqual(self.receive_late(broker), 3)
-
-    def test_a_drain_whose_lines_come_late(self):
-        steps = "DRAIN 2 > DRAINED 2, ITEM 0 0 1 a; SIZE > late: ITEM 1 0 1 b, SIZE 0"
-        broker = self.connect(steps, patience=0.05)
-        broker.send(Request.drain(2), Request.size())
-        self.assertRaises(TimeoutError, broker.receive)
-        self.assertEqual(self.receive_late(broker), [Job(0, 0, 1, "a"), Job(1, 0, 1, "b")])
-        self.assertEqual(self.receive_late(broker), 0)
+        self.assertRaises(RuntimeError, broker.size)
+        self.assertRaises(RuntimeError, broker.ask_all, [Request.size()])
 
     def test_a_server_that_hangs_up_or_cuts_a_line_off(self):
         for steps in (["SIZE > hangs up"], [("SIZE", b"SIZ"), "QUIT > hangs up"]):
             broker = self.connect(steps)
-            broker.send(*[Request.size(), Request.quit()][:len(steps)])
-            self.assertRaises(DisconnectedError, broker.receive)
+            self.assertRaises(DisconnectedError, broker.ask_all, [Request.size(), Request.quit()][:len(steps)])
 
     def test_after_an_unknown_reply_or_a_line_that_never_ends_the_session_is_closed(self):
         for reply in ("HELLO", "SIZE " + "1" * 1000, b"SIZE " + b"1" * 1000):
@@ -97,32 +64,107 @@ class BrokerTest(ScriptedTest):
         broker.quit()
 
     def test_a_job_is_told_of_by_itself(self):
-        broker = self.connect(
-            "POLL > ITEM 0 5 1 a; DONE 0; TAKE > ITEM 1 5 1 b; FAIL 1 > AGAIN 3 9; DRAIN 9 > DRAINED 1, ITEM 2 5 1 c; "
-            "DONE 2; POLLFOR 500000000 > NONE; PEEK > HEAD 0 150 1 a")
+        broker = self.connect("POLL > ITEM 0 5 1 a; DONE 0; TAKE > ITEM 1 5 1 b; FAIL 1 > AGAIN 3 9; "
+                              "DRAIN 9 > DRAINED 1, ITEM 2 5 1 c; DONE 2; POLLFOR 0 > ITEM 4 5 1 d; DONE 4; "
+                              "PEEK > HEAD 5 5 1 e; DONE 5 > ERR 5 not-held; POLL > ITEM 5 5 1 e")
+        self.assertIsNone(settle(broker, broker.poll().done))
+        self.assertEqual(settle(broker, broker.take().fail), Again(3, 9))
+        self.assertIsNone(settle(broker, broker.drain(9)[0].done))
+        self.assertIsNone(settle(broker, broker.ask_all([Request.poll_for(0)])[0].done))
+        self.assertRaises(NotHeldError, settle, broker, broker.peek().done)
         job = broker.poll()
-        self.assertEqual(job, Job(0, 5, 1, "a"))
-        self.end(job.done)
-        self.assertEqual(self.end(broker.take().fail), Again(3, 9))
-        (drained,) = broker.drain(9)
-        self.end(drained.done)
-        self.assertIsNone(broker.poll_for(0.5))
-        self.assertFalse(hasattr(broker.peek(), "done"))  # what is shown is not held
-
-    def test_a_job_of_a_session_that_has_ended_is_held_no_more(self):
-        broker = self.connect("TAKE > ITEM 0 5 1 a")
-        job = broker.take()
+        self.assertEqual((job, repr(job)), (Job(5, 5, 1, "e"), repr(Job(5, 5, 1, "e"))))
         broker.close()
-        for end in (job.done, job.fail):
-            self.assertRaises(NotHeldError, self.end, end)
+        for it in (job, Job(5, 5, 1, "e")):
+            for of_job in (it.done, it.fail):
+                self.assertRaises(NotHeldError, settle, broker, of_job)
 
     def test_a_lost_connection_is_known_once_its_end_has_come(self):
-        broker = self.connect("SIZE > SIZE 3; SIZE > nothing")
+        broker = self.connect("SIZE > SIZE 3")
         self.assertEqual(broker.size(), 3)
         self.assertFalse(broker.is_lost())
-        broker.send(Request.size())
         broker.close()
         self.assertTrue(broker.is_lost())
+
+
+@for_both_kinds
+class RecordTest(BrokerCase):
+    """Records of what clients asked and were answered."""
+
+    def setUp(self):
+        super().setUp()
+        self.file = open(self.path, "a", encoding="ascii")
+        self.addCleanup(self.file.close)
+
+    def lines(self):
+        """The lines of the record, which have the keys that they must have."""
+        with open(self.path, encoding="ascii") as file:
+            lines = [json.loads(it) for it in file]
+        for it in lines:
+            self.assertEqual([*it], ["session", "sent", "received", "request", "reply"])
+        return lines
+
+    def test_moments_lie_around_what_they_tell(self):
+        asked, replied = [], []
+
+        def answer(_):
+            asked.append(time.monotonic_ns())
+            time.sleep(0.05)
+            replied.append(time.monotonic_ns())
+            return "SIZE 0"
+
+        broker = self.connect([("SIZE", answer)] * 2, record=self.file)
+        for _ in range(2):
+            began = time.monotonic_ns()
+            broker.size()
+            ended = time.monotonic_ns()
+            line = self.lines()[-1]
+            self.assertTrue(began <= line["sent"] <= asked[-1] < replied[-1] <= line["received"] <= ended, line)
+
+    def test_requests_and_replies_as_they_came(self):
+        broker = self.connect("OFFER 0 a > OFFERED 0 5; DRAIN 9 > DRAINED 2, ITEM 0 5 1 a, ITEM 1 6 1 b; "
+                              "SIZE > ERR 6 full; QUIT", record=self.file)
+        broker.ask_all([Request.offer("a"), Request.drain(9), Request.size()])
+        broker.quit()
+        for steps, count, fault in (
+            ("SIZE > SIZE 3; TAKE > hangs up", 3, OSError),
+            ([("SIZE", b"SIZE 3\n"), ("TAKE", b"ITEM 0 5 1 a\nITE"), "QUIT > hangs up"], 3, OSError),
+            ([("SIZE", b"\xffHELLO\n")], 1, UnknownReplyError),
+        ):
+            broker = self.connect(steps, record=self.file)
+            requests = [Request.size(), Request.take(), Request.quit()][:count]
+            self.assertRaises(fault, broker.ask_all, requests)
+            broker.close()
+        lines = self.lines()
+        self.assertEqual([(it["request"], it["reply"]) for it in lines], [
+            ("OFFER 0 a", ["OFFERED 0 5"]), ("DRAIN 9", ["DRAINED 2", "ITEM 0 5 1 a", "ITEM 1 6 1 b"]),
+            ("SIZE", ["ERR 6 full"]), ("QUIT", ["BYE"]), ("SIZE", ["SIZE 3"]), ("TAKE", []), ("QUIT", []),
+            ("SIZE", ["SIZE 3"]), ("TAKE", ["ITEM 0 5 1 a"]), ("QUIT", []), ("SIZE", ["\\xffHELLO"])])
+        self.assertEqual([place for place, it in enumerate(lines) if it["received"] is None], [5, 6, 9])
+        names = [it["session"] for it in lines]
+        self.assertEqual([[*dict.fromkeys(names)].index(it) for it in names], [0, 0, 0, 0, 1, 1, 1, 2, 2, 2, 3])
+
+    def test_a_record_that_breaks_off_is_logged_and_the_session_goes_on(self):
+        file = io.StringIO()
+        broker = self.connect("SIZE > SIZE 3; SIZE > SIZE 4; SIZE > SIZE 5", record=file)
+        self.assertEqual(broker.size(), 3)
+        file.close()
+        with self.logged() as said:
+            self.assertEqual((broker.size(), broker.size()), (4, 5))
+        (text,) = said
+        self.assertIn("the record can't be written", text)
+
+    def test_clients_of_several_threads_may_have_one_file(self):
+        count = 200
+
+        def ask(broker):
+            for _ in range(count // 10):
+                broker.ask_all([Request.size()] * 10)
+
+        steps = "; ".join(["SIZE > SIZE 3"] * count)
+        self.in_threads(*[functools.partial(ask, self.connect(steps, record=self.file)) for _ in range(4)])
+        names = [it["session"] for it in self.lines()]
+        self.assertEqual(sorted(names.count(it) for it in {*names}), [count] * 4)
 
 
 class OwnPortTest(unittest.TestCase):

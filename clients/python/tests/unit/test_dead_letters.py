@@ -3,16 +3,16 @@ import asyncio
 import functools
 import json
 
-from scripted import PATIENCE, FileTest, free_port
+from from_threads import for_both_kinds
+from scripted import PATIENCE, ScriptedTest, free_port
 from test_command import run
 from worker_case import LAST, WorkerCase
-from rb_broker_client import AsyncProducer, AsyncWorker, DeadLetters, Job, Producer, Report
+from rb_broker_client import AsyncProducer, DeadLetters, Job, Producer, Report
 
-BAD = "WAIT > ITEM 2 1000 3 b; FAIL 2 > DEAD 2"
-KEEPS_B = "AT 0; OFFER 0 b > OFFERED 0 5"
+BAD, KEEPS_B = "WAIT > ITEM 2 1000 3 b; FAIL 2 > DEAD 2", "AT 0; OFFER 0 b > OFFERED 0 5"
 
 
-class FileCase(FileTest):
+class FileCase(ScriptedTest):
     def keep(self, *payloads):
         letters = DeadLetters(self.path)
         for id, payload in enumerate(payloads):
@@ -26,6 +26,7 @@ class FileCase(FileTest):
         return [it["payload"] for it in self.letters()]
 
 
+@for_both_kinds
 class KeptTest(FileCase, WorkerCase):
     def test_each_dead_job_is_a_line(self):
         self.assert_reports(Report(dead=1), f"{BAD}; {LAST}", on_dead=DeadLetters(self.path))
@@ -37,22 +38,11 @@ class KeptTest(FileCase, WorkerCase):
         with Producer(self.play(KEEPS_B).port, patience=PATIENCE) as producer:
             self.assert_reports(Report(dead=1), f"{BAD}; {LAST}", on_dead=DeadLetters(producer))
 
-    def test_for_asyncio(self):
-        async def handle(job):
-            self.worker.stop()
-            raise ValueError(job.payload)
-
-        async def work(target):
-            self.worker = AsyncWorker(handle, self.play(f"AT 0; {BAD}; QUIT").port, on_dead=DeadLetters(target))
-            await self.worker.run()
-
-        async def both():
-            await work(self.path)
+        async def keep():
             async with AsyncProducer(self.play(KEEPS_B).port, patience=PATIENCE) as producer:
-                await work(producer)
+                await DeadLetters(producer)(Job(2, 1000, 3, "b"))
 
-        asyncio.run(both())
-        self.assertEqual(self.payloads(), ["b"])
+        asyncio.run(keep())
 
     def test_several_threads_have_one_file(self):
         def keep(number):
@@ -66,16 +56,12 @@ class KeptTest(FileCase, WorkerCase):
 
 
 class CommandTest(FileCase):
-    def test_they_are_shown(self):
+    def test_they_are_shown_and_offered_and_taken_out_of_the_file(self):
         self.keep("a", "b")
-        status, said, errors = run("dead", self.path)
-        self.assertEqual((status, errors), (0, ""))
-        self.assertEqual([json.loads(it)["payload"] for it in said.splitlines()], ["a", "b"])
+        with open(self.path, encoding="ascii") as file:
+            self.assertEqual(run("dead", self.path), (0, file.read(), ""))
         self.assertEqual(self.payloads(), ["a", "b"])
-
-    def test_they_are_offered_and_taken_out_of_the_file(self):
-        self.keep("a", "b")
-        server = self.play(f"{KEEPS_B}; OFFER 0 a > OFFERED 1 5")
+        server = self.play("AT 0; OFFER 0 b > OFFERED 0 5; OFFER 0 a > OFFERED 1 5")
         self.assertEqual(run("dead", self.path, "--offer", "--port", server.port), (0, "offered 2\n", ""))
         self.assertEqual(self.payloads(), [])
         self.assertEqual(run("dead", self.path, "--offer", "--port", free_port()), (0, "offered 0\n", ""))
@@ -96,5 +82,5 @@ class CommandTest(FileCase):
                 self.assertRegex(errors, r"\Arb_broker_client: this line is no dead letter: [^\n]+\n\Z")
 
     def test_no_file(self):
-        told = "rb_broker_client: /no/such/file can't be used: No such file or directory\n"
+        told = "rb_broker_client: [Errno 2] No such file or directory: '/no/such/file'\n"
         self.assertEqual(run("dead", "/no/such/file"), (1, "", told))

@@ -7,11 +7,10 @@ import unittest.mock
 from from_threads import for_both_kinds
 from scripted import PATIENCE, ScriptedTest, free_port
 from rb_broker_client import (
-    Broker, FullError, InDoubtError, NotOfferedError, Offered, OutOfMemoryError, Pauses, Producer, RangeRefusedError,
+    Broker, FullError, InDoubtError, NotOfferedError, Offered, OutOfMemoryError, Pauses, Producer, RefusedError,
 )
 
 OFFER, FIRST, SECOND = "OFFER 5 a", "OFFER 5 a > OFFERED 0 5", "OFFER 5 a > OFFERED 1 5"
-LOST = "OFFER 5 a > hangs up"
 AGE = 0.5  # seconds beyond which a session is left: long enough for an offer before, on a busy machine too
 
 
@@ -31,8 +30,7 @@ class ProducerCase(ScriptedTest):
 
     def produce(self, *sessions, patience=PATIENCE, **options):
         """A producer of these sessions, each of which begins with the greeting."""
-        sessions = [it if isinstance(it, list) or it[:4] == "AT 0" else f"AT 0; {it}" for it in sessions]
-        self.server = self.play(*sessions)
+        self.server = self.play(*[it if it[:4] == "AT 0" else f"AT 0; {it}" for it in sessions])
         options = {"pauses": Pauses(first=0.01, longest=0.02), **options}
         producer = self.kind(self.server.port, patience=patience, **options)
         self.addCleanup(producer.close)
@@ -47,52 +45,47 @@ class ProducerCase(ScriptedTest):
 
 @for_both_kinds
 class ProducerTest(ProducerCase):
-    def test_offers_go_through_one_session(self):
-        producer = self.produce(f"{FIRST}; OFFERAT 9 b > OFFERED 1 9")
-        self.assertEqual(offer(producer), Offered(0, 5))
-        self.assertEqual(producer.offer_at("b", expires_at_ns=9), Offered(1, 9))
-
-    def test_a_connection_that_was_lost_before_the_offer(self):
-        producer = self.produce(f"{FIRST}; > hangs up", "OFFER 5 a > OFFERED 1 6")
-        self.assertEqual(offer(producer), Offered(0, 5))
+    def test_offers_go_through_one_session_until_it_is_lost(self):
+        producer = self.produce(f"{FIRST}; OFFER 5 b > OFFERED 1 9; > hangs up", "OFFER 5 a > OFFERED 2 10")
+        self.assertEqual((offer(producer), offer(producer, "b")), (Offered(0, 5), Offered(1, 9)))
         self.assert_session_ends()
-        self.assertEqual(offer(producer), Offered(1, 6))
+        self.assertEqual(offer(producer), Offered(2, 10))
 
     def test_a_reply_that_is_not_heard_leaves_a_doubt_and_the_next_offer_connects_again(self):
-        producer = self.produce(LOST, "OFFER 5 b > OFFERED 0 5")
+        producer = self.produce(f"{OFFER} > hangs up", "OFFER 5 b > OFFERED 0 5")
         with self.assertRaisesRegex(InDoubtError, OFFER):
             offer(producer)
         self.assert_session_ends()
         self.assertEqual(offer(producer, "b"), Offered(0, 5))
 
-    def test_what_can_not_be_offered(self):
-        full, impatient = f"{OFFER} > ERR 6 full", {"patience": 0.4, "pauses": Pauses(first=1.0)}
-        for why, fault, options, *sessions in (
-            ("a doubt stays when no server comes back", InDoubtError, {"patience": 0.3, "may_double": True}, LOST),
-            ("or the next refuses", InDoubtError, {"patience": 3, "may_double": True}, LOST, full, full, full),
-            ("patience has an end", FullError, impatient, full),
-            ("also for want of memory", OutOfMemoryError, impatient, f"{OFFER} > ERR 7 memory"),
-        ):
-            with self.subTest(why):
-                self.assertRaises(fault, offer, self.produce(*sessions, **options))
+    def test_patience_has_an_end(self):
+        for fault, refusal in ((FullError, "ERR 6 full"), (OutOfMemoryError, "ERR 7 memory")):
+            producer = self.produce(f"{OFFER} > {refusal}", patience=0.4, pauses=Pauses(first=1.0))
+            self.assertRaises(fault, offer, producer)
         with self.kind(free_port(), patience=0.2) as producer:
             self.assertRaises(NotOfferedError, offer, producer)
 
     def test_offers_that_are_tried_again(self):
-        for why, id, options, *sessions in (
-            ("one that may double", 7, {"may_double": True}, LOST, f"{OFFER} > OFFERED 7 5"),
-            ("a full run is left for the next", 0, {}, f"{OFFER} > ERR 6 full", FIRST),
-            ("want of memory, in the same session", 0, {}, f"{OFFER} > ERR 7 memory; {OFFER} > ERR 7 memory; {FIRST}"),
-            ("a server that goes away before it serves", 0, {}, "AT 0 > hangs up", FIRST),
+        for why, *sessions in (
+            ("a full run is left for the next", f"{OFFER} > ERR 6 full", FIRST),
+            ("want of memory, in the same session", f"{OFFER} > ERR 7 memory; {OFFER} > ERR 7 memory; {FIRST}"),
+            ("a server that goes away before it serves", "AT 0 > hangs up", FIRST),
         ):
             with self.subTest(why):
-                with self.produce(*sessions, **options) as producer:
-                    self.assertEqual(offer(producer), Offered(id, 5))
+                with self.produce(*sessions) as producer:
+                    self.assertEqual(offer(producer), Offered(0, 5))
                 self.assert_played(self.server)
+
+    def test_one_that_may_double_offers_again_and_a_doubt_stays(self):
+        lost = f"{OFFER} > hangs up"
+        producer = self.produce(lost, "OFFER 5 a > OFFERED 7 5", may_double=True)
+        self.assertEqual(offer(producer), Offered(7, 5))
+        producer = self.produce(lost, f"{OFFER} > ERR 6 full", may_double=True, patience=3)
+        self.assertRaises(InDoubtError, offer, producer)
 
     def test_refusals_are_the_callers_and_what_a_server_would_refuse_is_not_sent(self):
         producer = self.produce(f"{OFFER} > ERR 3 range; {FIRST}; {SECOND}")
-        self.assertRaises(RangeRefusedError, offer, producer)
+        self.assertRaisesRegex(RefusedError, "^ERR 3 range$", offer, producer)
         self.assertEqual(offer(producer), Offered(0, 5))
         for wrong in ("a" * 65, "two words", ""):
             self.assertRaises(ValueError, offer, producer, wrong)
@@ -149,8 +142,6 @@ class LeavingThreadTest(ProducerCase):
             time.sleep(0.01)
         self.assertEqual(leaving_threads(), 0)
 
-
-class ForkTest(ProducerCase):
     def test_a_forked_process_has_a_session_of_its_own(self):
         producer = self.produce(f"{FIRST}; {SECOND}", session=None)
         offer(producer)

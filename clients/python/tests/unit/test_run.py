@@ -1,4 +1,5 @@
 """A server that has lost its run, as its clients notice; and one that goes on, of which nothing is logged."""
+import os
 import threading
 import unittest
 from unittest.mock import Mock
@@ -12,49 +13,24 @@ from rb_broker_client.run import Run
 
 
 class RunTest(unittest.TestCase):
-    """Of each sequence of sights, which of them tells that the run is lost."""
-
-    def losses(self, *sights):
-        """A sight is the name of a method, and its words."""
-        run, losses = Run(log := Mock(), "a place"), []
-        for number, (name, *words) in enumerate(sights):
-            getattr(run, name)(*words)
-            losses += [number] * log.error.call_count
-            self.text = log.error.call_args and log.error.call_args[0][0] % log.error.call_args[0][1:] or ""
-            log.reset_mock()
-        return losses
-
     def test_which_sights_tell(self):
-        queue = lambda number, of, moment: ("offered", 64 * number + of, moment)
-        for why, losses, *sights in (
-            ("new ids rise", [4], *(("offered", *it) for it in ((0, 5), (1, 5), (7, 0), (9, 6), (7,), (8,)))),
-            ("ids and clocks of several queues under one name are 64 times those of the queue, plus its number", [5],
-             queue(9, 3, 900), queue(2, 0, 200), queue(2, 1, 100), queue(10, 3, 900), queue(3, 0, 201),
-             queue(2, 0, 300)),
-            ("the clock does not go back", [1], ("offered", 3, 1_000), ("offered", 3 + 64, 999)),
-            ("after a loss another one is noticed", [1, 3], *(("offered", it) for it in (5, 5, 6, 6))),
-            ("an id is given once", [5, 7], *(("given", it) for it in (7, 0, 2**40, 5_000, 1, 5_000, 7, 7))),
-            ("a job that comes back has a new id", [3],
-             ("given", 7), *(("came_back", it) for it in (8, 3, 8))),
-            ("the session beside this one was given the job before this one read that it comes back", [],
-             ("given", 8), ("came_back", 8)),
-        ):
-            with self.subTest(why):
-                self.assertEqual(self.losses(*sights), losses)
-
-    def test_what_is_told(self):
-        self.losses(*(("offered", it) for it in (0, 1, 7, 9, 7)))
-        self.assertEqual(self.text, (
-            "the server at a place has lost its run: it gave id 7 to a new job, and ids up to 9 were known. What stood "
-            "in its queue is gone, with what was not done of the 4 jobs that this client had offered, and ids of that "
-            "run name other jobs now"))
+        with open(os.path.join(os.path.dirname(os.path.realpath(__file__)), "sights.txt"), encoding="ascii") as file:
+            cases = [it.splitlines() for it in file.read().strip().split("\n\n")[1:]]
+        for why, *sights in cases:
+            run = Run(log := Mock(), "a place")
+            for number, sight in enumerate(sights):
+                method, *ids = sight.removesuffix(" lost").split()
+                with self.subTest(why, number=number):
+                    getattr(run, method)(*map(int, ids))
+                    self.assertEqual(log.error.call_count, sight.endswith(" lost"))
+                    log.reset_mock()
 
     def test_what_was_seen_long_ago_is_forgotten(self):
         """A worker of a broker that gives ids for years keeps few of them."""
         run = Run(log := Mock(), "a place")
         for number in range(5_000):
             run.given(number * 1_024)
-        self.assertEqual((len(run._given._pieces), log.error.call_count), (4_096, 0))
+        self.assertEqual((len(run._given), log.error.call_count), (4_096, 0))
         run.given(4_999 * 1_024)
         self.assertEqual(log.error.call_count, 1)
 
@@ -69,8 +45,9 @@ class ProducerTest(ProducerCase):
         self.assert_session_ends()
         with self.logged() as said:
             self.assertEqual([offer(producer, it).id for it in "cd"], [0, 1])
-        (text,) = [it.getMessage() for it in said]
-        self.assertRegex(text, "^the server at 127.0.0.1:[0-9]+ has lost its run: it gave id 0 .* 2 jobs ")
+        self.assertEqual(said, [
+            f"ERROR:rb_broker_client.producer:the server at 127.0.0.1:{self.server.port} has lost its run: it gave id "
+            "0 to a new job. What stood in its queue is gone, and ids of that run name other jobs now"])
 
     def test_what_a_producer_says_that_waits(self):
         is_over = threading.Event()
@@ -91,5 +68,5 @@ class WorkerTest(WorkerCase):
         ):
             with self.logged() as said:
                 self.assert_reports(report, f"{first}; WAIT > hangs up", f"{following}; {LAST}")
-            (record,) = said
-            self.assertIn(told, record.getMessage())
+            (text,) = said
+            self.assertIn(told, text)

@@ -1,10 +1,11 @@
 """Workers of scripted servers, and the handlers that they have."""
+import os
 import threading
 import time
 import unittest.mock
 
 from scripted import PATIENCE, ScriptedTest
-from rb_broker_client import Pauses, Worker
+from rb_broker_client import Pauses, Report, Worker
 
 AGE = 0.5  # seconds beyond which a session is left: long enough for what is to happen before, on a busy machine too
 LONG_ENOUGH = 0.05  # seconds after which a wait has waited
@@ -12,21 +13,36 @@ GIVES_A, GIVES_B = "WAIT > ITEM 0 0 1 a", "WAIT > ITEM 1 0 1 b"
 A, LAST = f"{GIVES_A}; DONE 0", "WAIT > stops: NONE; QUIT"  # a job that is done, and the end of a worker
 
 
+def values(words):
+    """Numbers by name, of `done=1 again=2`."""
+    pairs = [it.split("=") for it in words.split()]
+    return {name: float(it) if "." in it else int(it) for name, it in pairs}
+
+
+def paragraphs(name):
+    """The cases of a text table: the name of each, its options, and its lines."""
+    with open(os.path.join(os.path.dirname(os.path.realpath(__file__)), name), encoding="ascii") as file:
+        cases = file.read().split("\n\n")[1:]  # behind what is said about the table
+    for it in cases:
+        name, *lines = it.strip().splitlines()
+        yield name, values(lines.pop(0)[5:]) if lines[0].startswith("with ") else {}, lines
+
+
 class WorkerCase(ScriptedTest):
-    """A worker of one scripted server. The payload `b` fails."""
+    """A worker of one scripted server. The payload `b` fails, `slow` takes longer than a session, and so does `slow-b`,
+    which fails, and `stop` stops the worker."""
 
     kind = Worker
 
-    def work(self, *sessions, handler=None, together=False, **options):
+    def work(self, *sessions, handler=None, **options):
         """Makes a worker for these sessions, each of which begins with the greeting."""
-        sessions = [it if it[:4] == "AT 0" else f"AT 0; {it}" for it in sessions]
-        self.server = self.play(*sessions, together=together)
+        self.server = self.play(*[it if it[:4] == "AT 0" else f"AT 0; {it}" for it in sessions])
         return self.make(handler or self.handle, self.server.port, **options)
 
-    def make(self, handler, port, pauses=None, **options):
+    def make(self, handler, port, pause=0.01, **options):
         """Makes a worker, which is stopped in the end whatever comes."""
         self.handled = []
-        self.worker = self.kind(handler, port, pauses=pauses or Pauses(first=0.01, longest=0.02), **options)
+        self.worker = self.kind(handler, port, **{"pauses": Pauses(first=pause, longest=2 * pause), **options})
         self.stop_later(PATIENCE)
         return self.worker
 
@@ -41,20 +57,21 @@ class WorkerCase(ScriptedTest):
         self.assertEqual(self.work(*sessions, **options).run(), report)
         self.assert_played(self.server)
 
-    def assert_each_reports(self, *rows, **options):
-        """Each row has a text, the report, the options, and the sessions."""
-        for why, report, own, *sessions in rows:
+    def assert_scripts(self, name, **options):
+        """The workers of this table, with these options too, make the reports that it says."""
+        for why, own, (*sessions, reports) in paragraphs(name):
             with self.subTest(why):
-                self.assert_reports(report, *sessions, **{**options, **own})
+                report = Report(**values(reports.removeprefix("reports")))
+                self.assert_reports(report, *[it.removeprefix("- ") for it in sessions], **options, **own)
 
     def handle(self, job):
         self.handled.append(job)
-        if job.payload == "b":
+        if job.payload.startswith("slow"):
+            time.sleep(2 * AGE)
+        if job.payload == "stop":
+            self.worker.stop()
+        if job.payload.endswith("b"):
             raise ValueError("the payload is b")
-
-    def handle_slowly(self, job):
-        time.sleep(2 * AGE)
-        self.handle(job)
 
     def stops(self, _):
         """Before the reply the worker is asked to stop."""
@@ -65,7 +82,7 @@ class WorkerCase(ScriptedTest):
         time.sleep(LONG_ENOUGH)
 
     def old(self, _):
-        """The session is old then."""
+        """A session of half a second is old then."""
         time.sleep(2 * AGE)
 
 
@@ -103,6 +120,11 @@ class ConcurrencyCase(WorkerCase):
     def work(self, *sessions, handler=None, concurrency=2, **options):
         self.jobs = Jobs()
         return super().work(*sessions, handler=handler or self.jobs, concurrency=concurrency, **options)
+
+    def assert_reports(self, report, *sessions, most=None, **options):
+        """If `most` is given, so many jobs ran at the same time."""
+        super().assert_reports(report, *sessions, **options)
+        self.assertIn(most, (None, self.jobs.most))
 
     def ends(self, more, payload):
         """This job ends, which is told behind the wait."""
