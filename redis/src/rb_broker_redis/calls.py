@@ -37,6 +37,12 @@ AT_AN_END = {b"DONE": ErrorReply.NOT_HELD, b"FAIL": ErrorReply.NOT_HELD, b"END":
 """What calls of a session are answered that has ended. The others have no reply."""
 
 
+def needs_new_link(answer: Answer) -> bool:
+    """Whether the Redis has done nothing, because the queue is at another node or the functions are gone, which each
+    new link brings."""
+    return isinstance(answer, ErrorAnswer) and (answer.code in ELSEWHERE or "Function not found" in str(answer))
+
+
 def word_of(call: bytes) -> bytes:
     """What a call asks for."""
     return call.split(b" ")[1]
@@ -101,11 +107,12 @@ class Calls:
         self._again: list[Batch] = []
         self._flying: dict[Batch, None] = {}
         self._link: Optional[Link] = None
+        self._is_leaving = False
+        """The link is to be closed, once what is under way on it is answered."""
         self._gateway = 0
         self._loop = asyncio.get_event_loop()
         self._is_scheduled = False
         self.gateway_is_unknown: Callable[[], None] = lambda: None
-        self.functions_are_gone: Callable[[], None] = lambda: None
 
     @property
     def is_connected(self) -> bool:
@@ -126,10 +133,16 @@ class Calls:
     def use(self, link: Optional[Link]) -> None:
         """Sends by this link from now on. What was sent by the one before, and not answered, is in doubt."""
         flying, self._flying = self._flying, {}
-        self._link = link
+        self._link, self._is_leaving = link, False
         for batch in flying:
             batch.doubt()
         self._schedule()
+
+    def leave(self) -> None:
+        """Sends nothing more by this link, and closes it once what is under way is answered."""
+        self._is_leaving = True
+        if self._link and not self._flying:
+            self._link.close()
 
     def submit(self, calls: list[bytes], answered: Answered) -> None:
         """Makes these calls, one after the other."""
@@ -148,14 +161,17 @@ class Calls:
         return oldest is not None and time.monotonic() - oldest.sent > self._patience
 
     def _schedule(self) -> None:
-        if self._link and len(self._flying) < MOST_IN_FLIGHT and not self._is_scheduled:
+        if self._can_send() and not self._is_scheduled:
             self._is_scheduled = True
             self._loop.call_soon(self._flush)
+
+    def _can_send(self) -> bool:
+        return self._link is not None and not self._is_leaving and len(self._flying) < MOST_IN_FLIGHT
 
     def _flush(self) -> None:
         self._is_scheduled = False
         link = self._link
-        if not link or link.is_closed or len(self._flying) >= MOST_IN_FLIGHT:
+        if not link or link.is_closed or not self._can_send():
             return
         if self._again:
             batch = self._again.pop(0)
@@ -181,6 +197,7 @@ class Calls:
         link.send(data, before.append, lambda count: self._copied(link, batch, before[0], count))
 
     def _answered(self, link: Link, batch: Batch, answer: Answer) -> None:
+        """A batch is answered, or it is in doubt, for None."""
         if link is not self._link:
             return  # it was in doubt when the link was given up
         del self._flying[batch]
@@ -188,36 +205,32 @@ class Calls:
             self._schedule()
         if isinstance(answer, list):
             batch.answer(answer)
+        elif answer is None:
+            batch.doubt()
         else:
-            self._refused(link, batch, answer)
+            self._refused(batch, answer)
+        if self._is_leaving:
+            self.leave()
 
     def _copied(self, link: Link, batch: Batch, answer: Answer, count: Answer) -> None:
         """So many replicas have what the batch did. If they are too few, a fail-over may lose it: it is in doubt."""
         are_enough = isinstance(count, int) and count >= self._replicas
-        if are_enough or not isinstance(answer, list):
-            self._answered(link, batch, answer)
-        elif link is self._link:
-            del self._flying[batch]
-            batch.doubt()
-            self._schedule()
+        self._answered(link, batch, answer if are_enough or not isinstance(answer, list) else None)
 
-    def _refused(self, link: Link, batch: Batch, answer: Answer) -> None:
+    def _refused(self, batch: Batch, answer: Answer) -> None:
         code = answer.code if isinstance(answer, ErrorAnswer) else ""
         if code == "OOM" and batch.function != b"rb_spare":
             batch.function = b"rb_spare"
             self._send_again(batch, 0)
         elif code in LATER:
             self._send_again(batch, SECONDS_BETWEEN_TRIES)
-        elif code in ELSEWHERE:
+        elif needs_new_link(answer):
             self._send_again(batch, 0)
-            link.close()
+            self._is_leaving = True
         elif code in UNKNOWN:
             if batch.front is self._front:
                 self.gateway_is_unknown()
             batch.answer_at_an_end()
-        elif "Function not found" in str(answer):
-            self._send_again(batch, SECONDS_BETWEEN_TRIES)
-            self.functions_are_gone()
         else:
             LOG.error("the Redis answered: %s", answer)
             batch.doubt()

@@ -10,7 +10,7 @@ from uuid import uuid4
 
 from . import library
 from .address import Address
-from .calls import UNKNOWN, Calls
+from .calls import UNKNOWN, Calls, needs_new_link
 from .keys import channel_of, keys_of
 from .link import Link, is_set_in_time
 from .place import connect_to_queue
@@ -49,7 +49,6 @@ class Upkeep:
         self._tasks: list[asyncio.Task[None]] = []
         self._must_join = asyncio.Event()
         calls.gateway_is_unknown = self._is_unknown
-        calls.functions_are_gone = self._close_link  # a new link is given them
 
     async def start(self) -> None:
         """Connects, and joins the queue. Raises `OSError`, `ErrorAnswer`, `NewerLibrary`."""
@@ -180,6 +179,8 @@ class Upkeep:
             except ErrorAnswer as fault:
                 if fault.code in UNKNOWN:
                     self._is_unknown()
+                elif needs_new_link(fault):
+                    self._calls.leave()
                 else:
                     LOG.warning("the lease is not renewed: %s", fault)
 

@@ -1,0 +1,70 @@
+"""The calls of a gateway, over a link that only the test answers."""
+from __future__ import annotations
+
+import asyncio
+import unittest
+from typing import Callable, Optional
+
+from rb_broker_redis.calls import MOST_IN_FLIGHT, Calls
+from rb_broker_redis.resp import Answer, ErrorAnswer
+
+MOVED, GONE = ErrorAnswer("MOVED 5 127.0.0.1:7000"), ErrorAnswer("ERR Function not found")
+
+
+class FakeLink:
+    """A connection to a Redis."""
+
+    def __init__(self) -> None:
+        self.is_closed = False
+        self.sent: "list[Callable[[Answer], None]]" = []
+
+    def send(self, data: bytes, *answers: Callable[[Answer], None]) -> None:
+        self.sent += answers
+
+    def close(self) -> None:
+        self.is_closed = True
+
+
+class CallsTest(unittest.IsolatedAsyncioTestCase):
+    async def asyncSetUp(self) -> None:
+        self.calls = Calls("jobs")
+        self.replies: "list[Optional[list[bytes]]]" = []
+        await self.use(FakeLink())
+
+    async def use(self, link: FakeLink) -> None:
+        """The link is there, and what waits for it goes out."""
+        self.link = link
+        self.calls.use(link)
+        await self.let_go_out()
+
+    async def let_go_out(self) -> None:
+        for _ in range(10):  # turns of the loop
+            await asyncio.sleep(0)
+
+    async def submit(self, count: int) -> None:
+        """So many calls go out, each by itself as far as the link takes them."""
+        for number in range(count):
+            self.calls.submit([b"1 OFFER 0 %d" % number], self.replies.append)
+            await self.let_go_out()
+
+    async def test_a_link_is_left_once_all_is_answered_that_it_was_sent(self) -> None:
+        for refusal in (MOVED, GONE):
+            with self.subTest(refusal=refusal):
+                await self.asyncSetUp()
+                await self.submit(MOST_IN_FLIGHT + 1)
+                first, second = self.link.sent
+                first(refusal)
+                await self.let_go_out()
+                self.assertEqual((len(self.link.sent), self.link.is_closed), (2, False))
+                second([b"OFFERED 1 5\n"])
+                self.assertEqual((self.replies, self.link.is_closed), ([[b"OFFERED 1 5\n"]], True))
+                await self.use(FakeLink())
+                for answer in self.link.sent:  # what was refused, and what came meanwhile
+                    answer([b"OFFERED 2 5\n"])
+                self.assertEqual(self.replies[1:], [[b"OFFERED 2 5\n"]] * 2)
+
+    async def test_what_a_lost_link_did_not_answer_is_in_doubt(self) -> None:
+        await self.submit(2)
+        self.link.sent[0]([b"OFFERED 0 5\n"])
+        self.calls.use(None)
+        self.assertEqual(self.replies, [[b"OFFERED 0 5\n"], None])
