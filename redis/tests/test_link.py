@@ -23,7 +23,7 @@ class LinkTest(unittest.TestCase):
     async def ask_when_lost(self) -> None:
         server = await asyncio.start_server(lambda _, writer: writer.close(), HOST, 0)
         port = server.sockets[0].getsockname()[1]
-        link = await connect(HOST, port, read_address(f"redis://{HOST}:{port}"))
+        link = await connect(HOST, port, read_address(f"redis://{HOST}:{port}"), 60)
         await link.lost.wait()
         with self.assertRaises(ConnectionError):
             await link.ask("PING")

@@ -101,7 +101,7 @@ class Calls:
 
     def __init__(self, queue: str, *, replicas: int = 0, patience: float = 5.0) -> None:
         self._head = bulks(key.encode() for key in keys_of(queue))
-        self._replicas, self._patience = replicas, patience
+        self._replicas, self.patience = replicas, patience
         self._front = bulks([b"", b""])
         self._batch = Batch(self._front)
         self._again: list[Batch] = []
@@ -158,7 +158,7 @@ class Calls:
     def is_late(self) -> bool:
         """Whether the Redis has not answered in time."""
         oldest = next(iter(self._flying), None)
-        return oldest is not None and time.monotonic() - oldest.sent > self._patience
+        return oldest is not None and time.monotonic() - oldest.sent > self.patience
 
     def _schedule(self) -> None:
         if self._can_send() and not self._is_scheduled:
@@ -192,7 +192,7 @@ class Calls:
         if not self._replicas:
             link.send(data, lambda answer: self._answered(link, batch, answer))
             return
-        data += command("WAIT", self._replicas, int(self._patience * 1000))
+        data += command("WAIT", self._replicas, int(self.patience * 1000))
         before: list[Answer] = []
         link.send(data, before.append, lambda count: self._copied(link, batch, before[0], count))
 

@@ -10,17 +10,16 @@ from typing import Awaitable, Callable, Optional, TypeVar, cast
 from .address import Address
 from .resp import Answer, ErrorAnswer, command, reader
 
-MOST_SECONDS_TO_CONNECT = 5.0
-
 Answered = TypeVar("Answered")
 
 
 class Link(asyncio.Protocol):
     """Answers come in the order of what was sent. Once the connection is lost, `lost` is set, and no further answer
-    comes. `heard` gets what the Redis sends unasked, to a connection that subscribes."""
+    comes. A Redis that does not answer for `patience` seconds is given up. `heard` gets what it sends unasked, to a
+    connection that subscribes."""
 
-    def __init__(self, heard: Optional[Callable[[bytes], None]] = None) -> None:
-        self.lost, self._heard = asyncio.Event(), heard
+    def __init__(self, patience: float, heard: Optional[Callable[[bytes], None]] = None) -> None:
+        self.lost, self._patience, self._heard = asyncio.Event(), patience, heard
         self._answers: deque[Callable[[Answer], None]] = deque()
         self._reader = reader()
         self._transport: asyncio.Transport
@@ -51,7 +50,7 @@ class Link(asyncio.Protocol):
             raise ConnectionError("the connection is closed")
         answered: asyncio.Future[Answer] = asyncio.get_running_loop().create_future()
         self.send(command(*words), lambda answer: None if answered.done() else answered.set_result(answer))
-        answer = await answer_of(answered)
+        answer = await answer_of(answered, self._patience)
         if isinstance(answer, ErrorAnswer):
             raise answer
         return answer
@@ -66,10 +65,10 @@ class Link(asyncio.Protocol):
         self._transport.abort()
 
 
-async def answer_of(asked: Awaitable[Answered]) -> Answered:
-    """What was asked for. Raises a `ConnectionError` if that does not come in time."""
+async def answer_of(asked: Awaitable[Answered], patience: float) -> Answered:
+    """What was asked for. Raises a `ConnectionError` if that does not come in so many seconds."""
     try:
-        return await asyncio.wait_for(asked, MOST_SECONDS_TO_CONNECT)
+        return await asyncio.wait_for(asked, patience)
     except asyncio.TimeoutError:
         raise ConnectionError("it does not answer") from None
 
@@ -81,10 +80,13 @@ async def is_set_in_time(event: asyncio.Event, seconds: float) -> bool:
     return event.is_set()
 
 
-async def connect(host: str, port: int, address: Address, heard: Optional[Callable[[bytes], None]] = None) -> Link:
+async def connect(
+    host: str, port: int, address: Address, patience: float, heard: Optional[Callable[[bytes], None]] = None
+) -> Link:
     """A connection to this node, with the login and the TLS of the address. Raises `OSError` or `ErrorAnswer`."""
-    opening = asyncio.get_running_loop().create_connection(lambda: Link(heard), host, port, ssl=tls_of(address))
-    _, link = await answer_of(opening)
+    loop = asyncio.get_running_loop()
+    opening = loop.create_connection(lambda: Link(patience, heard), host, port, ssl=tls_of(address))
+    _, link = await answer_of(opening, patience)
     try:
         if address.password:
             await link.ask("AUTH", *([address.username] if address.username else []), address.password)

@@ -75,7 +75,7 @@ class Upkeep:
         self._close_link()
 
     async def _connect(self) -> Link:
-        link = await connect_to_queue(self._address, self._queue)
+        link = await connect_to_queue(self._address, self._queue, self._calls.patience)
         try:
             await self._cut_off(link)
             await self._load_functions(link)
@@ -161,7 +161,8 @@ class Upkeep:
 
     async def _subscribe(self) -> Link:
         link = await connect_to_queue(
-            self._address, self._queue, lambda message: self._gateway.waits.heard(message, self._shard))
+            self._address, self._queue, self._calls.patience,
+            lambda message: self._gateway.waits.heard(message, self._shard))
         await link.ask("SUBSCRIBE", channel_of(self._queue))
         return link
 
