@@ -2,15 +2,16 @@
 from __future__ import annotations
 
 from collections import Counter
+from collections.abc import Iterable
 from pathlib import Path
-from typing import Iterable, NamedTuple
+from typing import NamedTuple
 
 from history import History  # these two belong to the tests of clients/python
 from records import ends_in
 
 RECORD = ".jsonl"  # the end of the name of a file of sessions
 
-Told = "dict[tuple[str, int], list[str]]"
+Told = dict[tuple[str, int], list[str]]
 """What workers noted of each attempt, by payload and attempt."""
 
 

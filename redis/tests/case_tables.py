@@ -16,7 +16,7 @@ class Row(NamedTuple):
     answer: str
 
 
-def tables_of_kind(file: str, kind: str) -> "list[list[Row]]":
+def tables_of_kind(file: str, kind: str) -> list[list[Row]]:
     """The rows of each table of a kind in a file."""
     tables = (table for table in tables_of(CASES / file) if table[0].split(" ")[1] == kind)
     return [[Row(*row.rpartition(" = ")[::2]) for row in rows] for _, *rows in tables]

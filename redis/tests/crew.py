@@ -5,7 +5,6 @@ import shutil
 import subprocess
 import sys
 from pathlib import Path
-from typing import Optional
 
 from accounts import RECORD
 from nodes import Process
@@ -15,7 +14,7 @@ JAVA = FOLDER.parents[1] / "clients" / "java"
 JAVA_WORKER = JAVA / "tests" / "rbbroker" / "client" / "HostileWorker.java"
 
 
-def compiled_java(room: Path) -> Optional[Path]:
+def compiled_java(room: Path) -> Path | None:
     """The classes of the worker in Java, if there is a compiler."""
     if shutil.which("javac") is None or not JAVA_WORKER.exists():
         return None
@@ -50,7 +49,7 @@ class Worker(Process):
 class Crew:
     """Starts workers of all kinds, in turn, each with a file of its own in a folder."""
 
-    def __init__(self, room: Path, ports: list[int], java: Optional[Path]) -> None:
+    def __init__(self, room: Path, ports: list[int], java: Path | None) -> None:
         self.room, self._ports, self._java = room, ports, java
         room.mkdir(exist_ok=True)
         self.started: list[Worker] = []

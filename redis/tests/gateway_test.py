@@ -2,7 +2,6 @@
 from __future__ import annotations
 
 import ssl
-from typing import Optional
 
 from gateways import Gateway
 from redis_test import RedisTest
@@ -10,7 +9,7 @@ from talker import Talker
 
 
 class GatewayTest(RedisTest):
-    def gateway(self, *options: object, redis: Optional[str] = None, **environment: str) -> Gateway:
+    def gateway(self, *options: object, redis: str | None = None, **environment: str) -> Gateway:
         """A gateway of this test's queue with these options, which listens."""
         gateway = Gateway(self.room, self.node.url if redis is None else redis, self.name, options, **environment)
         self.addCleanup(gateway.kill)
@@ -21,7 +20,7 @@ class GatewayTest(RedisTest):
         return self.gateway("--delay", 0, "--attempts", 3, *options)
 
     def talker(
-        self, served: Optional[Gateway] = None, *options: object, tls: Optional[ssl.SSLContext] = None
+        self, served: Gateway | None = None, *options: object, tls: ssl.SSLContext | None = None
     ) -> Talker:
         """A client of a gateway, or of one of its own that is started with these options."""
         talker = Talker((served or self.serve(*options)).port, tls)
@@ -50,6 +49,6 @@ class GatewayTest(RedisTest):
         """How many jobs of the queue are held."""
         return self.node.ask("ZCARD", self.queue().held)
 
-    def events(self) -> "list[list[bytes]]":
+    def events(self) -> list[list[bytes]]:
         """The words of the events of the queue."""
         return [it.split() for it in self.node.ask("LRANGE", self.queue().history, 0, -1)]

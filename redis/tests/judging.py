@@ -11,7 +11,7 @@ from verifying.tests.support import counts_in
 PROGRAM = os.environ.get("RB_BROKER_PROGRAM", "")
 
 
-def faults_in(*words: object) -> "tuple[dict[str, int], str]":
+def faults_in(*words: object) -> tuple[dict[str, int], str]:
     """How many faults of which kinds tools/verify finds, and what it says."""
     ran = run_tool("verify", *words)
     assert ran.returncode in (0, 1), ran.stderr

@@ -11,8 +11,9 @@ import socket
 import subprocess
 import time
 from collections import deque
+from collections.abc import Callable, Sequence
 from pathlib import Path
-from typing import Any, Callable, Deque, Dict, Optional, Sequence
+from typing import Any
 
 import redis
 
@@ -20,7 +21,7 @@ from serving import HOST
 
 PORTS = range(*map(int, os.environ.get("RB_BROKER_PORTS", "26000-27000").split("-")))
 """Of this process alone. A node of a Cluster also has the port that is 10,000 above its own."""
-_given: Deque[int] = deque(maxlen=10)  # the ports that were given last
+_given: deque[int] = deque(maxlen=10)  # the ports that were given last
 PATIENCE = 180  # seconds that anything may take, on a busy machine
 
 ALWAYS = ("--appendonly", "yes", "--appendfsync", "always")
@@ -57,9 +58,9 @@ def wait_until(is_so: Callable[[], object], what: str, patience: float = PATIENC
 class Process:
     """A process that can be killed and started again."""
 
-    def __init__(self, words: Sequence[str], log: Path, environment: Optional[Dict[str, str]] = None) -> None:
+    def __init__(self, words: Sequence[str], log: Path, environment: dict[str, str] | None = None) -> None:
         self._words, self._log, self._environment = list(words), log, environment
-        self._process: Optional[subprocess.Popen[bytes]] = None
+        self._process: subprocess.Popen[bytes] | None = None
         self._began = 0  # where in the log begins what it says since it was started
         atexit.register(self.kill)  # where the tests are broken off
 
@@ -124,7 +125,7 @@ class Node(Process):
     """A redis-server, which answers once it is started."""
 
     def __init__(self, folder: Path, options: Sequence[object] = ALWAYS,
-                 environment: Optional[Dict[str, str]] = None) -> None:
+                 environment: dict[str, str] | None = None) -> None:
         folder.mkdir(parents=True)
         self.port = free_port()
         words = ["redis-server", "--port", self.port, "--bind", HOST, "--dir", folder, "--save", "", *options]
@@ -139,7 +140,7 @@ class Node(Process):
     def url(self) -> str:
         return f"redis://{HOST}:{self.port}"
 
-    def client(self, **options: Any) -> "redis.Redis[bytes]":
+    def client(self, **options: Any) -> redis.Redis[bytes]:
         return redis.Redis(HOST, self.port, **options)
 
     def ask(self, *words: object) -> Any:
@@ -147,7 +148,7 @@ class Node(Process):
         with self.client() as client:
             return client.execute_command(*words)
 
-    def replication(self) -> Dict[str, Any]:
+    def replication(self) -> dict[str, Any]:
         """What it says about its replicas, or as one."""
         with self.client() as client:
             return client.info("replication")

@@ -29,7 +29,7 @@ class RandomScript:
         self.text += chance.choice((b"", b"", b"POLL", b"\r"))
         self.pieces = self._pieces()
 
-    def _some_words(self) -> "list[str]":
+    def _some_words(self) -> list[str]:
         chance = self._chance
         words = ["--calls", str(chance.choice((1, 20, 10_000, 10_000, 10_000, 10_000)))]
         pace = chance.choice(("", "--delay", "--rate"))
@@ -39,7 +39,7 @@ class RandomScript:
             words += ["--delay", str(RESIDUES)]
         return words + chance.choice(([], ["--attempts", str(chance.choice((1, 2, 5, 1_000)))]))
 
-    def _pieces(self) -> "list[bytes]":
+    def _pieces(self) -> list[bytes]:
         size = self._chance.choice((len(self.text) + 1, 1, 7, 100))
         return [self.text[start:start + size] for start in range(0, len(self.text), size)]
 

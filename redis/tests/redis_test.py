@@ -79,7 +79,7 @@ class RedisTest(RoomTest):
                 status = end.code
         return status, said.getvalue().splitlines(), errors.getvalue()
 
-    def assert_wrong_words(self, command: str, *rows: "tuple[list[object], str]") -> None:
+    def assert_wrong_words(self, command: str, *rows: tuple[list[object], str]) -> None:
         """A command with the words of each row is refused, for the reason of that row."""
         for words, why in rows:
             with self.subTest(words=words):

@@ -3,7 +3,6 @@ from __future__ import annotations
 
 import select
 import ssl
-from typing import Optional
 
 from serving import HOST
 from serving.session import Session
@@ -12,7 +11,7 @@ from serving.session import Session
 class Talker(Session):
     """A connection, which may be over TLS."""
 
-    def __init__(self, port: int, tls: Optional[ssl.SSLContext] = None) -> None:
+    def __init__(self, port: int, tls: ssl.SSLContext | None = None) -> None:
         super().__init__(port)
         if tls:
             self.replies.close()
@@ -34,12 +33,12 @@ class Talker(Session):
         self.send(f"{line}\n")
         return self.read()
 
-    def asks(self, *lines: str) -> "list[list[str]]":
+    def asks(self, *lines: str) -> list[list[str]]:
         """Sends lines in one piece. The words of as many that are read."""
         self.send("".join(f"{it}\n" for it in lines))
         return [self.read().split() for _ in lines]
 
-    def rest(self) -> "list[str]":
+    def rest(self) -> list[str]:
         """All reply lines to the end."""
         return list(iter(self.read, ""))
 

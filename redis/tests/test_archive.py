@@ -3,8 +3,8 @@ from __future__ import annotations
 
 import contextlib
 import os
+from collections.abc import Sequence
 from pathlib import Path
-from typing import List, Optional, Sequence
 from unittest import mock
 
 from rb_broker_redis import cuts
@@ -38,10 +38,10 @@ class ListSource:
     def position(self) -> Position:
         return Position(self.first, len(self.list), self.in_hand)
 
-    def opening(self) -> Optional[FollowedQueue]:
+    def opening(self) -> FollowedQueue | None:
         return FollowedQueue.of_opening(self.kept) if self.kept else None
 
-    def events(self, start: int, count: int) -> List[bytes]:
+    def events(self, start: int, count: int) -> list[bytes]:
         return self.list[start:start + count]
 
     def cut(self, first: int, count: int) -> bool:
@@ -61,7 +61,7 @@ class ArchiveTest(RoomTest):
         self.folder = self.room / "archive"
         self.source = ListSource(EVENTS)
 
-    def take(self, most: int = 3, events: Optional[Sequence[bytes]] = None) -> List[str]:
+    def take(self, most: int = 3, events: Sequence[bytes] | None = None) -> list[str]:
         """What one process says, which locks the folder; the Redis has these events, if they are given."""
         if events is not None:
             self.source.list = list(events)
@@ -78,7 +78,7 @@ class ArchiveTest(RoomTest):
         self.assertEqual(sorted(self.folder.iterdir()), files)
         self.assertEqual([it.read_bytes() for it in files], list(texts))
 
-    def assert_conflict(self, said: str, most: int = 3, events: Optional[Sequence[bytes]] = None) -> None:
+    def assert_conflict(self, said: str, most: int = 3, events: Sequence[bytes] | None = None) -> None:
         """Nothing is taken, for this reason."""
         with self.assertRaisesRegex(Conflict, said):
             self.take(most, events)

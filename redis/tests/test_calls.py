@@ -3,7 +3,7 @@ from __future__ import annotations
 
 import asyncio
 import unittest
-from typing import Callable, Optional
+from collections.abc import Callable
 
 from rb_broker_redis.calls import MOST_IN_FLIGHT, Calls
 from rb_broker_redis.resp import Answer, ErrorAnswer
@@ -16,7 +16,7 @@ class FakeLink:
 
     def __init__(self) -> None:
         self.is_closed = False
-        self.sent: "list[Callable[[Answer], None]]" = []
+        self.sent: list[Callable[[Answer], None]] = []
 
     def send(self, data: bytes, *answers: Callable[[Answer], None]) -> None:
         self.sent += answers
@@ -28,7 +28,7 @@ class FakeLink:
 class CallsTest(unittest.IsolatedAsyncioTestCase):
     async def asyncSetUp(self) -> None:
         self.calls = Calls("jobs")
-        self.replies: "list[Optional[list[bytes]]]" = []
+        self.replies: list[list[bytes] | None] = []
         await self.use(FakeLink())
 
     async def use(self, link: FakeLink) -> None:

@@ -14,7 +14,7 @@ EVENTS = [
 
 
 class CutsTest(unittest.TestCase):
-    def best(self, count: int, most: int, in_hand: "list[bytes]" = []) -> Cut:
+    def best(self, count: int, most: int, in_hand: list[bytes] = []) -> Cut:
         """The best cut of the first `count` events."""
         cuts = Cuts(FollowedQueue())
         for line in EVENTS[:count]:

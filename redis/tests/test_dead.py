@@ -18,7 +18,7 @@ class DeadTest(RedisTest):
             self.assertEqual(replies[2::3], [f"DEAD {number}\n" for number in numbers])
         return queue
 
-    def assert_listed(self, ids: "list[str]", *words: object) -> None:
+    def assert_listed(self, ids: list[str], *words: object) -> None:
         """These are the dead jobs."""
         self.assertEqual([line.split(" ")[0] for line in self.ran("dead", *words)[1]], ids)
 

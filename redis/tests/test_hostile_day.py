@@ -14,8 +14,8 @@ import random
 import subprocess
 import threading
 import time
+from collections.abc import Callable
 from pathlib import Path
-from typing import Callable, Dict, List
 
 from accounts import Attempts, attempts_in, sum_up, told_in
 from checking.testing import run_tool
@@ -46,7 +46,7 @@ class Day(RoomTest):
         super().setUp()
         self.archive = self.room / "archive"
         self.draw = random.Random()
-        self.pauses: List[threading.Timer] = []
+        self.pauses: list[threading.Timer] = []
         self.kills = {it: 0 for it in ("gateway", "worker", "producer", "archive", "redis", "lease")}
 
     def run_day(self, redis: str, kill_redis: Callable[[], None], serving: tuple[object, ...] = SERVING) -> None:
@@ -145,7 +145,7 @@ class Day(RoomTest):
         histories = [it for files in queues for it in files]
         for it in histories:
             replay_chains(it, 20_000_000, 1_000)
-        jobs: Dict[str, Attempts] = {}
+        jobs: dict[str, Attempts] = {}
         for files in queues:
             self.assertEqual(run_tool("report", *files).returncode, 0)
             its_jobs = attempts_in(files)

@@ -67,7 +67,7 @@ class JudgedTest(GatewayTest):
     def session(self, served: Gateway) -> RecordedSession:
         return RecordedSession(served.port, uuid.uuid4().hex, Notes(self.record).add)
 
-    def ask(self, session: RecordedSession, *requests: str) -> "list[str]":
+    def ask(self, session: RecordedSession, *requests: str) -> list[str]:
         """The first words of the replies."""
         return [session.reply_to(it)[0].split(" ")[0] for it in requests]
 
@@ -84,7 +84,7 @@ class JudgedTest(GatewayTest):
         self.record.write_bytes(record)
         self.node.go_on()
 
-    def faults(self, *words: str) -> "dict[str, int]":
+    def faults(self, *words: str) -> dict[str, int]:
         """The number of faults of each kind, in all that the queue keeps."""
         archive = self.room / "archive"
         if not archive.exists():
@@ -139,7 +139,7 @@ class JudgedTest(GatewayTest):
             self.assertEqual(self.given(served, len(given)), given, request)
         self.assertEqual(self.faults(), {})
 
-    def given(self, served: Gateway, count: int = 2) -> "list[str]":
+    def given(self, served: Gateway, count: int = 2) -> list[str]:
         """The payloads of so many jobs, which are done."""
         session, payloads = self.session(served), []
         for _ in range(count):

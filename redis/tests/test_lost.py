@@ -13,9 +13,10 @@ import tempfile
 import threading
 import time
 import unittest
+from collections.abc import Callable, Sequence
 from itertools import count
 from pathlib import Path
-from typing import Callable, NamedTuple, Sequence
+from typing import NamedTuple
 
 from gateways import Gateway
 from nodes import ALWAYS, EVERYSEC, FORGETFUL, PATIENCE, Node, Replicas, Sentinels, wait_until
@@ -72,7 +73,7 @@ class LostTest(RoomTest):
         self.assertGreater(total.answered, 0)
         return total
 
-    def offered_until(self, room: Path, redis: str, kill: Callable[[], None], *options: object) -> "tuple[Offers, float]":
+    def offered_until(self, room: Path, redis: str, kill: Callable[[], None], *options: object) -> tuple[Offers, float]:
         """Offers through a gateway until the kill. The answers, and the time of the kill."""
         gateway = Gateway(room, redis, QUEUE, ("--timeout", "1s", *options))
         gateway.wait()
@@ -106,7 +107,7 @@ class LostTest(RoomTest):
 
         return round_of
 
-    def environment(self) -> "dict[str, str]":
+    def environment(self) -> dict[str, str]:
         """That of a node that is killed."""
         return {}
 
@@ -128,7 +129,7 @@ class OneNodeTest(LostTest):
 
 @unittest.skipUnless(shutil.which("cc"), "there is no cc, with which power_cut.c is compiled")
 class PowerCutTest(LostTest):
-    def environment(self) -> "dict[str, str]":
+    def environment(self) -> dict[str, str]:
         shim = self.room / "power_cut.so"
         subprocess.run(["cc", "-shared", "-fPIC", "-o", shim, SHIM, "-ldl"], check=True)
         return {"LD_PRELOAD": str(shim)}

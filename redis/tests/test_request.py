@@ -23,7 +23,7 @@ def expected(answer: str, line: bytes) -> Request:
     return Request(Kind.WAIT if keyword in WAITS else Kind.CALL, line)
 
 
-def rows() -> "list[tuple[bytes, str]]":
+def rows() -> list[tuple[bytes, str]]:
     """Each line of the tables, with its answer."""
     told = ((*row.asked.partition(" "), row.answer) for table in tables_of_kind("lines.rows", "lines") for row in table)
     return [(bytes_of(line), answer) for keyword, _, line, answer in told if keyword == "request"]
@@ -49,7 +49,7 @@ class LineCutterTest(unittest.TestCase):
     TEXT = b"POLL\r\n\nOFFER 5 a\n" + b"x" * 300 + b"\n" + b"y" * 256 + b"\r\nSIZE"
     LINES = [b"POLL\r", b"", b"OFFER 5 a", b"x" * 300, b"y" * 256 + b"\r"]
 
-    def judged(self, lines: "list[bytes]") -> "list[Request]":
+    def judged(self, lines: list[bytes]) -> list[Request]:
         return [read_request(line) for line in lines]
 
     def test_lines_are_the_same_however_they_arrive(self) -> None:

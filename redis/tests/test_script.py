@@ -7,7 +7,7 @@ import random
 import subprocess
 import sys
 import threading
-from typing import Iterator
+from collections.abc import Iterator
 from unittest import mock
 
 from case_tables import CASES
@@ -33,13 +33,13 @@ PASSED_OVER = {
 class RunHere:
     """A run of the command in a thread of this process, as a `Program` sees a process."""
 
-    def __init__(self, words: "list[str]", given: int) -> None:
+    def __init__(self, words: list[str], given: int) -> None:
         (output, its_output), (errors, its_errors) = os.pipe(), os.pipe()
         self.stdout, self.stderr = open(output, "rb", 0), open(errors, "rb", 0)
         self._thread = threading.Thread(target=self._run, args=(words, given, its_output, its_errors))
         self._thread.start()
 
-    def _run(self, words: "list[str]", given: int, output: int, errors: int) -> None:
+    def _run(self, words: list[str], given: int, output: int, errors: int) -> None:
         with open(given, "rb", 0) as stdin, open(output, "wb", 0) as stdout, open(errors, "w") as stderr, \
                 mock.patch.multiple(sys, stdin=stdin, stdout=stdout, stderr=stderr):
             try:
@@ -47,7 +47,7 @@ class RunHere:
             except SystemExit as end:
                 self._status = end.code
 
-    def communicate(self) -> "tuple[bytes, bytes]":
+    def communicate(self) -> tuple[bytes, bytes]:
         return self.stdout.read(), self.stderr.read()
 
     def wait(self) -> int:
@@ -63,7 +63,7 @@ class Here(Program):
         self._redis = redis
 
     @contextlib.contextmanager
-    def _started(self, words: "list[str]", given: Input) -> "Iterator[RunHere]":
+    def _started(self, words: list[str], given: Input) -> Iterator[RunHere]:
         giver = threading.Thread(target=given.give)
         giver.start()
         run = RunHere([*words, "--redis", self._redis], given.descriptor)
@@ -93,14 +93,14 @@ class RandomScriptsTest(RedisTest):
             with self.subTest(seed=seed, words=made.words):
                 self.assertEqual(self.here(made), (replies, history))
 
-    def program(self, made: RandomScript) -> "tuple[bytes, bytes]":
+    def program(self, made: RandomScript) -> tuple[bytes, bytes]:
         """The program's replies and history."""
         path = self.room / "history"
         replies = subprocess.run([PROGRAM, "script", *made.words, "--history", path], input=made.text,
                                  stdout=subprocess.PIPE, check=True).stdout
         return replies, path.read_bytes()
 
-    def here(self, made: RandomScript) -> "tuple[bytes, bytes]":
+    def here(self, made: RandomScript) -> tuple[bytes, bytes]:
         """Those of the functions, within this process."""
         asked = parser().parse_args(["script", "--redis", self.node.url, *made.words])
         queue = self.queue("random")

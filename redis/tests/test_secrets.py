@@ -4,7 +4,6 @@ from __future__ import annotations
 import contextlib
 import tempfile
 from pathlib import Path
-from typing import Optional
 
 from encryption import Certificates  # of the tests of clients/python
 from gateway_test import GatewayTest
@@ -67,7 +66,7 @@ class TlsTest(GatewayTest):
         cls.addClassCleanup(room.cleanup)
         cls.keys = Certificates(room.name)
 
-    def talker_over_tls(self, served: Gateway, name: Optional[str] = None) -> Talker:
+    def talker_over_tls(self, served: Gateway, name: str | None = None) -> Talker:
         """A client that knows the authority, with a certificate of its own if it has a name."""
         return self.talker(served, tls=self.keys.client(name=name))
 

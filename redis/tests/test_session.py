@@ -3,7 +3,6 @@ from __future__ import annotations
 
 import asyncio
 import unittest
-from typing import Optional
 
 from rb_broker_redis.calls import Answered
 from rb_broker_redis.protocol import SECOND
@@ -18,15 +17,15 @@ class FakeCalls:
 
     def __init__(self) -> None:
         self.is_connected = True
-        self.submitted: "list[tuple[list[bytes], Answered]]" = []
+        self.submitted: list[tuple[list[bytes], Answered]] = []
 
-    def submit(self, calls: "list[bytes]", answered: Answered) -> None:
+    def submit(self, calls: list[bytes], answered: Answered) -> None:
         self.submitted.append((calls, answered))
 
     def withhold(self, answered: Answered) -> None:
         self.withheld = answered
 
-    def take(self) -> "list[bytes]":
+    def take(self) -> list[bytes]:
         """What was submitted first, which is then to be answered."""
         calls, self.answered = self.submitted.pop(0)
         return calls
@@ -50,7 +49,7 @@ class FakeTransport:
     def resume_reading(self) -> None:
         self.is_reading = True
 
-    def get_extra_info(self, name: str) -> "Optional[FakeTransport]":
+    def get_extra_info(self, name: str) -> FakeTransport | None:
         return self if name == "socket" else None
 
     def setsockopt(self, *_: int) -> None:
@@ -64,7 +63,7 @@ class FakeGateway:
         self.calls = FakeCalls()
         self.waits = Waits([self.calls], 3600 * SECOND)
         self.is_joined = True
-        self.lost: Optional[int] = None
+        self.lost: int | None = None
 
     def begin(self, session: Session) -> None:
         if self.is_joined:
@@ -79,7 +78,7 @@ class SessionTest(unittest.IsolatedAsyncioTestCase):
         self.gateway = FakeGateway()
         self.session, self.transport = self.connected()
 
-    def connected(self) -> "tuple[Session, FakeTransport]":
+    def connected(self) -> tuple[Session, FakeTransport]:
         """A session, with the connection of its client."""
         session, transport = Session(self.gateway), FakeTransport()
         session.connection_made(transport)
@@ -101,7 +100,7 @@ class SessionTest(unittest.IsolatedAsyncioTestCase):
     def assert_idle(self) -> None:
         self.assertEqual(self.gateway.calls.submitted, [])
 
-    def assert_exchange(self, calls: "dict[bytes, bytes]", sends: Optional[bytes] = None) -> None:
+    def assert_exchange(self, calls: dict[bytes, bytes], sends: bytes | None = None) -> None:
         """These calls are made, and once they are answered the client is sent their replies, or this."""
         self.assert_calls(*calls)
         self.answer(*calls.values(), sends=b"".join(calls.values()) if sends is None else sends)

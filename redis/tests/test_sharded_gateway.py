@@ -3,7 +3,6 @@ from __future__ import annotations
 
 import random
 import time
-from typing import Dict, List
 
 from gateway_test import GatewayTest
 from gateways import Gateway
@@ -18,14 +17,14 @@ class ShardedGatewayTest(GatewayTest):
     def serve(self, *words: object) -> Gateway:
         return super().serve("--shards", SHARDS, *words)
 
-    def shards(self) -> "List[Queue]":
+    def shards(self) -> list[Queue]:
         return [self.queue(f"{self.name}.{it}") for it in range(SHARDS)]
 
-    def sizes(self) -> "List[int]":
+    def sizes(self) -> list[int]:
         """How many elements are in each queue."""
         return [it.command("ZCARD", it.due) for it in self.shards()]
 
-    def offer(self, talker: Talker, count: int, delay: int = 0) -> "Dict[str, str]":
+    def offer(self, talker: Talker, count: int, delay: int = 0) -> dict[str, str]:
         """Offers so many jobs. The payload of each id."""
         replies = talker.asks(*(f"OFFER {delay} job-{it}" for it in range(count)))
         return {words[1]: f"job-{it}" for it, words in enumerate(replies)}

@@ -2,7 +2,7 @@
 from __future__ import annotations
 
 import re
-from typing import NamedTuple, Optional
+from typing import NamedTuple
 
 from case_tables import Row, bytes_of, tables_of_kind
 from rb_broker_redis.queue import Queue
@@ -39,14 +39,14 @@ class Step(NamedTuple):
     row: Row
     asked: str
     moment: int
-    answers: "list[str]"
+    answers: list[str]
 
 
 class NotAsked(Exception):
     """A row asks for what no request does."""
 
 
-def translated(text: str, forms: "dict[str, str]") -> str:
+def translated(text: str, forms: dict[str, str]) -> str:
     """What a row says, in the words of the protocol."""
     for form, words in forms.items():
         if match := re.fullmatch(form, text):
@@ -54,7 +54,7 @@ def translated(text: str, forms: "dict[str, str]") -> str:
     raise NotAsked(text)
 
 
-def steps_of(table: "list[Row]") -> "Optional[list[Step]]":
+def steps_of(table: list[Row]) -> list[Step] | None:
     """The rows of a table that can be tried here, or None if the table asks for what no request does."""
     steps = []
     for row in table:
@@ -89,13 +89,13 @@ class TablesTest(RedisTest):
         self.finish(queue, step, [line.split(" ")[1] for line in lines if line.startswith("ITEM ")])
         return " ".join(lines[0].split(" ")[:2]) if lines[0].startswith("LATER") else lines[0]
 
-    def finish(self, queue: Queue, step: Step, ids: "list[str]") -> None:
+    def finish(self, queue: Queue, step: Step, ids: list[str]) -> None:
         """What was fetched is done, since a queue of the tables holds nothing."""
         if ids:
             seat = step.asked.split(" ")[0]
             queue.call("rb_calls", f"{step.moment:020}", "", *(f"{seat} DONE {id}" for id in ids))
 
-    def play(self, queue: Queue, file: str, steps: "list[Step]") -> None:
+    def play(self, queue: Queue, file: str, steps: list[Step]) -> None:
         """Tries each row."""
         for step in steps:
             if step.asked.startswith("limit"):

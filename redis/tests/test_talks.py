@@ -4,8 +4,8 @@ from __future__ import annotations
 import re
 import socket
 import time
+from collections.abc import Callable, Iterator, Mapping
 from pathlib import Path
-from typing import Callable, Iterator, Mapping
 
 from gateway_test import GatewayTest
 from nodes import ALWAYS, Node, Process, wait_until
@@ -14,10 +14,10 @@ from talker import Talker
 
 TALKS = Path(__file__).with_name("talks.txt")
 
-OF_PROCESSES: "Mapping[str, Callable[[Process], object]]" = {
+OF_PROCESSES: Mapping[str, Callable[[Process], object]] = {
     "is killed": Process.kill, "starts": lambda it: it.start(), "stands still": Process.pause, "goes on": Process.go_on,
 }
-OF_CLIENTS: "Mapping[str, Callable[[Talker], object]]" = {
+OF_CLIENTS: Mapping[str, Callable[[Talker], object]] = {
     "hangs up": Talker.hang_up, "resets": Talker.reset, "sends no more": lambda it: it.socket.shutdown(socket.SHUT_WR),
 }
 
@@ -25,12 +25,12 @@ OF_CLIENTS: "Mapping[str, Callable[[Talker], object]]" = {
 class TalkTest(GatewayTest):
     def setUp(self) -> None:
         super().setUp()
-        self.processes: "dict[str, Process]" = {"redis": self.node}
-        self.clients: "dict[str, Talker]" = {}
-        self.sessions: "dict[str, int]" = {}
+        self.processes: dict[str, Process] = {"redis": self.node}
+        self.clients: dict[str, Talker] = {}
+        self.sessions: dict[str, int] = {}
         """How many each gateway has."""
 
-    def play(self, lines: "list[str]") -> None:
+    def play(self, lines: list[str]) -> None:
         """Takes one line after the other."""
         for line in lines:
             subject, _, rest = line.partition(" ")
@@ -101,14 +101,14 @@ class SoundRedisTest(TalkTest):
     """With a Redis for all."""
 
 
-def talks() -> "Iterator[tuple[str, list[str]]]":
+def talks() -> Iterator[tuple[str, list[str]]]:
     """The name of each talk, and its lines."""
     for part in re.split(r"^talk ", TALKS.read_text(), flags=re.M)[1:]:
         name, *lines = part.split("\n")
         yield name, [it for it in lines if it]
 
 
-def playing(lines: "list[str]") -> "Callable[[TalkTest], None]":
+def playing(lines: list[str]) -> Callable[[TalkTest], None]:
     return lambda test: test.play(lines)
 
 

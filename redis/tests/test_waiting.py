@@ -2,19 +2,18 @@
 from __future__ import annotations
 
 import unittest
-from typing import Optional
 
 from rb_broker_redis.waiting import MOST_TRIED, Due, Waiting
 
 
-def waiting_of(*names: str) -> "Waiting[str]":
-    waiting: "Waiting[str]" = Waiting()
+def waiting_of(*names: str) -> Waiting[str]:
+    waiting: Waiting[str] = Waiting()
     for name in names:
         waiting.add(name)
     return waiting
 
 
-def moment_of(waiting: "Waiting[str]") -> Optional[int]:
+def moment_of(waiting: Waiting[str]) -> int | None:
     """When the next try is due."""
     return waiting.next_due and waiting.next_due.moment
 

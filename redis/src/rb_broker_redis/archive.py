@@ -2,7 +2,8 @@
 from __future__ import annotations
 
 import collections
-from typing import Callable, Iterator, NamedTuple
+from collections.abc import Callable, Iterator
+from typing import NamedTuple
 
 from .archive_folder import ArchivedFile, ArchiveFolder
 from .cuts import Cut, Cuts

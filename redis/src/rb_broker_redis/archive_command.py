@@ -6,8 +6,8 @@ import contextlib
 import signal
 import sys
 import time
+from collections.abc import Sequence
 from pathlib import Path
-from typing import Sequence
 
 from .archive import Archive, QueueEvents
 from .archive_folder import ArchiveFolder
@@ -40,7 +40,7 @@ wrong or a file can't be written; 3 if the Redis can't be reached.
 """
 
 
-def add_to(commands: "argparse._SubParsersAction[Parser]") -> None:
+def add_to(commands: argparse._SubParsersAction[Parser]) -> None:
     """Adds the command."""
     parser = add_command(commands, "archive", ABOUT, run)
     parser.add_argument("folder", metavar="FOLDER", type=Path, help="where the files are; it is made if it is not there")

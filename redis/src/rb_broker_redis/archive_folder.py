@@ -9,10 +9,10 @@ import errno
 import fcntl
 import os
 import re
+from collections.abc import Iterable, Iterator
 from dataclasses import dataclass
 from itertools import chain, count
 from pathlib import Path
-from typing import Iterable, Iterator
 
 from .ending import Failed
 from .history import HEADER

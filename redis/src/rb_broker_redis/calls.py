@@ -4,7 +4,7 @@ from __future__ import annotations
 import asyncio
 import logging
 import time
-from typing import Callable, Optional
+from collections.abc import Callable
 
 from .keys import keys_of
 from .link import Link
@@ -13,7 +13,7 @@ from .resp import Answer, ErrorAnswer, bulks, command
 
 LOG = logging.getLogger(__name__)
 
-Answered = Callable[[Optional["list[bytes]"]], None]
+Answered = Callable[[list[bytes] | None], None]
 """Gets the replies of what was submitted, or None where it is in doubt whether the calls were made."""
 
 SEATS_OF_A_GATEWAY = 10**9
@@ -106,7 +106,7 @@ class Calls:
         self._batch = Batch(self._front)
         self._again: list[Batch] = []
         self._flying: dict[Batch, None] = {}
-        self._link: Optional[Link] = None
+        self._link: Link | None = None
         self._is_leaving = False
         """The link is to be closed, once what is under way on it is answered."""
         self._gateway = 0
@@ -130,7 +130,7 @@ class Calls:
             self._again.append(self._batch)
         self._batch = Batch(self._front)
 
-    def use(self, link: Optional[Link]) -> None:
+    def use(self, link: Link | None) -> None:
         """Sends by this link from now on. What was sent by the one before, and not answered, is in doubt."""
         flying, self._flying = self._flying, {}
         self._link, self._is_leaving = link, False

@@ -1,7 +1,6 @@
 """rb_broker's line protocol over queues that stand in a Redis: python3 -m rb_broker_redis COMMAND .."""
 from __future__ import annotations
 
-from typing import Optional
 
 from . import archive_command, dead_command, load, script, serve
 from .ending import FAULTS, NAME, fail
@@ -20,7 +19,7 @@ def parser() -> Parser:
     return made
 
 
-def main(words: Optional["list[str]"] = None) -> int:
+def main(words: list[str] | None = None) -> int:
     """Runs the command that these words ask for. Returns the exit status."""
     asked = parser().parse_args(words)
     try:

@@ -7,8 +7,8 @@ done does not, so with few failures most cuts are good.
 from __future__ import annotations
 
 from array import array
+from collections.abc import Iterable
 from dataclasses import dataclass
-from typing import Iterable
 
 from .history import MOST_KEPT, FollowedQueue
 

@@ -2,7 +2,7 @@
 from __future__ import annotations
 
 import argparse
-from typing import Iterator, Sequence
+from collections.abc import Iterator, Sequence
 
 from .dates import date_text
 from .ending import Failed, fail
@@ -23,7 +23,7 @@ reached.
 """
 
 
-def add_to(commands: "argparse._SubParsersAction[Parser]") -> None:
+def add_to(commands: argparse._SubParsersAction[Parser]) -> None:
     """Adds the command."""
     parser = add_command(commands, "dead", ABOUT, run)
     parser.add_argument("ids", metavar="ID", type=whole(0, GREATEST_NUMBER), nargs="*", help="a job to offer or to drop")

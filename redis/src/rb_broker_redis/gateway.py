@@ -4,7 +4,6 @@ from __future__ import annotations
 import asyncio
 import logging
 import ssl
-from typing import Optional, Union
 
 from .address import Address
 from .calls import Calls
@@ -27,7 +26,7 @@ class Gateway:
     def __init__(self, names: list[str], *, wait: int, patience: int, replicas: int) -> None:
         self._queues = {it: Calls(it, replicas=replicas, patience=patience / SECOND) for it in names}
         queues = list(self._queues.values())
-        self.calls: Union[Calls, ShardedCalls]
+        self.calls: Calls | ShardedCalls
         if len(queues) == 1:
             self.calls, self.waits = queues[0], Waits(queues, wait)
         else:
@@ -50,14 +49,14 @@ class Gateway:
         for upkeep in self._upkeeps:
             await upkeep.start()
 
-    async def listen(self, host: str, port: int, tls: Optional[ssl.SSLContext]) -> int:
+    async def listen(self, host: str, port: int, tls: ssl.SSLContext | None) -> int:
         """Serves clients at this port, or at one of the system's choice for 0. Returns the port."""
         loop = asyncio.get_running_loop()
         self._server = await loop.create_server(
             lambda: Session(self), host, port, ssl=tls, backlog=1_024, reuse_address=True)
         return int(self._server.sockets[0].getsockname()[1])
 
-    async def stop(self) -> "tuple[int, int]":
+    async def stop(self) -> tuple[int, int]:
         """Ends in good order: no further client is served, waits are answered STOPPED, and sessions end. Returns how
         many sessions there were, and how many jobs were lost."""
         self._server.close()

@@ -4,8 +4,9 @@ from __future__ import annotations
 import gzip
 import re
 import zlib
+from collections.abc import Iterable, Iterator
 from pathlib import Path
-from typing import BinaryIO, Iterable, Iterator, Match, NamedTuple, Pattern
+from typing import BinaryIO, NamedTuple
 
 from .ending import Failed
 from .protocol import GREATEST_NUMBER
@@ -208,7 +209,7 @@ class _Reader:
         words, expiry, origin, attempt, payload = match.groups()
         return b"%b %b %b %b\n" % (words, self._firsts.setdefault(origin, expiry), attempt, payload)
 
-    def _matched(self, pattern: Pattern[bytes], otherwise: str) -> Match[bytes]:
+    def _matched(self, pattern: re.Pattern[bytes], otherwise: str) -> re.Match[bytes]:
         match = pattern.fullmatch(self._line())
         if match is None:
             raise Damaged(otherwise)

@@ -5,7 +5,8 @@ import asyncio
 import contextlib
 import ssl
 from collections import deque
-from typing import Awaitable, Callable, Optional, TypeVar, cast
+from collections.abc import Awaitable, Callable
+from typing import TypeVar, cast
 
 from .address import Address
 from .resp import Answer, ErrorAnswer, command, reader
@@ -18,7 +19,7 @@ class Link(asyncio.Protocol):
     comes. A Redis that does not answer for `patience` seconds is given up. `heard` gets what it sends unasked, to a
     connection that subscribes."""
 
-    def __init__(self, patience: float, heard: Optional[Callable[[bytes], None]] = None) -> None:
+    def __init__(self, patience: float, heard: Callable[[bytes], None] | None = None) -> None:
         self.lost, self._patience, self._heard = asyncio.Event(), patience, heard
         self._answers: deque[Callable[[Answer], None]] = deque()
         self._reader = reader()
@@ -36,7 +37,7 @@ class Link(asyncio.Protocol):
             else:
                 self._answers.popleft()(answer)
 
-    def connection_lost(self, fault: Optional[Exception]) -> None:
+    def connection_lost(self, fault: Exception | None) -> None:
         self.lost.set()
 
     def send(self, data: bytes, *answers: Callable[[Answer], None]) -> None:
@@ -44,7 +45,7 @@ class Link(asyncio.Protocol):
         self._answers.extend(answers)
         self._transport.write(data)
 
-    async def ask(self, *words: "bytes | str | int") -> Answer:
+    async def ask(self, *words: bytes | str | int) -> Answer:
         """Makes one command. Raises its `ErrorAnswer`, or a `ConnectionError` if there is no answer in time."""
         if self.is_closed:  # what uvloop says of it is no `OSError`
             raise ConnectionError("the connection is closed")
@@ -68,20 +69,22 @@ class Link(asyncio.Protocol):
 async def answer_of(asked: Awaitable[Answered], patience: float) -> Answered:
     """What was asked for. Raises a `ConnectionError` if that does not come in so many seconds."""
     try:
-        return await asyncio.wait_for(asked, patience)
-    except asyncio.TimeoutError:
+        async with asyncio.timeout(patience):
+            return await asked
+    except TimeoutError:
         raise ConnectionError("it does not answer") from None
 
 
 async def is_set_in_time(event: asyncio.Event, seconds: float) -> bool:
     """Waits until something has come about, or for so long. Whether it has."""
-    with contextlib.suppress(asyncio.TimeoutError):
-        await asyncio.wait_for(event.wait(), seconds)
+    with contextlib.suppress(TimeoutError):
+        async with asyncio.timeout(seconds):
+            await event.wait()
     return event.is_set()
 
 
 async def connect(
-    host: str, port: int, address: Address, patience: float, heard: Optional[Callable[[bytes], None]] = None
+    host: str, port: int, address: Address, patience: float, heard: Callable[[bytes], None] | None = None
 ) -> Link:
     """A connection to this node, with the login and the TLS of the address. Raises `OSError` or `ErrorAnswer`."""
     loop = asyncio.get_running_loop()
@@ -98,7 +101,7 @@ async def connect(
     return link
 
 
-def tls_of(address: Address) -> Optional[ssl.SSLContext]:
+def tls_of(address: Address) -> ssl.SSLContext | None:
     """What a TLS connection to this address needs: the options of its URL are redis-py's."""
     if not address.is_tls:
         return None

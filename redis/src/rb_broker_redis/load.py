@@ -6,8 +6,8 @@ import hashlib
 import json
 import os
 import sys
+from collections.abc import Sequence
 from pathlib import Path
-from typing import Sequence
 
 import redis
 
@@ -108,7 +108,7 @@ def abandon(queue: Queue) -> bool:
     return bool(queue.command("EVAL", ABANDON, len(queue.keys), *queue.keys, queue.state))
 
 
-def add_to(commands: "argparse._SubParsersAction[Parser]") -> None:
+def add_to(commands: argparse._SubParsersAction[Parser]) -> None:
     """Adds the command."""
     parser = add_command(commands, "load", ABOUT, run)
     parser.add_argument("histories", metavar="HISTORY", type=Path, nargs="*", help="the text of a history")

@@ -1,7 +1,8 @@
 """What a Redis is sent and what it answers (RESP 2): hiredis reads the answers where it is installed."""
 from __future__ import annotations
 
-from typing import Any, Iterable, Union
+from collections.abc import Iterable
+from typing import Any
 
 
 class ErrorAnswer(Exception):
@@ -17,7 +18,7 @@ Answer = Any
 """bytes, int, None, an `ErrorAnswer`, or a list of answers."""
 
 
-def command(*words: Union[bytes, str, int]) -> bytes:
+def command(*words: bytes | str | int) -> bytes:
     """The bytes of a command."""
     encoded = [word if isinstance(word, bytes) else str(word).encode() for word in words]
     return b"*%d\r\n" % len(encoded) + bulks(encoded)
@@ -84,7 +85,7 @@ class _Incomplete(Exception):
 def reader() -> Any:
     """A reader of answers: a `PlainReader`, or that of hiredis."""
     try:
-        import hiredis  # type: ignore[import]
+        import hiredis
     except ImportError:
         return PlainReader()
     return hiredis.Reader(protocolError=ConnectionError, replyError=ErrorAnswer)

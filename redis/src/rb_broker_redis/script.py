@@ -5,9 +5,10 @@ import argparse
 import contextlib
 import os
 import sys
+from collections.abc import Iterator
 from itertools import chain
 from pathlib import Path
-from typing import BinaryIO, Iterator, Optional
+from typing import BinaryIO
 
 from .ending import Failed
 from .history import GREATEST_ID, HEADER, MOST_KEPT, Damaged, FollowedQueue, read_text
@@ -26,7 +27,7 @@ MOST_READS = 10_000_000
 BUFFER_BYTES = 64 * 1024
 
 
-def add_to(commands: "argparse._SubParsersAction[Parser]") -> None:
+def add_to(commands: argparse._SubParsersAction[Parser]) -> None:
     """Adds the command."""
     parser = add_command(commands, "script", "one session at standard input", run)
     add_redis_word(parser)
@@ -57,7 +58,7 @@ def run(asked: argparse.Namespace) -> int:
     return 0
 
 
-def opening_of(path: Optional[str]) -> FollowedQueue:
+def opening_of(path: str | None) -> FollowedQueue:
     """The queue that a history leaves."""
     if path is None:
         return FollowedQueue()
@@ -115,13 +116,13 @@ def write(replies: bytes) -> None:
 
 
 @ends_with("cannot write history")
-def recorder_of(path: Optional[str]) -> Optional[BinaryIO]:
+def recorder_of(path: str | None) -> BinaryIO | None:
     """The file of the history, which is there before the first request is read."""
     return open(path, "wb") if path else None
 
 
 @ends_with("cannot write history")
-def record(queue: Queue, opening: FollowedQueue, recorder: Optional[BinaryIO]) -> None:
+def record(queue: Queue, opening: FollowedQueue, recorder: BinaryIO | None) -> None:
     """Writes the history of the run, if there is a file for it."""
     if recorder:
         with recorder:

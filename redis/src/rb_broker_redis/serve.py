@@ -23,7 +23,7 @@ from .words import (
 LOOPBACK = "127.0.0.1"
 
 
-def add_to(commands: "argparse._SubParsersAction[Parser]") -> None:
+def add_to(commands: argparse._SubParsersAction[Parser]) -> None:
     """Adds the command."""
     parser = add_command(commands, "serve", "serves clients from a queue", run)
     add_queue_words(parser)
@@ -75,7 +75,7 @@ def check(asked: argparse.Namespace) -> None:
         refuse("--change-policy needs --delay, --rate or --attempts")
 
 
-def tls_of(asked: argparse.Namespace) -> "ssl.SSLContext | None":
+def tls_of(asked: argparse.Namespace) -> ssl.SSLContext | None:
     """What clients are served with, if that is TLS. Raises `OSError` if a certificate can't be read."""
     if not asked.cert:
         return None

@@ -4,7 +4,7 @@ from __future__ import annotations
 import asyncio
 import socket
 from collections import deque
-from typing import TYPE_CHECKING, Optional, cast
+from typing import TYPE_CHECKING, cast
 
 from .protocol import ErrorReply
 from .request import Kind, LineCutter, read_request, refused
@@ -38,15 +38,15 @@ class Session(asyncio.Protocol):
     def __init__(self, gateway: Gateway) -> None:
         self._gateway = gateway
         self._cutter = LineCutter()
-        self._lines: deque[Optional[bytes]] = deque()
+        self._lines: deque[bytes | None] = deque()
         """None is a line that the end of input has cut off."""
         self._transport: asyncio.Transport
         self._seat = b""
         """What stands before each of its calls: its number at the queue, and a space. Its lines wait for it."""
-        self._plan: list[Optional[bytes]] = []
+        self._plan: list[bytes | None] = []
         self._wait_request = b""
         """The request of a plan that may have to wait."""
-        self._wait: Optional[Wait] = None
+        self._wait: Wait | None = None
         self._is_busy = False
         self._has_called = False
         self._is_at_end = False
@@ -88,7 +88,7 @@ class Session(asyncio.Protocol):
         # Replies are still sent. TLS has no such half of a connection.
         return self._transport.get_extra_info("sslcontext") is None
 
-    def connection_lost(self, fault: Optional[Exception]) -> None:
+    def connection_lost(self, fault: Exception | None) -> None:
         self._leave()
 
     def pause_writing(self) -> None:
@@ -140,7 +140,7 @@ class Session(asyncio.Protocol):
 
     def _calls_of_next(self) -> list[bytes]:
         calls: list[bytes] = []
-        plan: list[Optional[bytes]] = []
+        plan: list[bytes | None] = []
         lines, seat = self._lines, self._seat
         while lines and len(plan) < MOST_AT_ONCE:
             line = lines.popleft()
@@ -163,7 +163,7 @@ class Session(asyncio.Protocol):
         self._plan = plan
         return calls
 
-    def _answered(self, replies: Optional[list[bytes]]) -> None:
+    def _answered(self, replies: list[bytes] | None) -> None:
         """The calls that were under way are answered."""
         self._is_busy = False
         if replies is None:
@@ -175,7 +175,7 @@ class Session(asyncio.Protocol):
         elif self._lines or self._is_at_end or self._is_paused:
             self._go_on()
 
-    def _send(self, replies: list[bytes]) -> Optional[bytes]:
+    def _send(self, replies: list[bytes]) -> bytes | None:
         """Sends the replies of a plan. Returns that of a call that has to wait."""
         later = None
         if self._wait_request and replies[-1].startswith(LATER):
@@ -198,7 +198,7 @@ class Session(asyncio.Protocol):
         self._is_busy = True
         self._wait = self._gateway.waits.begin(self._seat, request, later, self._wait_ended)
 
-    def _wait_ended(self, reply: Optional[bytes]) -> None:
+    def _wait_ended(self, reply: bytes | None) -> None:
         self._wait = None
         self._answered(None if reply is None else [reply])
 
@@ -226,7 +226,7 @@ class Session(asyncio.Protocol):
     def _submit_end(self) -> None:
         self._gateway.calls.submit([self._seat + b"END"], self._ended)
 
-    def _ended(self, replies: Optional[list[bytes]]) -> None:
+    def _ended(self, replies: list[bytes] | None) -> None:
         if replies is None:  # a seat's end may be made twice
             asyncio.get_running_loop().call_later(SECONDS_BETWEEN_ENDS, self._submit_end)
             return

@@ -2,8 +2,8 @@
 from __future__ import annotations
 
 import asyncio
+from collections.abc import Iterable, Sequence
 from itertools import groupby
-from typing import Iterable, Optional, Sequence
 
 from .calls import Answered, Calls
 from .protocol import MOST_HELD, ErrorReply
@@ -43,7 +43,7 @@ class ShardedCalls:
 
     async def _carry_out(self, session: _Session, requests: list[bytes], answered: Answered) -> None:
         try:
-            replies: Optional[list[bytes]] = await session.replies_to(requests)
+            replies: list[bytes] | None = await session.replies_to(requests)
         except InDoubt:
             replies = None
         del self._under_way[answered]
@@ -121,7 +121,7 @@ class _Session:
         return [NOT_THERE[word_of(request)] if queue is None else self._told(queue, request, next(given[queue]))
                 for queue, request in zip(queues, requests)]
 
-    def _queue_of(self, request: bytes) -> Optional[int]:
+    def _queue_of(self, request: bytes) -> int | None:
         """The queue of a request that names a payload or an id, or None if there is no such queue."""
         word, argument, *payload = request.split(b" ")
         if word in BY_PAYLOAD:

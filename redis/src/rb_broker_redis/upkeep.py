@@ -5,7 +5,8 @@ import asyncio
 import contextlib
 import logging
 import time
-from typing import TYPE_CHECKING, Any, Awaitable, Callable, Optional
+from collections.abc import Awaitable, Callable
+from typing import TYPE_CHECKING, Any
 from uuid import uuid4
 
 from . import library
@@ -42,7 +43,7 @@ class Upkeep:
         self._name = f"rb_broker-{uuid4().hex}".encode()
         """That of its links, which no other gateway has."""
         self._keys = keys_of(queue)
-        self._link: Optional[Link] = None
+        self._link: Link | None = None
         self._linked_at = time.monotonic()
         self.is_joined = False
         """Whether the queue knows this gateway."""
@@ -67,11 +68,9 @@ class Upkeep:
         if self._link:
             with contextlib.suppress(OSError, ErrorAnswer):  # the lease ends by itself
                 await self._call(self._link, "rb_leave", self._number)
-        # `wait_for` loses a cancellation that comes together with its result, so one may not be enough.
-        while running := [task for task in self._tasks if not task.done()]:
-            for task in running:
-                task.cancel()
-            await asyncio.wait(running, timeout=0.1)
+        for task in self._tasks:
+            task.cancel()
+        await asyncio.gather(*self._tasks, return_exceptions=True)
         self._close_link()
 
     async def _connect(self) -> Link:
@@ -94,7 +93,7 @@ class Upkeep:
 
     async def _load_functions(self, link: Link) -> None:
         try:
-            version: Optional[int] = int(await link.ask("FCALL", "rb_version", 0))
+            version: int | None = int(await link.ask("FCALL", "rb_version", 0))
         except ErrorAnswer as fault:
             if "not found" not in str(fault):
                 raise
@@ -102,7 +101,7 @@ class Upkeep:
         if library.must_load(version):
             await link.ask("FUNCTION", "LOAD", "REPLACE", library.SOURCE)
 
-    async def _call(self, link: Link, function: str, *args: "bytes | str | int") -> Any:
+    async def _call(self, link: Link, function: str, *args: bytes | str | int) -> Any:
         return await link.ask("FCALL", function, len(self._keys), *self._keys, *args)
 
     async def _join(self, link: Link) -> None:

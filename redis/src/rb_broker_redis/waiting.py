@@ -6,7 +6,8 @@ queues are shards of one, it asks the one whose earliest element expires first.
 """
 from __future__ import annotations
 
-from typing import Generic, Hashable, NamedTuple, Optional, TypeVar
+from collections.abc import Hashable
+from typing import Generic, NamedTuple, TypeVar
 
 Waiter = TypeVar("Waiter", bound=Hashable)
 
@@ -28,7 +29,7 @@ class Waiting(Generic[Waiter]):
         self._order: dict[Waiter, None] = {}
         self._dues: dict[int, int] = {}
         """When the earliest known element of each queue expires, for those of which one is known."""
-        self._tried_queue: Optional[int] = None
+        self._tried_queue: int | None = None
         self._width = 1
 
     def __len__(self) -> int:
@@ -38,7 +39,7 @@ class Waiting(Generic[Waiter]):
         return waiter in self._order
 
     @property
-    def next_due(self) -> Optional[Due]:
+    def next_due(self) -> Due | None:
         """When to try again, and at which queue, unless an earlier element is heard of. None while nobody waits, while
         tries are under way, and where no element is known."""
         if not self._order or not self._dues or self._tried_queue is not None:

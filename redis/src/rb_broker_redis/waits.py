@@ -3,9 +3,10 @@ from __future__ import annotations
 
 import asyncio
 import time
+from collections.abc import Callable, Sequence
 from dataclasses import dataclass, field
 from itertools import zip_longest
-from typing import Callable, NamedTuple, Optional, Sequence
+from typing import NamedTuple
 
 from .calls import Calls
 from .protocol import SECOND
@@ -17,14 +18,14 @@ STOPPED = b"STOPPED\n"
 EARLY = 0.0005
 """A loop's timer may run this many seconds early, since it counts milliseconds."""
 
-WaitAnswered = Callable[[Optional[bytes]], None]
+WaitAnswered = Callable[[bytes | None], None]
 """Gets the reply to a request that waited, or None where it is in doubt."""
 
 
 class Later(NamedTuple):
     """When a call that found nothing has to be tried again, in moments of the node."""
 
-    head: Optional[int]
+    head: int | None
     now: int
     start: bytes
 
@@ -67,8 +68,8 @@ class Waits:
         self._queues, self._longest, self._front_of, self._seen = queues, longest, front_of, seen
         self._waiting: Waiting[Wait] = Waiting()
         self._loop = asyncio.get_event_loop()
-        self._timer: Optional[asyncio.TimerHandle] = None
-        self._timed_for: Optional[int] = None
+        self._timer: asyncio.TimerHandle | None = None
+        self._timed_for: int | None = None
 
     def __len__(self) -> int:
         return len(self._waiting)
@@ -126,7 +127,7 @@ class Waits:
             wait.is_tried = True
         self._queues[queue].submit([wait.calls[queue] for wait in tried], lambda replies: self._tried(tried, replies))
 
-    def _set_timer(self, moment: Optional[int]) -> None:
+    def _set_timer(self, moment: int | None) -> None:
         if moment is None or moment == self._timed_for:
             return
         if self._timer:
@@ -138,7 +139,7 @@ class Waits:
         self._timer = self._timed_for = None
         self._look()
 
-    def _tried(self, tried: list[Wait], replies: Optional[list[bytes]]) -> None:
+    def _tried(self, tried: list[Wait], replies: list[bytes] | None) -> None:
         now, queue = time.monotonic_ns(), self._waiting.tried_queue
         if replies is None:  # whether an element is left for the others is not known either
             self._waiting.hear(now, queue)
@@ -168,7 +169,7 @@ class Waits:
         wait.is_tried = True
         self._queues[0].submit([wait.calls[0]], lambda replies: self._polled(wait, replies))
 
-    def _polled(self, wait: Wait, replies: Optional[list[bytes]]) -> None:
+    def _polled(self, wait: Wait, replies: list[bytes] | None) -> None:
         wait.is_tried = False
         reply = replies[0] if replies else None
         if reply is None or not reply.startswith(LATER):
@@ -181,7 +182,7 @@ class Waits:
         else:
             self._answer(wait, 0, STOPPED)
 
-    def _answer(self, wait: Wait, queue: int, reply: Optional[bytes]) -> None:
+    def _answer(self, wait: Wait, queue: int, reply: bytes | None) -> None:
         wait.timer.cancel()
         self._waiting.remove(wait)
         wait.answered(reply and self._seen(queue, wait.seat, reply))

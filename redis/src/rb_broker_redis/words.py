@@ -2,7 +2,8 @@
 from __future__ import annotations
 
 import argparse
-from typing import Callable, NoReturn
+from collections.abc import Callable
+from typing import NoReturn
 
 from .address import DEFAULT, VARIABLE, Address, address_of
 from .dates import read_duration
@@ -24,7 +25,7 @@ class Parser(argparse.ArgumentParser):
 
 
 def add_command(
-    commands: "argparse._SubParsersAction[Parser]", name: str, about: str, run: Callable[[argparse.Namespace], int]
+    commands: argparse._SubParsersAction[Parser], name: str, about: str, run: Callable[[argparse.Namespace], int]
 ) -> Parser:
     """Adds a command. What it is about begins with a sentence, which an empty line ends."""
     sentence, _, rest = about.partition("\n\n")
