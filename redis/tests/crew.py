@@ -16,7 +16,7 @@ JAVA_WORKER = JAVA / "tests" / "rbbroker" / "client" / "HostileWorker.java"
 
 def compiled_java(room: Path) -> Path | None:
     """The classes of the worker in Java, if there is a compiler."""
-    if shutil.which("javac") is None or not JAVA_WORKER.exists():
+    if shutil.which("javac") is None:
         return None
     sources = [str(it) for it in (JAVA / "src" / "rbbroker").rglob("*.java")]
     subprocess.run(["javac", "-d", str(room), *sources, str(JAVA_WORKER)], check=True, timeout=300)

@@ -16,8 +16,8 @@ class GatewayTest(RedisTest):
         return gateway.wait()
 
     def serve(self, *options: object) -> Gateway:
-        """A gateway whose failed jobs come back at once."""
-        return self.gateway("--delay", 0, "--attempts", 3, *options)
+        """A gateway whose failed jobs come back at once, with patience for a Redis on a busy machine."""
+        return self.gateway("--delay", 0, "--attempts", 3, "--timeout", "60s", *options)
 
     def talker(
         self, served: Gateway | None = None, *options: object, tls: ssl.SSLContext | None = None
@@ -36,9 +36,15 @@ class GatewayTest(RedisTest):
                 talker.send(f"{request.rstrip()}\n")
             self.assertRegex(talker.read(), f"^{reply}$", row)
 
+    def begin_wait(self, talker: Talker, request: str) -> None:
+        """A request is made that has to wait. A line that is refused goes before it, since the gateway sends that
+        refusal once the wait has begun."""
+        talker.send(f"x\n{request}\n")
+        self.assert_talk(talker, "= ERR 1 syntax")
+
     def assert_waits(self, talker: Talker, request: str) -> None:
         """A request gets no reply yet."""
-        talker.send(f"{request}\n")
+        self.begin_wait(talker, request)
         self.assertTrue(talker.is_silent(0.3))
 
     def assert_ends_well(self, served: Gateway, sessions: int) -> None:

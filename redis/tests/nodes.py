@@ -235,6 +235,6 @@ class Cluster(Nodes):
         target.ask("CLUSTER", "SETSLOT", slot, "IMPORTING", ids[source])
         source.ask("CLUSTER", "SETSLOT", slot, "MIGRATING", ids[target])
         while keys := source.ask("CLUSTER", "GETKEYSINSLOT", slot, 1):
-            source.ask("MIGRATE", HOST, target.port, "", 0, 5000, "KEYS", *keys)
+            source.ask("MIGRATE", HOST, target.port, "", 0, 1_000 * PATIENCE, "KEYS", *keys)
         for it in (target, source, *self.nodes):
             it.ask("CLUSTER", "SETSLOT", slot, "NODE", ids[target])

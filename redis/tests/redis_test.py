@@ -5,7 +5,6 @@ import io
 import os
 import subprocess
 import tempfile
-import time
 from contextlib import redirect_stderr, redirect_stdout
 from pathlib import Path
 
@@ -98,13 +97,10 @@ class RedisTest(RoomTest):
     def kill_again_and_again(self, *words: object) -> int:
         """Starts a command and kills it, first while it starts and then each time a bit later, until it ends well
         before that. How often it was killed."""
-        began = time.monotonic()
-        self.started(words[0], "--help").communicate()
-        to_start = time.monotonic() - began
         for kills in range(100):
             process = self.started(*words)
             try:
-                _, errors = process.communicate(timeout=0.6 * to_start * 1.2 ** kills)
+                _, errors = process.communicate(timeout=0.05 * 1.2 ** kills)
                 self.assertEqual((process.returncode, errors), (0, ""))
                 return kills
             except subprocess.TimeoutExpired:

@@ -6,7 +6,7 @@ import signal
 from pathlib import Path
 
 from judging import replay_chains
-from nodes import wait_until
+from nodes import PATIENCE, wait_until
 from rb_broker_redis.archive_folder import ArchiveFolder
 from rb_broker_redis.history import read_text
 from rb_broker_redis.queue import Queue
@@ -73,7 +73,7 @@ class TakeTest(ArchiveCommandTest):
             queue.request("SIZE", SEAT)
             wait_until(lambda: len(self.files()) == number, "no file is written")
         process.send_signal(signal.SIGTERM)
-        _, errors = process.communicate(timeout=10)
+        _, errors = process.communicate(timeout=PATIENCE)
         self.assertEqual((process.returncode, errors), (0, ""))
         events = [line for it in self.files() for line in it.read_bytes().splitlines()[2:-1]]
         self.assertEqual([it.split(b" ", 3)[3] for it in events], [b"size 0"] * 3)
@@ -90,7 +90,7 @@ class TakeTest(ArchiveCommandTest):
         wait_until(lambda: (self.folder / f"{self.name}-{0:012}.lost-1").exists(), "nothing is set aside")
         wait_until(self.files, "no file is written")
         process.send_signal(signal.SIGTERM)
-        said, _ = process.communicate(timeout=10)
+        said, _ = process.communicate(timeout=PATIENCE)
         self.assertEqual(process.returncode, 0)
         self.assertIn("the Redis has lost events that were archived, from number 0: see ", said)
 

@@ -4,6 +4,7 @@ from __future__ import annotations
 import time
 
 from gateway_test import GatewayTest
+from nodes import wait_until
 
 MILLISECOND = 1_000_000
 
@@ -30,12 +31,16 @@ class RequestsTest(GatewayTest):
 
 class WaitsTest(GatewayTest):
     def test_a_take_waits_until_an_element_is_due(self) -> None:
-        talker = self.talker(None, "--wait", "20s")
-        expiry = int(talker.ask(f"OFFER {300 * MILLISECOND} a").split()[2])
-        self.assert_talk(talker, "TAKE = ITEM .*")
-        given = int(self.events()[-1][2])
-        self.assertGreaterEqual(given, expiry)
-        self.assertLess(given - expiry, 1_000 * MILLISECOND)
+        talker = self.talker(None, "--wait", "60s")
+
+        def lateness() -> int:
+            expiry = int(talker.ask(f"OFFER {300 * MILLISECOND} a").split()[2])
+            self.assert_talk(talker, "TAKE = ITEM .*")
+            given = int(self.events()[-1][2])
+            self.assertGreaterEqual(given, expiry)
+            return given - expiry
+
+        wait_until(lambda: lateness() < 1_000 * MILLISECOND, "no element is given when it is due")
 
     def test_a_wait_is_given_up(self) -> None:
         talker = self.talker(None, "--wait", "300ms")
@@ -53,8 +58,7 @@ class WaitsTest(GatewayTest):
         served = self.serve("--wait", "60s")
         waiting = [self.talker(served) for _ in range(20)]
         for talker in waiting:
-            talker.send("TAKE\n")
-            self.assertTrue(talker.is_silent(0.02))
+            self.begin_wait(talker, "TAKE")
         offering = self.talker(served)
         offering.send("".join(f"OFFERAT {it} job-{it}\n" for it in range(20)))
         self.assert_talk(offering, *["= OFFERED .*"] * 20)
@@ -62,7 +66,7 @@ class WaitsTest(GatewayTest):
             self.assert_talk(talker, f"= ITEM .* job-{number}")
 
     def test_nobody_polls_while_nothing_is_due(self) -> None:
-        talker = self.talker(None, "--wait", "60s")
+        talker = self.talker(None, "--wait", "60s", "--lease", "1h")
         self.assert_talk(talker, f"OFFER {3_600_000 * MILLISECOND} a = OFFERED .*")
         self.assert_waits(talker, "TAKE")
         before = self.calls()
@@ -70,14 +74,14 @@ class WaitsTest(GatewayTest):
         self.assertEqual(self.calls(), before)
 
     def calls(self) -> int:
-        """How often a function was called, apart from the renewals of a lease, of which there are few."""
+        """How often a function was called. A lease of an hour is renewed later."""
         with self.node.client() as client:
             return client.info("commandstats")["cmdstat_fcall"]["calls"]
 
 
 class EndsTest(GatewayTest):
     def test_nothing_is_given_to_a_session_whose_lease_was_over(self) -> None:
-        late, other = self.serve("--lease", "2s", "--wait", "30s"), self.serve("--lease", "2s", "--wait", "30s")
+        late, other = self.serve("--lease", "6s", "--wait", "60s"), self.serve("--lease", "6s", "--wait", "60s")
         holder, polling, waiting, heir = (self.talker(it) for it in (late, late, late, other))
         self.assert_talk(holder, "OFFER 0 a = OFFERED .*", "OFFER 0 b = OFFERED .*", "TAKE = ITEM .*")
         self.assert_talk(polling, "SIZE = SIZE 1")

@@ -11,9 +11,11 @@ from __future__ import annotations
 import contextlib
 import os
 import random
+import shutil
 import subprocess
 import threading
 import time
+import unittest
 from collections.abc import Callable
 from pathlib import Path
 
@@ -137,7 +139,7 @@ class Day(RoomTest):
         for it in self.gateways:
             self.assertEqual(it.end(), 0)
         self.archiving.end()
-        ran = subprocess.run(self.take_events, capture_output=True, text=True, timeout=60, check=False)
+        ran = subprocess.run(self.take_events, capture_output=True, text=True, timeout=PATIENCE, check=False)
         self.assertEqual((ran.returncode, ran.stderr), (0, ""))
 
     def judge(self) -> None:
@@ -177,6 +179,12 @@ class Day(RoomTest):
         for files in queues:
             self.assertEqual([it.first for it in files], [0, *(it.end for it in files[:-1])])
         return [[it.path for it in files] for files in queues]
+
+
+@unittest.skipUnless(shutil.which("javac"), "there is no javac, so no worker in Java takes part in these days")
+class JavaWorkerTest(RoomTest):
+    def test_a_worker_in_java_takes_part(self) -> None:
+        self.assertIsNotNone(compiled_java(self.room))
 
 
 class OneNodeTest(Day):

@@ -5,38 +5,48 @@ from __future__ import annotations
 import contextlib
 import socket
 import threading
-import time
 import uuid
 
 from gateway_test import GatewayTest
 from gateways import Gateway
-from judging import faults_in
 from hostile_client import Notes
+from judging import faults_in
+from nodes import PATIENCE, wait_until
 from serving import HOST
 from serving.recorded import Broken, RecordedSession
 
 
 class Proxy:
-    """Stands between a gateway and its Redis, and can keep the replies back."""
+    """Stands between a gateway and its Redis, and sees what that is asked."""
 
     def __init__(self, port: int) -> None:
         self._redis, self._listener = port, socket.create_server((HOST, 0))
         self.url = f"redis://{HOST}:{self._listener.getsockname()[1]}"
         self._sockets: list[socket.socket] = []
-        self.is_mute = False
+        self._request: bytes | None = None
+        self._asking: socket.socket | None = None
+        self._loses_reply = False
         threading.Thread(target=self._accept, daemon=True).start()
 
-    def cut(self) -> None:
-        """Ends all connections, and lets replies through those that follow."""
+    def watch_for(self, request: str, loses_reply: bool = False) -> None:
+        """Notes when the Redis is asked this. If the reply is to be lost, all connections end in place of it."""
+        self._request, self._asking, self._loses_reply = request.encode(), None, loses_reply
+
+    @property
+    def has_asked(self) -> bool:
+        """Whether the Redis was asked what is watched for."""
+        return self._asking is not None
+
+    def close(self) -> None:
+        self._listener.close()
+        self._cut()
+
+    def _cut(self) -> None:
+        """Ends all connections."""
         for it in self._sockets:
             with contextlib.suppress(OSError):
                 it.shutdown(socket.SHUT_RDWR)
         self._sockets.clear()
-        self.is_mute = False
-
-    def close(self) -> None:
-        self._listener.close()
-        self.cut()
 
     def _accept(self) -> None:
         while self._listener.fileno() >= 0:
@@ -46,23 +56,37 @@ class Proxy:
                 return
             server = socket.create_connection((HOST, self._redis))
             self._sockets += [client, server]
-            for source, target in ((client, server), (server, client)):
-                threading.Thread(target=self._pass_on, args=(source, target, source is server), daemon=True).start()
+            for pass_on in (self._pass_requests, self._pass_replies):
+                threading.Thread(target=pass_on, args=(client, server), daemon=True).start()
 
-    def _pass_on(self, source: socket.socket, target: socket.socket, are_replies: bool) -> None:
-        try:
-            while data := source.recv(65_536):
-                if not (self.is_mute and are_replies):
-                    target.sendall(data)
-            target.shutdown(socket.SHUT_RDWR)
-        except OSError:
-            pass
+    def _pass_requests(self, client: socket.socket, server: socket.socket) -> None:
+        with contextlib.suppress(OSError):
+            while data := client.recv(65_536):
+                if self._request and self._request in data:
+                    self._request, self._asking = None, client
+                server.sendall(data)
+            server.shutdown(socket.SHUT_RDWR)
+
+    def _pass_replies(self, client: socket.socket, server: socket.socket) -> None:
+        with contextlib.suppress(OSError):
+            while data := server.recv(65_536):
+                if self._loses_reply and client is self._asking:
+                    self._loses_reply = False
+                    self._cut()
+                else:
+                    client.sendall(data)
+            client.shutdown(socket.SHUT_RDWR)
 
 
 class JudgedTest(GatewayTest):
     def setUp(self) -> None:
         super().setUp()
         self.record = self.room / "record.jsonl"
+        self.proxy = Proxy(self.node.port)
+        self.addCleanup(self.proxy.close)
+
+    def serve(self, *options: object) -> Gateway:
+        return super().serve("--redis", self.proxy.url, "--wait", "60s", *options)
 
     def session(self, served: Gateway) -> RecordedSession:
         return RecordedSession(served.port, uuid.uuid4().hex, Notes(self.record).add)
@@ -75,12 +99,13 @@ class JudgedTest(GatewayTest):
         """Its client is killed while this request is under way, so its record does not have that. The Redis carries it
         out later."""
         record = self.record.read_bytes()
+        self.proxy.watch_for(request)
         self.node.pause()
         asking = threading.Thread(target=lambda: self.assertRaises(Broken, session.reply_to, request), daemon=True)
         asking.start()
-        time.sleep(0.3)
+        wait_until(lambda: self.proxy.has_asked, "the Redis is not asked")
         session.cut()
-        asking.join(30)
+        asking.join(PATIENCE)
         self.record.write_bytes(record)
         self.node.go_on()
 
@@ -92,7 +117,7 @@ class JudgedTest(GatewayTest):
         return faults_in(*archive.iterdir(), self.record, *words)[0]
 
     def test_a_lease_that_is_over_while_its_gateway_lives(self) -> None:
-        late, other = self.serve("--lease", "2s"), self.serve("--lease", "2s", "--wait", "30s")
+        late, other = self.serve("--lease", "6s"), self.serve("--lease", "6s")
         one, heir = self.session(late), self.session(other)
         self.assertEqual(self.ask(one, "OFFER 0 a", "OFFER 0 b", "TAKE", "TAKE"), ["OFFERED"] * 2 + ["ITEM"] * 2)
         late.pause()
@@ -125,16 +150,13 @@ class JudgedTest(GatewayTest):
 
     def test_a_redis_whose_reply_is_lost(self) -> None:
         """What was under way has taken effect, and what the session held comes back behind it."""
-        proxy = Proxy(self.node.port)
-        self.addCleanup(proxy.close)
-        served = self.serve("--redis", proxy.url)
+        served = self.serve()
         for request, given in (("FAIL {1}", ["c", "b", "a"]), ("DONE {0}", ["c", "b"]), ("POLL", ["a", "b", "c"]),
                                ("OFFER 0 d", ["c", "d", "a", "b"])):
             session = self.session(served)
             ids = [session.reply_to(f"OFFER 0 {it}")[0].split(" ")[1] for it in "abc"]
             self.assertEqual(self.ask(session, "TAKE", "TAKE"), ["ITEM", "ITEM"])
-            proxy.is_mute = True
-            threading.Timer(0.3, proxy.cut).start()
+            self.proxy.watch_for(request.format(*ids), loses_reply=True)
             self.assertRaises(Broken, session.reply_to, request.format(*ids))
             self.assertEqual(self.given(served, len(given)), given, request)
         self.assertEqual(self.faults(), {})

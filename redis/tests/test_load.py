@@ -11,6 +11,7 @@ from unittest import mock
 
 from gateways import COMMAND
 from judging import PROGRAM
+from nodes import PATIENCE
 from rb_broker_redis.history import read_text
 from rb_broker_redis.load import NotLoaded, left_by, load
 from rb_broker_redis.shards import Rendezvous
@@ -72,7 +73,7 @@ class ShowTest(LoadTest):
     def assert_output_fails(self, output: IO[bytes], said: bytes) -> None:
         """A command whose output goes there ends with status 2 and this line."""
         ran = subprocess.run([*COMMAND, *self.words(*self.load, "--show")], stdout=output, stderr=subprocess.PIPE,
-                             timeout=60, check=False)
+                             timeout=PATIENCE, check=False)
         self.assertEqual((ran.returncode, ran.stderr), (2, said))
 
     def test_an_output_that_takes_nothing(self) -> None:
@@ -91,7 +92,7 @@ class ProgramTest(LoadTest):
 
     def run_script(self, script: str, *options: str) -> list[str]:
         ran = subprocess.run([PROGRAM, "script", *options], input=script, stdout=subprocess.PIPE, check=True,
-                             timeout=60, encoding="utf-8")
+                             timeout=PATIENCE, encoding="utf-8")
         return ran.stdout.splitlines()
 
     def test_what_the_next_run_finds_is_what_is_shown(self) -> None:

@@ -2,7 +2,9 @@
 from __future__ import annotations
 
 import contextlib
+import shutil
 import tempfile
+import unittest
 from pathlib import Path
 
 from encryption import Certificates  # of the tests of clients/python
@@ -58,6 +60,7 @@ class PasswordTest(GatewayTest):
             self.assertNotIn("secret", str(caught.exception))
 
 
+@unittest.skipUnless(shutil.which("openssl"), "there is no openssl, with which certificates are made")
 class TlsTest(GatewayTest):
     @classmethod
     def setUpClass(cls) -> None:

@@ -2,7 +2,6 @@
 from __future__ import annotations
 
 import random
-import time
 
 from gateway_test import GatewayTest
 from gateways import Gateway
@@ -91,7 +90,7 @@ class ShardedGatewayTest(GatewayTest):
         served, other = self.serve("--wait", "60s"), self.talker()
         waiting = [self.talker(served) for _ in range(12)]
         for talker in waiting:
-            talker.send("TAKE\n")
+            self.begin_wait(talker, "TAKE")
         self.assertTrue(waiting[0].is_silent(0.3))
         self.offer(other, 12)
         items = [it.read().split() for it in waiting]
@@ -110,10 +109,9 @@ class ShardedGatewayTest(GatewayTest):
 
     def test_the_history_of_each_queue_is_chained(self) -> None:
         one, other = self.serve(), self.serve()
-        begun = time.monotonic()
         talkers = [self.talker(served) for served in (one, other) for _ in range(3)]
         chance = random.Random(1)
-        while time.monotonic() - begun < 3:
+        for _ in range(200):
             for talker in talkers:
                 talker.send(f"OFFER {chance.randrange(5_000_000)} job-{chance.randrange(100)}\nPOLLFOR 3000000\n")
             for talker in talkers:

@@ -84,7 +84,7 @@ class WaitingTest(unittest.TestCase):
         waiting.hear(0)
         waiting.remove("a")
         waiting.remove("a")
-        self.assertEqual((waiting.start_tries(1), len(waiting), "a" in waiting), ([], 0, False))
+        self.assertEqual((waiting.start_tries(1), len(waiting)), ([], 0))
 
     def test_the_queue_is_tried_whose_element_expires_first(self) -> None:
         waiting = waiting_of("a", "b")

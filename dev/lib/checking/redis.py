@@ -7,7 +7,7 @@ RB_BROKER_ROUNDS how often a Redis dies with each setting of its durability (onc
 
 They need redis-server, redis-sentinel and redis-cli of version 7, and the package redis for Python, 4.3.4 or later:
 that of this Python, or of /usr/bin/python3. If one of these is missing, all tests are skipped, and a line names what is
-missing. So is the test of the types where there is no mypy.
+missing. So are some tests where there is no cc, javac, mypy or openssl.
 """
 import importlib.util
 import os
@@ -25,6 +25,7 @@ PATHS = [f"{TOP}/redis/src", TESTS, f"{TOP}/clients/python/src", f"{TOP}/dev/lib
 LAST_PATHS = [f"{TOP}/tools", *(f"{TOP}/clients/python/tests/{it}" for it in ("served", "day"))]
 COMMANDS = ("redis-server", "redis-sentinel", "redis-cli")
 SYSTEM_PYTHON = "/usr/bin/python3"  # for which Debian has the package python3-redis
+USABLE = "import sys, redis.asyncio; sys.exit(sys.version_info < (3, 11))"
 AT_ONCE = int(os.environ.get("RB_BROKER_AT_ONCE", 4))
 PORTS = range(26_000, 27_000)  # of which each process has its own
 LONGEST = [
@@ -33,9 +34,9 @@ LONGEST = [
 
 
 def take_other_python() -> None:
-    """Lets this process become the system's Python, if only that has the package redis."""
+    """Lets this process become the system's Python, if only that has the package redis, and is new enough."""
     if sys.executable != SYSTEM_PYTHON and shutil.which(SYSTEM_PYTHON):
-        if not subprocess.run([SYSTEM_PYTHON, "-c", "import redis.asyncio"], stderr=subprocess.DEVNULL).returncode:
+        if not subprocess.run([SYSTEM_PYTHON, "-c", USABLE], stderr=subprocess.DEVNULL).returncode:
             room = os.environ["TMPDIR"]  # of this run, which the other one makes anew
             os.environ["TMPDIR"] = os.path.dirname(room)
             os.rmdir(room)
