@@ -117,12 +117,11 @@ local function open(keys, moment)
     local state = redis.call('HMGET', keys[4], unpack(FIELDS))
     if state[11] then return nil, is_loading() end
     if not state[6] then return nil, redis.error_reply('NOQUEUE there is no such queue') end
-    local now = moment == '' and microseconds() or nil
-    local asked = now and moment_of(now) or moment
+    local asked = moment == '' and moment_of(microseconds()) or moment
     local at = state[2]
     if asked > at then at = asked end
     return {
-        keys = keys, now = now, asked = asked, at = at, plain_asked = plain(asked), plain_at = plain(at),
+        keys = keys, asked = asked, at = at, plain_asked = plain(asked), plain_at = plain(at),
         stamp = ' ' .. plain(asked) .. ' ' .. plain(at) .. ' ',
         next = tonumber(state[1]), calls = tonumber(state[3]), fetched = tonumber(state[4]), wake = state[5],
         pace = state[6], period = state[7], attempts = tonumber(state[8]), limit = tonumber(state[9] or '1e300'),

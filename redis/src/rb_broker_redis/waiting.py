@@ -35,9 +35,6 @@ class Waiting(Generic[Waiter]):
     def __len__(self) -> int:
         return len(self._order)
 
-    def __contains__(self, waiter: Waiter) -> bool:
-        return waiter in self._order
-
     @property
     def next_due(self) -> Due | None:
         """When to try again, and at which queue, unless an earlier element is heard of. None while nobody waits, while
