@@ -22,6 +22,7 @@ class Link(asyncio.Protocol):
     def __init__(self, patience: float, heard: Callable[[bytes], None] | None = None) -> None:
         self.lost, self._patience, self._heard = asyncio.Event(), patience, heard
         self._answers: deque[Callable[[Answer], None]] = deque()
+        self._asked: set[asyncio.Future[Answer]] = set()
         self._reader = reader()
         self._transport: asyncio.Transport
 
@@ -39,6 +40,9 @@ class Link(asyncio.Protocol):
 
     def connection_lost(self, fault: Exception | None) -> None:
         self.lost.set()
+        for asked in self._asked:
+            if not asked.done():
+                asked.set_exception(ConnectionError("the connection is lost"))
 
     def send(self, data: bytes, *answers: Callable[[Answer], None]) -> None:
         """Sends commands; each answer is handed to its function."""
@@ -46,12 +50,14 @@ class Link(asyncio.Protocol):
         self._transport.write(data)
 
     async def ask(self, *words: bytes | str | int) -> Answer:
-        """Makes one command. Raises its `ErrorAnswer`, or a `ConnectionError` if there is no answer in time."""
+        """Makes one command. Raises its `ErrorAnswer`, or a `ConnectionError` if no answer comes, or none in time."""
         if self.is_closed:  # what uvloop says of it is no `OSError`
             raise ConnectionError("the connection is closed")
-        answered: asyncio.Future[Answer] = asyncio.get_running_loop().create_future()
-        self.send(command(*words), lambda answer: None if answered.done() else answered.set_result(answer))
-        answer = await answer_of(answered, self._patience)
+        asked: asyncio.Future[Answer] = asyncio.get_running_loop().create_future()
+        self._asked.add(asked)
+        asked.add_done_callback(self._asked.discard)
+        self.send(command(*words), lambda answer: None if asked.done() else asked.set_result(answer))
+        answer = await answer_of(asked, self._patience)
         if isinstance(answer, ErrorAnswer):
             raise answer
         return answer
