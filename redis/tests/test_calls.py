@@ -15,10 +15,11 @@ class FakeLink:
     """A connection to a Redis."""
 
     def __init__(self) -> None:
-        self.is_closed = False
+        self.is_closed, self.data = False, b""
         self.sent: list[Callable[[Answer], None]] = []
 
     def send(self, data: bytes, *answers: Callable[[Answer], None]) -> None:
+        self.data += data
         self.sent += answers
 
     def close(self) -> None:
@@ -62,6 +63,14 @@ class CallsTest(unittest.IsolatedAsyncioTestCase):
                 for answer in self.link.sent:  # what was refused, and what came meanwhile
                     answer([b"OFFERED 2 5\n"])
                 self.assertEqual(self.replies[1:], [[b"OFFERED 2 5\n"]] * 2)
+
+    async def test_nothing_is_fetched_for_a_session_that_left_before_its_call_was_sent(self) -> None:
+        self.calls.use(None)
+        self.calls.submit([b"1 SIZE", b"1 POLLFOR 5 100", b"2 TAKE", b"11 TAKE"], self.replies.append)
+        self.calls.withhold(b"1 ")
+        await self.use(FakeLink())
+        words = self.link.data.split(b"\r\n")
+        self.assertEqual(words[-8::2], [b"1 SIZE", b"1 WAIT", b"2 TAKE", b"11 TAKE"])
 
     async def test_what_a_lost_link_did_not_answer_is_in_doubt(self) -> None:
         await self.submit(2)

@@ -18,12 +18,13 @@ class FakeCalls:
     def __init__(self) -> None:
         self.is_connected = True
         self.submitted: list[tuple[list[bytes], Answered]] = []
+        self.withheld: list[bytes] = []
 
     def submit(self, calls: list[bytes], answered: Answered) -> None:
         self.submitted.append((calls, answered))
 
-    def withhold(self, answered: Answered) -> None:
-        self.withheld = answered
+    def withhold(self, front: bytes) -> None:
+        self.withheld.append(front)
 
     def take(self) -> list[bytes]:
         """What was submitted first, which is then to be answered."""
@@ -232,11 +233,21 @@ class SessionTest(unittest.IsolatedAsyncioTestCase):
         self.gateway.waits.heard(b"50 60")
         self.assert_ends()
 
+    async def test_the_last_try_of_a_timed_poll_is_withheld_from_a_client_that_has_left(self) -> None:
+        self.session.data_received(b"POLLFOR 1000\n")
+        self.assert_exchange({b"7 POLLFOR 1000": b"LATER - 100 100\n"}, b"")
+        while not self.gateway.calls.submitted:
+            await asyncio.sleep(0)
+        self.session.connection_lost(None)
+        self.assertEqual(self.gateway.calls.withheld, [b"7 "])
+        self.assert_exchange({b"7 POLLFOR 1000 100": b"LATER 110 110 100\n"}, b"")
+        self.assert_ends()
+
     async def test_a_fetch_that_crosses_a_break_comes_back(self) -> None:
         self.session.data_received(b"TAKE\n")
         self.assert_calls(b"7 TAKE")
         self.session.connection_lost(None)
-        self.assertEqual(self.gateway.calls.withheld, self.gateway.calls.answered)
+        self.assertEqual(self.gateway.calls.withheld, [b"7 "])
         self.assert_idle()
         self.answer(b"ITEM 0 50 1 a\n", sends=b"")
         self.assert_ends()
@@ -256,7 +267,7 @@ class SessionTest(unittest.IsolatedAsyncioTestCase):
     async def test_a_session_that_is_closed_fetches_nothing_more(self) -> None:
         self.session.data_received(b"TAKE\n")
         self.session.close()
-        self.assertEqual(self.gateway.calls.withheld, self.gateway.calls.submitted[0][1])
+        self.assertEqual(self.gateway.calls.withheld, [b"7 "])
         self.assertTrue(self.transport.is_closed)
 
     def assert_in_doubt(self) -> None:

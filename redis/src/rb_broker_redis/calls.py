@@ -79,9 +79,10 @@ class Batch:
             answered(replies[start:start + len(calls)])
             start += len(calls)
 
-    def withhold(self, answered: Answered) -> None:
-        """Fetches nothing for this one. Its calls that would are answered LATER."""
-        self.parts = [(it, [*map(without_fetch, calls)] if it == answered else calls) for it, calls in self.parts]
+    def withhold(self, front: bytes) -> None:
+        """Fetches nothing for the session before whose calls this stands. Those that would are answered LATER."""
+        self.parts = [(answered, [without_fetch(it) if it.startswith(front) else it for it in calls])
+                      for answered, calls in self.parts]
 
     def answer_at_an_end(self) -> None:
         """The sessions have ended, and no call is made: what they held they do not hold any more."""
@@ -150,10 +151,10 @@ class Calls:
         if not self._is_scheduled:
             self._schedule()
 
-    def withhold(self, answered: Answered) -> None:
-        """Who submitted has left: what it has not been sent for yet fetches nothing for it."""
+    def withhold(self, front: bytes) -> None:
+        """The session before whose calls this stands has left: what has not been sent yet fetches nothing for it."""
         for batch in (self._batch, *self._again):
-            batch.withhold(answered)
+            batch.withhold(front)
 
     def is_late(self) -> bool:
         """Whether the Redis has not answered in time."""

@@ -209,7 +209,7 @@ class Session(asyncio.Protocol):
         if self._wait:
             self._gateway.waits.give_up(self._wait)
         elif self._is_busy:
-            self._gateway.calls.withhold(self._answered)
+            self._gateway.calls.withhold(self._seat)
         else:
             self._end()
 

@@ -33,26 +33,28 @@ class ShardedCalls:
         self.queues = queues
         self.rendezvous = Rendezvous(list(names))
         self._sessions: dict[bytes, _Session] = {}
-        self._under_way: dict[Answered, tuple[_Session, asyncio.Task[None]]] = {}
+        self._under_way: set[asyncio.Task[None]] = set()
 
     def submit(self, calls: list[bytes], answered: Answered) -> None:
         """Makes these calls of one session, one after the other."""
         session = self._session(calls[0].partition(b" ")[0])
         requests = [call.partition(b" ")[2] for call in calls]
-        self._under_way[answered] = session, asyncio.ensure_future(self._carry_out(session, requests, answered))
+        task = asyncio.ensure_future(self._carry_out(session, requests, answered))
+        self._under_way.add(task)
+        task.add_done_callback(self._under_way.discard)
 
     async def _carry_out(self, session: _Session, requests: list[bytes], answered: Answered) -> None:
         try:
             replies: list[bytes] | None = await session.replies_to(requests)
         except InDoubt:
             replies = None
-        del self._under_way[answered]
         answered(replies)
 
-    def withhold(self, answered: Answered) -> None:
-        """Who submitted has left: nothing more is fetched for it."""
-        if answered in self._under_way:
-            self._under_way[answered][0].has_left = True
+    def withhold(self, front: bytes) -> None:
+        """The session before whose calls this stands has left: nothing more is fetched for it."""
+        self._session(front.strip()).has_left = True
+        for number, queue in enumerate(self.queues):
+            queue.withhold(self.front_of(number, front))
 
     def seat_of(self, session: int) -> bytes:
         """What a session is called here. At each queue it has a seat of its own."""

@@ -90,7 +90,9 @@ class Waits:
         return wait
 
     def give_up(self, wait: Wait) -> None:
-        """It is answered STOPPED. Nothing more is fetched for it; a try that is under way gives what it finds."""
+        """It is answered STOPPED. Nothing more is fetched for it; a try that was sent gives what it finds."""
+        for number, queue in enumerate(self._queues):
+            queue.withhold(self._front_of(number, wait.seat))
         wait.asks_at_end = False
         self._end(wait)
 
