@@ -11,9 +11,8 @@ from talker import Talker
 class GatewayTest(RedisTest):
     def gateway(self, *options: object, redis: str | None = None, **environment: str) -> Gateway:
         """A gateway of this test's queue with these options, which listens."""
-        gateway = Gateway(self.room, self.node.url if redis is None else redis, self.name, options, **environment)
-        self.addCleanup(gateway.kill)
-        return gateway.wait()
+        redis = self.node.url if redis is None else redis
+        return self.till_end(Gateway(self.room, redis, self.name, options, **environment)).wait()
 
     def serve(self, *options: object) -> Gateway:
         """A gateway whose failed jobs come back at once, with patience for a Redis on a busy machine."""

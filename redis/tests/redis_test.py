@@ -7,16 +7,19 @@ import subprocess
 import tempfile
 from contextlib import redirect_stderr, redirect_stdout
 from pathlib import Path
+from typing import TypeVar
 
 from checking import testing
 from gateways import COMMAND
-from nodes import FORGETFUL, Node
+from nodes import FORGETFUL, Node, Nodes, Process
 from rb_broker_redis.address import read_address
 from rb_broker_redis.command import main
 from rb_broker_redis.queue import Queue, connect
 
 SEAT = 1_000_000_000_001
 """That of a session of the first gateway."""
+
+Killed = TypeVar("Killed", bound=Process | Nodes)
 
 
 class RoomTest(testing.RoomTest):
@@ -26,6 +29,11 @@ class RoomTest(testing.RoomTest):
         super().setUp()
         self.room = Path(self.room)
 
+    def till_end(self, process: Killed) -> Killed:
+        """A process, or several, to be killed at the end of the test."""
+        self.addCleanup(process.kill)
+        return process
+
 
 class RedisTest(RoomTest):
     """A test with a Redis that all tests of its class share. Each test has a queue of its own."""
@@ -34,9 +42,8 @@ class RedisTest(RoomTest):
 
     @classmethod
     def setUpClass(cls) -> None:
-        room = tempfile.TemporaryDirectory(prefix="rb-test-")
-        cls.addClassCleanup(room.cleanup)
-        cls.node = Node(Path(room.name) / "node", cls.options)
+        room = cls.enterClassContext(tempfile.TemporaryDirectory(prefix="rb-test-"))
+        cls.node = Node(Path(room) / "node", cls.options)
         cls.addClassCleanup(cls.node.kill)
 
     def setUp(self) -> None:

@@ -54,22 +54,19 @@ class Day(RoomTest):
     def run_day(self, redis: str, kill_redis: Callable[[], None], serving: tuple[object, ...] = SERVING) -> None:
         """Lets the day pass, and judges it."""
         serving = (*serving, "--shards", self.shards)
-        self.gateways = [Gateway(self.room, redis, QUEUE, serving) for _ in range(GATEWAYS)]
-        for it in self.gateways:
-            self.addCleanup(it.kill)
+        self.gateways = [self.till_end(Gateway(self.room, redis, QUEUE, serving)) for _ in range(GATEWAYS)]
         self.crew = Crew(self.room, [it.port for it in self.gateways], compiled_java(self.room / "java"))
         for it in self.gateways:
             it.wait()
         self.workers = [self.crew.start_worker(kind) for kind in self.crew.kinds for _ in range(EACH)]
         self.addCleanup(lambda: [it.kill() for it in self.crew.started])
         payloads = [str(it) for it in range(JOBS)]
-        self.producers = [Producer(self.crew, f"producer-{it}", payloads[it::PRODUCERS]) for it in range(PRODUCERS)]
-        self.addCleanup(lambda: [it.kill() for it in self.producers])
+        self.producers = [self.till_end(Producer(self.crew, f"producer-{it}", payloads[it::PRODUCERS]))
+                          for it in range(PRODUCERS)]
         self.take_events = [*COMMAND, "archive", str(self.archive), "--redis", redis, "--queue", QUEUE,
                             "--shards", str(self.shards)]
-        self.archiving = Process([*self.take_events, "--every", "300ms"], self.room / "archive.log")
+        self.archiving = self.till_end(Process([*self.take_events, "--every", "300ms"], self.room / "archive.log"))
         self.archiving.start()
-        self.addCleanup(self.archiving.kill)
         self.let_all_go_wrong(kill_redis)
         self.end_in_good_order()
         self.judge()
@@ -189,8 +186,7 @@ class JavaWorkerTest(RoomTest):
 
 class OneNodeTest(Day):
     def test_one_node_that_is_killed_again_and_again(self) -> None:
-        node = Node(self.room / "node", ALWAYS)
-        self.addCleanup(node.kill)
+        node = self.till_end(Node(self.room / "node", ALWAYS))
 
         def kill_redis() -> None:
             node.kill()
@@ -209,10 +205,8 @@ class ShardsTest(OneNodeTest):
 
 class SentinelTest(Day):
     def test_fail_overs_under_sentinel(self) -> None:
-        watched = Replicas(self.room / "nodes", 2, ALWAYS)
-        self.addCleanup(watched.kill)
-        sentinels = Sentinels(self.room / "sentinels", watched)
-        self.addCleanup(sentinels.kill)
+        watched = self.till_end(Replicas(self.room / "nodes", 2, ALWAYS))
+        sentinels = self.till_end(Sentinels(self.room / "sentinels", watched))
 
         def kill_redis() -> None:
             """Kills the primary, and starts it again once another has its place. The next one is killed only once both

@@ -65,9 +65,7 @@ class TlsTest(GatewayTest):
     @classmethod
     def setUpClass(cls) -> None:
         super().setUpClass()
-        room = tempfile.TemporaryDirectory(prefix="rb-test-")
-        cls.addClassCleanup(room.cleanup)
-        cls.keys = Certificates(room.name)
+        cls.keys = Certificates(cls.enterClassContext(tempfile.TemporaryDirectory(prefix="rb-test-")))
 
     def talker_over_tls(self, served: Gateway, name: str | None = None) -> Talker:
         """A client that knows the authority, with a certificate of its own if it has a name."""
@@ -102,10 +100,9 @@ class TlsTest(GatewayTest):
 
     def test_the_redis_is_reached_over_tls(self) -> None:
         port, keys = free_port(), self.keys
-        node = Node(self.room / "node", [
+        self.till_end(Node(self.room / "node", [
             "--appendonly", "no", "--tls-port", port, "--tls-cert-file", keys.path("server"),
-            "--tls-key-file", keys.key("server"), "--tls-ca-cert-file", keys.path("ca")])
-        self.addCleanup(node.kill)
+            "--tls-key-file", keys.key("server"), "--tls-ca-cert-file", keys.path("ca")]))
         client = f"ssl_certfile={keys.path('client')}&ssl_keyfile={keys.key('client')}"
         served = self.serve("--redis", f"rediss://{HOST}:{port}?ssl_ca_certs={keys.path('ca')}&{client}")
         self.assert_talk(self.talker(served), "SIZE = SIZE 0")

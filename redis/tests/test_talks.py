@@ -82,13 +82,11 @@ class FaultyRedisTest(TalkTest):
 
     def setUp(self) -> None:
         super().setUp()
-        self.node = self.processes["redis"] = Node(self.room / "node", ALWAYS)
-        self.addCleanup(self.node.kill)
+        self.node = self.processes["redis"] = self.till_end(Node(self.room / "node", ALWAYS))
 
     def test_too_few_replicas_leave_a_call_in_doubt(self) -> None:
         self.play(["gateway g --replicas 1 --timeout 3s", "c > OFFER 0 a", "c ends"])
-        replica = Node(self.room / "replica", [*ALWAYS, "--replicaof", HOST, self.node.port])
-        self.addCleanup(replica.kill)
+        replica = self.till_end(Node(self.room / "replica", [*ALWAYS, "--replicaof", HOST, self.node.port]))
         wait_until(lambda: replica.replication()["master_link_status"] == "up", "no replica")
         self.play(["other OFFER 0 again = OFFERED .*"])
 

@@ -71,9 +71,6 @@ class Batch:
 
     def answer(self, replies: list[bytes]) -> None:
         """Tells each its replies."""
-        if len(self.parts) == 1:
-            self.parts[0][0](replies)
-            return
         start = 0
         for answered, calls in self.parts:
             answered(replies[start:start + len(calls)])

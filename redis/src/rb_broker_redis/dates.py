@@ -30,8 +30,8 @@ def nanoseconds_of(text: str) -> int:
         passed, fraction = int(seconds[1]), seconds[2]
     elif date:
         day, minute, second, fraction, zone = date.groups()
-        zone = "+00:00" if zone in (None, "Z", "UTC") else f"{zone[:3]}:{zone[-2:]}"
-        passed = (datetime.fromisoformat(f"{day}T{minute}{second or ':00'}{zone}") - EPOCH) // timedelta(seconds=1)
+        zone = "Z" if zone in (None, "UTC") else zone
+        passed = (datetime.fromisoformat(f"{day}T{minute}{second or ''}{zone}") - EPOCH) // timedelta(seconds=1)
     else:
         raise ValueError("no date and time")
     if passed < 0:

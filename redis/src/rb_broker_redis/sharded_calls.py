@@ -52,7 +52,8 @@ class ShardedCalls:
 
     def withhold(self, front: bytes) -> None:
         """The session before whose calls this stands has left: nothing more is fetched for it."""
-        self._session(front.strip()).has_left = True
+        if front.strip() in self._sessions:
+            self._sessions[front.strip()].has_left = True
         for number, queue in enumerate(self.queues):
             queue.withhold(self.front_of(number, front))
 
