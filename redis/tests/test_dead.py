@@ -1,7 +1,7 @@
 """Dead jobs: they are listed, offered again and dropped."""
 from __future__ import annotations
 
-
+from rb_broker_redis.protocol import SECOND
 from rb_broker_redis.queue import Queue
 from redis_test import SEAT, RedisTest
 
@@ -43,11 +43,12 @@ class DeadTest(RedisTest):
 
     def test_an_offer_with_a_delay(self) -> None:
         queue = self.with_dead(1)
-        before = int(queue.request("OFFER 0 now", SEAT).split(" ")[2])
+        before = int(queue.request("OFFER 0 before", SEAT).split(" ")[2])
         self.assert_prints(["0: offered as 2"], "dead", "--offer", "--all", "--delay", "1h")
-        queue.request("POLL", SEAT)
-        expiry = int(queue.request("PEEK", SEAT).split(" ")[2])
-        self.assertTrue(3_600 <= (expiry - before) / 1e9 < 3_660, expiry - before)
+        after = int(queue.request("OFFER 0 after", SEAT).split(" ")[2])
+        queue.request("DRAIN 2", SEAT)
+        offered = int(queue.request("PEEK", SEAT).split(" ")[2]) - 3_600 * SECOND
+        self.assertTrue(before <= offered <= after, (before, offered, after))
 
     def test_a_drop(self) -> None:
         queue = self.with_dead(3)

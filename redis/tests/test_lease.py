@@ -1,7 +1,6 @@
 """Leases of gateways, as the functions of broker.lua keep them."""
 from __future__ import annotations
 
-
 from redis import ResponseError
 
 from rb_broker_redis.queue import Queue
