@@ -5,7 +5,7 @@ import asyncio
 import contextlib
 import ssl
 from collections import deque
-from collections.abc import Awaitable, Callable
+from collections.abc import Awaitable, Callable, Iterator
 from typing import TypeVar, cast
 
 from .address import Address
@@ -72,6 +72,16 @@ class Link(asyncio.Protocol):
         self._transport.abort()
 
 
+@contextlib.contextmanager
+def closed_at_a_fault(link: Link) -> Iterator[None]:
+    """The connection is closed if something fails here."""
+    try:
+        yield
+    except BaseException:
+        link.close()
+        raise
+
+
 async def answer_of(asked: Awaitable[Answered], patience: float) -> Answered:
     """What was asked for. Raises a `ConnectionError` if that does not come in so many seconds."""
     try:
@@ -96,14 +106,11 @@ async def connect(
     loop = asyncio.get_running_loop()
     opening = loop.create_connection(lambda: Link(patience, heard), host, port, ssl=tls_of(address))
     _, link = await answer_of(opening, patience)
-    try:
+    with closed_at_a_fault(link):
         if address.password:
             await link.ask("AUTH", *([address.username] if address.username else []), address.password)
         if address.database:
             await link.ask("SELECT", address.database)
-    except (OSError, ErrorAnswer):
-        link.close()
-        raise
     return link
 
 

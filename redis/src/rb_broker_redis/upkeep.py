@@ -13,7 +13,7 @@ from . import library
 from .address import Address
 from .calls import UNKNOWN, Calls, needs_new_link
 from .keys import channel_of, keys_of
-from .link import Link, is_set_in_time
+from .link import Link, closed_at_a_fault, is_set_in_time
 from .place import connect_to_queue
 from .resp import ErrorAnswer
 from .words import NO_POLICY
@@ -75,12 +75,9 @@ class Upkeep:
 
     async def _connect(self) -> Link:
         link = await connect_to_queue(self._address, self._queue, self._calls.patience)
-        try:
+        with closed_at_a_fault(link):
             await self._cut_off(link)
             await self._load_functions(link)
-        except BaseException:
-            link.close()
-            raise
         return link
 
     async def _cut_off(self, link: Link) -> None:
@@ -142,8 +139,9 @@ class Upkeep:
 
     async def _connect_again(self) -> Link:
         link = await self._connect()
-        if not self.is_joined:
-            await self._join_anew(link)
+        with closed_at_a_fault(link):
+            if not self.is_joined:
+                await self._join_anew(link)
         return link
 
     async def _keep_subscribed(self) -> None:
@@ -162,20 +160,24 @@ class Upkeep:
         link = await connect_to_queue(
             self._address, self._queue, self._calls.patience,
             lambda message: self._gateway.waits.heard(message, self._shard))
-        await link.ask("SUBSCRIBE", channel_of(self._queue))
+        with closed_at_a_fault(link):
+            await link.ask("SUBSCRIBE", channel_of(self._queue))
         return link
 
     async def _keep_lease(self) -> None:
         while True:
             await is_set_in_time(self._must_join, self._lease / 3e6)
             self._must_join.clear()
+            link = self._link
+            if not link:
+                continue
             try:
-                if self._link and not self.is_joined:
-                    await self._join_anew(self._link)
-                while self._link and await self._call(self._link, "rb_renew", self._number, self._lease, *self._only()):
+                if not self.is_joined:
+                    await self._join_anew(link)
+                while await self._call(link, "rb_renew", self._number, self._lease, *self._only()):
                     LOG.warning("a gateway's lease is over: its sessions have ended, and their jobs come back")
             except OSError:
-                self._close_link()
+                link.close()
             except ErrorAnswer as fault:
                 if fault.code in UNKNOWN:
                     self._is_unknown()
