@@ -10,16 +10,15 @@ from rb_broker_redis.address import read_address
 from rb_broker_redis.link import connect
 from serving import HOST
 
-LOOPS = ["asyncio", *(["uvloop"] if importlib.util.find_spec("uvloop") else [])]
-
-
 class LinkTest(unittest.TestCase):
     def test_a_command_fails_if_the_connection_is_lost(self) -> None:
-        for name in LOOPS:
-            with self.subTest(loop=name):
-                loop = importlib.import_module(name).new_event_loop()
-                self.addCleanup(loop.close)
-                loop.run_until_complete(self.ask_at_a_loss())
+        with asyncio.Runner() as runner:
+            runner.run(self.ask_at_a_loss())
+
+    @unittest.skipUnless(importlib.util.find_spec("uvloop"), "there is no uvloop")
+    def test_it_does_in_a_loop_of_uvloop(self) -> None:
+        with asyncio.Runner(loop_factory=importlib.import_module("uvloop").new_event_loop) as runner:
+            runner.run(self.ask_at_a_loss())
 
     async def ask_at_a_loss(self) -> None:
         """Asks before the connection is lost, and then after that."""

@@ -1,7 +1,10 @@
 """What a Redis answers, read with and without hiredis."""
 from __future__ import annotations
 
+import importlib.util
 import unittest
+from collections.abc import Callable
+from typing import Any
 
 from rb_broker_redis.resp import ErrorAnswer, PlainReader, command, reader
 
@@ -15,16 +18,23 @@ def plain(answer: object) -> object:
 
 
 class RespTest(unittest.TestCase):
-    def test_answers_are_read_however_they_arrive(self) -> None:
-        for make in (PlainReader, reader):
-            for size in (1, 2, 3, 7, len(SENT)):
-                with self.subTest(make=make.__name__, size=size):
-                    it, answers = make(), []
-                    for start in range(0, len(SENT), size):
-                        it.feed(SENT[start:start + size])
-                        while (answer := it.gets()) is not False:
-                            answers.append(plain(answer))
-                    self.assertEqual(answers, READ)
+    def assert_reads(self, make: Callable[[], Any]) -> None:
+        """Such a reader reads answers however they arrive."""
+        for size in (1, 2, 3, 7, len(SENT)):
+            with self.subTest(size=size):
+                it, answers = make(), []
+                for start in range(0, len(SENT), size):
+                    it.feed(SENT[start:start + size])
+                    while (answer := it.gets()) is not False:
+                        answers.append(plain(answer))
+                self.assertEqual(answers, READ)
+
+    def test_a_plain_reader_reads_answers(self) -> None:
+        self.assert_reads(PlainReader)
+
+    @unittest.skipUnless(importlib.util.find_spec("hiredis"), "there is no hiredis")
+    def test_hiredis_reads_the_same(self) -> None:
+        self.assert_reads(reader)
 
     def test_an_error_has_a_code(self) -> None:
         self.assertEqual(ErrorAnswer("MOVED 5 127.0.0.1:7000").code, "MOVED")
