@@ -42,10 +42,10 @@ class CallsTest(unittest.IsolatedAsyncioTestCase):
         for _ in range(10):  # turns of the loop
             await asyncio.sleep(0)
 
-    async def submit(self, count: int) -> None:
-        """So many calls go out, each by itself as far as the link takes them."""
-        for number in range(count):
-            self.calls.submit([b"1 OFFER 0 %d" % number], self.replies.append)
+    async def submit(self, count: int, call: bytes = b"1 OFFER 0 a") -> None:
+        """So many such calls go out, each by itself as far as the link takes them."""
+        for _ in range(count):
+            self.calls.submit([call], self.replies.append)
             await self.let_go_out()
 
     async def test_a_link_is_left_once_all_is_answered_that_it_was_sent(self) -> None:
@@ -69,8 +69,19 @@ class CallsTest(unittest.IsolatedAsyncioTestCase):
         self.calls.submit([b"1 SIZE", b"1 POLLFOR 5 100", b"2 TAKE", b"11 TAKE"], self.replies.append)
         self.calls.withhold(b"1 ")
         await self.use(FakeLink())
-        words = self.link.data.split(b"\r\n")
-        self.assertEqual(words[-8::2], [b"1 SIZE", b"1 WAIT", b"2 TAKE", b"11 TAKE"])
+        self.assert_sent(b"1 SIZE", b"1 WAIT", b"2 TAKE", b"11 TAKE")
+
+    async def test_nor_for_one_that_left_while_its_call_was_refused(self) -> None:
+        await self.submit(1, b"1 POLL")
+        self.link.sent.pop()(ErrorAnswer("NOREPLICAS Not enough good replicas to write."))
+        self.calls.withhold(b"1 ")
+        while not self.link.sent:
+            await self.let_go_out()
+        self.assert_sent(b"1 WAIT")
+
+    def assert_sent(self, *calls: bytes) -> None:
+        """These are the calls that were sent last."""
+        self.assertEqual(self.link.data.split(b"\r\n")[-2 * len(calls)::2], [*calls])
 
     async def test_what_a_lost_link_did_not_answer_is_in_doubt(self) -> None:
         await self.submit(2)

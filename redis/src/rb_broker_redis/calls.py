@@ -103,6 +103,7 @@ class Calls:
         self._front = bulks([b"", b""])
         self._batch = Batch(self._front)
         self._again: list[Batch] = []
+        self._refused_for_now: set[Batch] = set()
         self._flying: dict[Batch, None] = {}
         self._link: Link | None = None
         self._is_leaving = False
@@ -150,7 +151,7 @@ class Calls:
 
     def withhold(self, front: bytes) -> None:
         """The session before whose calls this stands has left: what has not been sent yet fetches nothing for it."""
-        for batch in (self._batch, *self._again):
+        for batch in (self._batch, *self._again, *self._refused_for_now):
             batch.withhold(front)
 
     def is_late(self) -> bool:
@@ -234,8 +235,10 @@ class Calls:
             batch.doubt()
 
     def _send_again(self, batch: Batch, seconds: float) -> None:
+        self._refused_for_now.add(batch)
         self._loop.call_later(seconds, self._put_back, batch)
 
     def _put_back(self, batch: Batch) -> None:
+        self._refused_for_now.remove(batch)
         self._again.append(batch)
         self._schedule()
