@@ -73,8 +73,8 @@ class Link(asyncio.Protocol):
 
 
 @contextlib.contextmanager
-def closed_at_a_fault(link: Link) -> Iterator[None]:
-    """The connection is closed if something fails here."""
+def closed_on_failure(link: Link) -> Iterator[None]:
+    """Closes the connection if something fails here."""
     try:
         yield
     except BaseException:
@@ -106,7 +106,7 @@ async def connect(
     loop = asyncio.get_running_loop()
     opening = loop.create_connection(lambda: Link(patience, heard), host, port, ssl=tls_of(address))
     _, link = await answer_of(opening, patience)
-    with closed_at_a_fault(link):
+    with closed_on_failure(link):
         if address.password:
             await link.ask("AUTH", *([address.username] if address.username else []), address.password)
         if address.database:

@@ -13,7 +13,7 @@ from . import library
 from .address import Address
 from .calls import UNKNOWN, Calls, needs_new_link
 from .keys import channel_of, keys_of
-from .link import Link, closed_at_a_fault, is_set_in_time
+from .link import Link, closed_on_failure, is_set_in_time
 from .place import connect_to_queue
 from .resp import ErrorAnswer
 from .words import NO_POLICY
@@ -75,7 +75,7 @@ class Upkeep:
 
     async def _connect(self) -> Link:
         link = await connect_to_queue(self._address, self._queue, self._calls.patience)
-        with closed_at_a_fault(link):
+        with closed_on_failure(link):
             await self._cut_off(link)
             await self._load_functions(link)
         return link
@@ -139,7 +139,7 @@ class Upkeep:
 
     async def _connect_again(self) -> Link:
         link = await self._connect()
-        with closed_at_a_fault(link):
+        with closed_on_failure(link):
             if not self.is_joined:
                 await self._join_anew(link)
         return link
@@ -160,7 +160,7 @@ class Upkeep:
         link = await connect_to_queue(
             self._address, self._queue, self._calls.patience,
             lambda message: self._gateway.waits.heard(message, self._shard))
-        with closed_at_a_fault(link):
+        with closed_on_failure(link):
             await link.ask("SUBSCRIBE", channel_of(self._queue))
         return link
 
