@@ -1,6 +1,4 @@
 """What a command leaves behind: no process and no temporary file."""
-from __future__ import annotations
-
 import contextlib
 import ctypes
 import os
@@ -10,7 +8,7 @@ import sys
 import tempfile
 import time
 from types import FrameType
-from typing import Any, Callable, Collection, Dict, Iterator, List, Optional, Set
+from typing import Any, Callable, Collection, Iterator
 
 SIGNALS = (signal.SIGHUP, signal.SIGINT, signal.SIGTERM)
 PATIENCE = 10  # seconds that killed processes have to end
@@ -37,7 +35,7 @@ def leaving_no_process(adopts: bool = False) -> Iterator[contextlib.ExitStack]:
     others, last = descendants(), contextlib.ExitStack()
     before = {number: signal.getsignal(number) for number in (*SIGNALS, signal.SIGCHLD)}
 
-    def interrupt(number: int, _frame: Optional[FrameType]) -> None:
+    def interrupt(number: int, _frame: FrameType | None) -> None:
         handle_all(signal.SIG_IGN)
         end_descendants(others)  # before a process is killed that has others, which would then stem from no one here
         raise Interrupted(number)
@@ -80,15 +78,15 @@ def status_of(name: str, command: Callable[[str], int]) -> int:
         return interrupted.status if isinstance(interrupted, Interrupted) else 128 + signal.SIGINT
 
 
-def descendants(others: Collection[int] = ()) -> Set[int]:
+def descendants(others: Collection[int] = ()) -> set[int]:
     """The processes that stem from this one, but for these others and what stems from them."""
-    children: Dict[int, List[int]] = {}
+    children: dict[int, list[int]] = {}
     for name in filter(str.isdigit, os.listdir("/proc")):
         with contextlib.suppress(OSError):  # it has ended meanwhile
             with open(f"/proc/{name}/stat", "rb") as file:
                 parent = file.read().rpartition(b")")[2].split()[1]
             children.setdefault(int(parent), []).append(int(name))
-    found: Set[int] = set()
+    found: set[int] = set()
     waiting = [os.getpid()]
     while waiting:
         below = {*children.get(waiting.pop(), [])}.difference(others)
@@ -100,7 +98,7 @@ def descendants(others: Collection[int] = ()) -> Set[int]:
 def end_descendants(others: Collection[int] = ()) -> None:
     """Kills what stems from this process, but for these others, and waits until all of it is gone."""
     until = time.monotonic() + PATIENCE
-    killed: Set[int] = set()
+    killed: set[int] = set()
     while time.monotonic() < until:
         left = descendants(others) | {it for it in killed if os.path.exists(f"/proc/{it}")}
         if not left:

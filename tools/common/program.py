@@ -1,6 +1,4 @@
 """The program that the tools run: the one of this checkout, which is built if it has to be, or one that is named."""
-from __future__ import annotations
-
 import argparse
 import os
 import shutil

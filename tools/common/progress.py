@@ -1,13 +1,11 @@
 """How far long work is: a line on standard error that is written again and again, where that is a terminal."""
-from __future__ import annotations
-
 import io
 import math
 import os
 import shutil
 import sys
 import time
-from typing import Any, BinaryIO
+from typing import Any, BinaryIO, Self
 
 PATIENCE = 2.0  # seconds before anything is said
 ERASE = "\r\033[K"  # back to the left, and the line is empty
@@ -19,7 +17,7 @@ class Progress:
     def __init__(self) -> None:
         self._begin = time.monotonic() + PATIENCE if sys.stderr.isatty() else math.inf
 
-    def __enter__(self) -> Progress:
+    def __enter__(self) -> Self:
         return self
 
     def __exit__(self, *_: object) -> None:

@@ -1,12 +1,10 @@
 """The words of a tool's command line, its exit status, and its end where nobody takes its output."""
-from __future__ import annotations
-
 import argparse
 import os
 import sys
-from typing import Callable, Union
+from typing import Callable
 
-Number = Union[int, float]
+Number = int | float
 
 
 def parser_of(name: str, doc: str | None, usage: str | None = None) -> argparse.ArgumentParser:

@@ -1,7 +1,5 @@
 """The cases of a file: runs and their expected results. crates/rb_cases/src/case.rt describes how one is written. The
 gate refuses a file that is malformed, so here none is expected."""
-from __future__ import annotations
-
 import operator
 import os
 import re

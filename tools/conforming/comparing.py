@@ -1,6 +1,4 @@
 """What differs from a case when it is run, and which cases can't be run."""
-from __future__ import annotations
-
 import re
 import signal
 import tempfile

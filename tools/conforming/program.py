@@ -3,8 +3,6 @@
 A run is given its input in pieces, by a thread, and may leave processes of its own behind. So none is started by
 serving.server, which starts servers of this repository's program.
 """
-from __future__ import annotations
-
 import os
 import signal
 import socket

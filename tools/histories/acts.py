@@ -1,7 +1,5 @@
 """The acts that an event may be, by small numbers, so that a column of them has a byte for each event; and what one
 gave, by its words."""
-from __future__ import annotations
-
 from typing import Sequence
 
 (OFFER, POLL, POLL_NONE, TAKE, POLLFOR, POLLFOR_NONE, PEEK, PEEK_NONE,

@@ -1,5 +1,4 @@
 """Why a history, or what clients recorded of it, can't be read."""
-from __future__ import annotations
 
 
 class Wrong(Exception):

@@ -1,6 +1,4 @@
 """Opens the files of histories, which may be compressed, and reads those of runs that follow one another."""
-from __future__ import annotations
-
 import gzip
 import zlib
 from contextlib import contextmanager

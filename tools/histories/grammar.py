@@ -3,8 +3,6 @@
 A pattern fixes each byte of a line, its line feed too. One thing it leaves open: a number of twenty digits may pass
 2^64 - 1, which the reader finds when it stores the number.
 """
-from __future__ import annotations
-
 import re
 from typing import NamedTuple, Pattern
 

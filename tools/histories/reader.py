@@ -6,8 +6,6 @@ Figures would mean nothing then. Whether an element of an earlier expiry was pas
 replay` does that. A run behind another one is refused if it does not begin with what that one left: the next id, the
 same elements, and the last moment or, where the time between the two counts, a later one.
 """
-from __future__ import annotations
-
 from typing import BinaryIO, Callable, Iterable, Match, TypeVar
 
 from histories.acts import BY_KEYWORD, CLEAR, DRAIN, GIVES_ONE, OFFER, PEEK, PEEK_NONE, REMOVE, SIZE

@@ -1,6 +1,4 @@
 """The queue of a history while it is read: which elements are in it, and what may happen to them."""
-from __future__ import annotations
-
 from typing import Iterator, Match, Sequence
 
 from histories.faults import Wrong

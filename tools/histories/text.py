@@ -3,8 +3,6 @@
 A text is refused at its first line that is not of the form that docs/HISTORY.md describes, that is cut off, or that
 tells another number of lines than there is. What the lines say is for their reader to judge.
 """
-from __future__ import annotations
-
 from functools import partial
 from typing import BinaryIO, Iterator, Match
 

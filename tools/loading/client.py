@@ -1,6 +1,4 @@
 """A client that offers elements at its times, and takes jobs in between."""
-from __future__ import annotations
-
 import math
 import random
 import time

@@ -1,6 +1,4 @@
 """What the clients of a run count, and what is printed of it."""
-from __future__ import annotations
-
 import collections
 import math
 from typing import Iterable

@@ -1,7 +1,5 @@
 """What the program never writes about a job: that it is in two places, or an attempt that does not follow from the one
 before. docs/HISTORY.md says under "Why retries are not right" which attempt follows."""
-from __future__ import annotations
-
 from array import array
 
 from histories.acts import GIVES

@@ -3,8 +3,6 @@
 The runs of tools/service open at later moments than those before ended, by the time that passed. A run that goes on
 with --from opens at the moment of the last event before, so the time between the two is missing from later dates.
 """
-from __future__ import annotations
-
 from datetime import datetime, timedelta, timezone
 from decimal import Decimal
 from typing import NamedTuple

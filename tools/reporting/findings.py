@@ -3,8 +3,6 @@
 None is a fault of the broker. Most are what a person would ask about first; the others, such as a job in two places,
 are of a history that the program did not write, since it is proved that it never does.
 """
-from __future__ import annotations
-
 from array import array
 from heapq import nsmallest
 from typing import Iterator, NamedTuple, Sequence

@@ -1,7 +1,5 @@
 """What a page begins with: its title, its style, and a policy that lets a browser run no script but the page's own, by
 that script's hash, and load nothing."""
-from __future__ import annotations
-
 import base64
 import hashlib
 from html import escape

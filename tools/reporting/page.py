@@ -1,7 +1,5 @@
 """The report as a page: one file that needs nothing else. Every text that comes from a history is escaped, and the
 page forbids the browser to run any script but its own."""
-from __future__ import annotations
-
 import json
 import os
 from html import escape

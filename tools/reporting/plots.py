@@ -1,6 +1,4 @@
 """The plots: the depth of the queue and lateness over time. Each draws a value for each bucket of the axis of time."""
-from __future__ import annotations
-
 from array import array
 from typing import NamedTuple, Sequence
 

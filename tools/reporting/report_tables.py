@@ -1,6 +1,4 @@
 """The tables of a report, which the terminal and the page show alike, and what is told of a job."""
-from __future__ import annotations
-
 from typing import Iterator, Sequence
 
 from histories import acts

@@ -1,6 +1,4 @@
 """An upright axis of spans of time, from 0 on."""
-from __future__ import annotations
-
 from reporting.svg import Scale, Tick
 from reporting.time_axis import DATE_STEPS, MOST_STEPS
 from reporting.units import mark

@@ -5,8 +5,6 @@ SHARES: as the units of `marks`, which are stretched, and as percentages elsewhe
 labels of the upright axis stand at the left of the drawing, where page.css leaves room for them. On a narrow page it
 hides every second label at the bottom.
 """
-from __future__ import annotations
-
 import itertools
 from html import escape
 from typing import Iterable, NamedTuple, Sequence

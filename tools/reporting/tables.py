@@ -1,6 +1,4 @@
 """Tables of texts, and how they look where each letter is as wide as another."""
-from __future__ import annotations
-
 from typing import Iterable, NamedTuple, Sequence
 
 

@@ -1,6 +1,4 @@
 """Numbers as people read them. Moments and spans of time are nanoseconds."""
-from __future__ import annotations
-
 SECOND = 1_000_000_000
 
 # From the smallest. A span is told in the largest of which it has at least one, or of minutes and more two.

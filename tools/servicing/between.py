@@ -1,6 +1,4 @@
 """What a service does between two runs: it finds what the one before left, and saves what a run has left."""
-from __future__ import annotations
-
 import subprocess
 import time
 

@@ -1,6 +1,4 @@
 """How much time has passed, also while no process was there to count it."""
-from __future__ import annotations
-
 import os
 import time
 from dataclasses import dataclass
@@ -18,7 +16,7 @@ class Reading:
     up: int  # since that start, the time in which it was suspended too; nobody can set it
     date: int  # since 1970, which an operator or the network may set
 
-    def after(self, span: int) -> Reading:
+    def after(self, span: int) -> "Reading":
         """The clocks so many nanoseconds later."""
         return Reading(self.boot, self.up + span, self.date + span)
 

@@ -1,6 +1,4 @@
 """How the clients of a server come to leave soon, so that its run can end."""
-from __future__ import annotations
-
 import contextlib
 import select
 import socket

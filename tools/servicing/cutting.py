@@ -5,8 +5,6 @@ The server's own end of a connection is taken from it (pidfd_getfd of Linux 5.6)
 the end of what the client sends, and ends the session: its jobs fail, and come back. The client sees a reset. A server
 that waits for a client to read its replies sees nothing of that, so at a second cut the end is closed for writing, too.
 """
-from __future__ import annotations
-
 import contextlib
 import os
 import socket

@@ -1,6 +1,4 @@
 """What the service decides by what it knows, without looking at anything itself."""
-from __future__ import annotations
-
 import math
 from dataclasses import dataclass
 from enum import Enum

@@ -8,8 +8,6 @@
     damaged-N.txt     a history of run N that `replay` refused
     status            the socket at which `--status` asks
 """
-from __future__ import annotations
-
 import contextlib
 import fcntl
 import gzip

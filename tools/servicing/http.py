@@ -4,8 +4,6 @@ Python's own server does it, within bounds: a client has some seconds for each p
 is sent; of more than MOST_CONNECTIONS the oldest is cut; and no second has more than MOST_A_SECOND answers, so that who
 floods this with requests leaves the processor to the service.
 """
-from __future__ import annotations
-
 import contextlib
 import ipaddress
 import os

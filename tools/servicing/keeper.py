@@ -20,8 +20,6 @@ A request is an object of JSON with `do`; the answer is one too, with `fault` if
     drop      holds nothing any more
     end       the same, and ends
 """
-from __future__ import annotations
-
 import json
 import os
 import select

@@ -1,6 +1,4 @@
 """The service's side of the keeper: how it is found or begun, and asked."""
-from __future__ import annotations
-
 import contextlib
 import json
 import os

@@ -1,6 +1,4 @@
 """Looks at a server again and again, and keeps what only several looks together show."""
-from __future__ import annotations
-
 import time
 from collections import deque
 from typing import Sequence

@@ -1,7 +1,5 @@
 """The numbers of a state: in a table for people, and as Prometheus reads them. What is not known is left out. Counters
 rise as long as the service lasts, whatever becomes of its runs; what is counted of one run is a gauge."""
-from __future__ import annotations
-
 import time
 from typing import Any, Iterator
 

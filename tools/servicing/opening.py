@@ -1,6 +1,4 @@
 """What a run begins with: the text that its server reads, made from the run before."""
-from __future__ import annotations
-
 from dataclasses import dataclass, field
 from typing import BinaryIO, Iterable, Iterator
 

@@ -1,6 +1,4 @@
 """The page of a service: one file, which loads nothing but itself, again and again."""
-from __future__ import annotations
-
 from html import escape
 from pathlib import Path
 

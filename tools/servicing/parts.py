@@ -1,7 +1,5 @@
 """What the modules share that begin, watch, end and save the runs of a service, and how they write files: again and
 again while the disk is full."""
-from __future__ import annotations
-
 import time
 from dataclasses import dataclass
 from typing import Callable, TypeVar

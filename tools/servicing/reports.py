@@ -1,6 +1,4 @@
 """Reports on runs that have ended, which `tools/report` makes when they are asked for."""
-from __future__ import annotations
-
 import os
 import subprocess
 import sys

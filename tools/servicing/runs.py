@@ -4,8 +4,6 @@ Aside, opening and record are written in this order before a server starts, so a
 history is written before the record says that the run has ended, and that before the next opening. A service that was
 killed in between finds by `deciding.how_to_start` what is left to do.
 """
-from __future__ import annotations
-
 import contextlib
 import os
 import threading

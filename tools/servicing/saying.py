@@ -1,8 +1,6 @@
 """How the service and the rest of the machine talk: on standard error a line for each change, as words and values that
 log collectors read; to systemd how a unit with `Type=notify` is, which elsewhere hears nothing; and signals, which ask
 for the end: they end a wait at once, and nothing else."""
-from __future__ import annotations
-
 import contextlib
 import os
 import re

@@ -1,6 +1,4 @@
 """A server that a keeper has started, how it is found without one, and what it leaves."""
-from __future__ import annotations
-
 import contextlib
 import json
 import os

@@ -1,6 +1,4 @@
 """One server after the other at a port, each of which begins with what the one before left."""
-from __future__ import annotations
-
 import contextlib
 import os
 import time

@@ -1,6 +1,4 @@
 """The service's own session with its server: how many elements wait, how late the first is, and the moment."""
-from __future__ import annotations
-
 import contextlib
 import socket
 import time

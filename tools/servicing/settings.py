@@ -1,6 +1,4 @@
 """The settings of tools/service: one table of its options, and what follows from them for servers."""
-from __future__ import annotations
-
 import argparse
 import functools
 import ipaddress

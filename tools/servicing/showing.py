@@ -1,6 +1,4 @@
 """What the service shows of itself: its phase, what it has seen, and what has become of its runs."""
-from __future__ import annotations
-
 import time
 from dataclasses import replace
 from typing import Iterator, Sequence

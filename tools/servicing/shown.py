@@ -1,7 +1,5 @@
 """What people are shown of a state, as texts: the page, the status in a terminal and the line that systemd has lay it
 out, and have nothing else to say. Dates are in UTC, as those of reports and of the lines on standard error."""
-from __future__ import annotations
-
 from typing import Iterator
 
 from reporting.tables import Table

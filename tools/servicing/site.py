@@ -9,8 +9,6 @@ Whatever clients send, or leave out, the service goes on: they are answered from
 kept, alone. The same is always
 answered at the socket `status` in the folder, for `tools/service --status`: who may use the folder may connect there.
 """
-from __future__ import annotations
-
 import os
 import socket
 from http import HTTPStatus

@@ -3,8 +3,6 @@
 Those by which the service uses up sessions come from another address of this machine, and are left out: there may be
 thousands at a time.
 """
-from __future__ import annotations
-
 import re
 import socket
 import subprocess

@@ -3,8 +3,6 @@
 Dates are seconds since 1970 in UTC, spans are seconds, moments of the server are whole nanoseconds. A count has no
 unit. What is not known is None, never 0.
 """
-from __future__ import annotations
-
 import time
 from dataclasses import dataclass, replace
 from enum import Enum

@@ -1,6 +1,4 @@
 """How the sessions of a server that is to end are used up, so that it ends by itself once it has served them all."""
-from __future__ import annotations
-
 import select
 import socket
 import threading

@@ -1,8 +1,6 @@
 """What a session's replies say about its calls, one reply after the other."""
-from __future__ import annotations
-
 import re
-from typing import Callable, Dict, List, Match, NamedTuple, Optional, Sequence, Tuple
+from typing import Callable, Match, NamedTuple, Sequence
 
 from histories.history import NONE, Element
 from verifying.history import ANY, History
@@ -34,13 +32,13 @@ class Account:
 
     def __init__(self, history: History, rules: Rules) -> None:
         self._history, self._rules = history, rules
-        self.held: Dict[int, Optional[Element]] = {}  # by id, in the order in which they were fetched
+        self.held: dict[int, Element | None] = {}  # by id, in the order in which they were fetched
         self.has_left = False  # by QUIT
         self.last_attempt = 0  # of a job, as a DEAD says
         self.was_full = False  # so was the run, as a refusal says
         self._is_over = False  # by a lease that was over, as a refusal says
 
-    def expected(self, request: str, reply: List[str]) -> Optional[Expected]:
+    def expected(self, request: str, reply: list[str]) -> Expected | None:
         """The event that a reply speaks of, if it speaks of one. Raises `Strange` for no right reply."""
         keyword = reply[0].partition(" ")[0]
         if self._is_over and keyword not in ("ERR", "BYE"):
@@ -61,7 +59,7 @@ class Account:
         first = f" {expiry}" if self._history.version == 3 else ""
         return Expected(f"offer {id} {expiry} {id}{first} 1 {payload}", event, flaw)
 
-    def _item(self, asked: str, timeout: Optional[str], *words: str) -> Expected:
+    def _item(self, asked: str, timeout: str | None, *words: str) -> Expected:
         id = int(words[0])
         return Expected(f"{_look(asked, timeout)} {words[0]}", self._history.exits[id], self._fetched(id, words))
 
@@ -87,7 +85,7 @@ class Account:
         act = f"offer {id} {expiry} {job.origin}{first} {job.attempt + 1} {job.payload}"
         return Expected(act, self._history.offers[int(id)])
 
-    def _settled(self, id: str) -> Optional[Element]:
+    def _settled(self, id: str) -> Element | None:
         """The job that a request names, which is no longer held."""
         try:
             return self.held.pop(int(id))
@@ -129,12 +127,12 @@ def _test(is_right: bool) -> None:
         raise Strange
 
 
-def _look(asked: str, timeout: Optional[str]) -> str:
+def _look(asked: str, timeout: str | None) -> str:
     """The words of a fetch, or of a peek, but what it found."""
     return asked.lower() if timeout is None else f"pollfor {ANY} {timeout}"
 
 
-def _flaw(words: Sequence[str], element: Optional[Element]) -> str:
+def _flaw(words: Sequence[str], element: Element | None) -> str:
     """What a line that shows an element says about it, and the history does not."""
     if element is None:
         return f"element {words[0]} was not offered"
@@ -142,7 +140,7 @@ def _flaw(words: Sequence[str], element: Optional[Element]) -> str:
     return "" if says == was else f"it says {says}, and was {was}"
 
 
-def _compiled(form: str) -> Callable[[str], Optional[Match[str]]]:
+def _compiled(form: str) -> Callable[[str], Match[str] | None]:
     return re.compile(form.replace("\n", "\r?\n", 1), re.DOTALL).fullmatch
 
 
@@ -151,9 +149,9 @@ N, W = "[0-9]{1,20}", r"[^ \r\n]+"
 ELEMENT = f"({N}) ({N}) ({N}) ({W})"
 
 # What reads a reply: a request with its reply, by their form, whose groups it takes.
-Read = Callable[..., Optional[Expected]]
+Read = Callable[..., Expected | None]
 UNCHANGED: Read = lambda _: None  # such a reply says nothing about a job or a call
-REPLIES: Dict[str, Read] = {
+REPLIES: dict[str, Read] = {
     f"(OFFER|OFFERAT) ({N}) ({W})\nOFFERED ({N}) ({N})": Account._offered,
     f"(TAKE|POLL|POLLFOR ({N}))\nITEM {ELEMENT}": Account._item,
     f"(POLL|PEEK|POLLFOR ({N}))\nNONE": lambda _, asked, timeout: Expected(f"{_look(asked, timeout)} none"),
@@ -175,6 +173,6 @@ REPLIES: Dict[str, Read] = {
 }
 
 # The same, by the first word of the reply. A request may end with a carriage return.
-FORMS: Dict[str, List[Tuple[Callable[[str], Optional[Match[str]]], Read]]] = {}
+FORMS: dict[str, list[tuple[Callable[[str], Match[str] | None], Read]]] = {}
 for _form, _read in REPLIES.items():
     FORMS.setdefault(_form.partition("\n")[2].split()[0], []).append((_compiled(_form), _read))

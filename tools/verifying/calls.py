@@ -1,8 +1,5 @@
 """The calls of all records, in columns, the sessions that made them, and which event each is."""
-from __future__ import annotations
-
 from array import array
-from typing import Dict, List, Optional, Set, Tuple
 
 from verifying.account import Account, Expected, Rules, Strange
 from verifying.faults import Faults
@@ -20,8 +17,8 @@ class Session:
     def __init__(self, index: int, name: str, path: str, account: Account) -> None:
         self.index, self.name, self.path, self.account = index, name, path, account
         self.calls = array("I")
-        self.unanswered: List[Exchange] = []  # which may have been carried out
-        self.seat: Optional[int] = None  # the index of the seat at which its calls stand, once that is known
+        self.unanswered: list[Exchange] = []  # which may have been carried out
+        self.seat: int | None = None  # the index of the seat at which its calls stand, once that is known
         self.end = 0  # the place in the seat's row behind its last call
 
     def __str__(self) -> str:
@@ -43,11 +40,11 @@ class Calls:
         self.lines, self.owners = array("I"), array("I")  # the owner is the index of a session
         self.events = array("i")  # the event that it is, or the complement of an index into what is expected
         self.claims = array("i", [NONE]) * len(history)  # the number of the call that each event is
-        self.astray: Set[int] = set()  # events of calls that stand at another seat, or out of order
-        self.sessions: List[Session] = []
-        self._by_name: Dict[Tuple[str, str], Session] = {}
-        self._expected: List[Expected] = []
-        self._indexes: Dict[Expected, int] = {}
+        self.astray: set[int] = set()  # events of calls that stand at another seat, or out of order
+        self.sessions: list[Session] = []
+        self._by_name: dict[tuple[str, str], Session] = {}
+        self._expected: list[Expected] = []
+        self._indexes: dict[Expected, int] = {}
 
     def __len__(self) -> int:
         return len(self.sent)

@@ -7,7 +7,6 @@ from __future__ import annotations
 
 from array import array
 from collections import Counter, deque
-from typing import List
 
 from histories.acts import given_ids
 from verifying.account import MOST_HELD
@@ -76,7 +75,7 @@ class Ending:
                 return True
         return False
 
-    def _may_answer(self, asked: List[str], event: int, act: List[str]) -> bool:
+    def _may_answer(self, asked: list[str], event: int, act: list[str]) -> bool:
         """Whether an event, which is this act, may be that of a request."""
         keyword = asked[0]
         if keyword == "FAIL":
@@ -108,7 +107,7 @@ class Ending:
         is_return = act[0] == "offer" and act[-2] != "1"
         return not is_return and self._may_have_given(event, given_ids(act))
 
-    def _may_have_given(self, event: int, given: List[int]) -> bool:
+    def _may_have_given(self, event: int, given: list[int]) -> bool:
         """Whether a session may have got these jobs without a note. They were then held too, and must come back."""
         if len(self._returns) + len(given) > MOST_HELD or any(self._history.exits[id] != event for id in given):
             return False

@@ -1,14 +1,11 @@
 """What is wrong with a run."""
-from __future__ import annotations
-
 import collections
-from typing import Counter, Dict, List
 
 from reporting.units import counted
 from verifying.record import Exchange
 
 # The kinds of faults, each with the sentence that it breaks.
-KINDS: Dict[str, str] = {
+KINDS: dict[str, str] = {
     "strange": "each reply is one that its request may get, with what the session holds",
     "changed": "a reply says what the event of its call says",
     "missing": "each call has an event",
@@ -28,8 +25,8 @@ class Faults:
     """The faults that were found: how many of each kind, and the first of them in words."""
 
     def __init__(self) -> None:
-        self._counts: Counter[str] = collections.Counter()
-        self._lines: Dict[str, List[str]] = {kind: [] for kind in KINDS}
+        self._counts: collections.Counter[str] = collections.Counter()
+        self._lines: dict[str, list[str]] = {kind: [] for kind in KINDS}
 
     def add(self, kind: str, where: str, what: str) -> None:
         self._counts[kind] += 1
@@ -45,7 +42,7 @@ class Faults:
     def total(self) -> int:
         return sum(self._counts.values())
 
-    def lines(self) -> List[str]:
+    def lines(self) -> list[str]:
         """The lines that are printed, and behind those of each kind how many more there are."""
         lines = []
         for kind, told in self._lines.items():
@@ -56,7 +53,7 @@ class Faults:
                 lines.append(f"and {counted(more, f'fault {of}', f'faults {of}')}")
         return lines
 
-    def sentences(self, is_whole: bool) -> List[str]:
+    def sentences(self, is_whole: bool) -> list[str]:
         """Each sentence with the number of its faults, and their sum. Unless all clients have a record, other events
         are right."""
         kinds = [it for it in KINDS if is_whole or it != "unrecorded"]

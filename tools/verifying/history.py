@@ -1,11 +1,9 @@
 """A history as verify looks at it: its events by seat, and by the ids of the elements that they name."""
-from __future__ import annotations
-
 import re
 from array import array
 from bisect import bisect_left, bisect_right
 from functools import lru_cache
-from typing import BinaryIO, Dict, List, Match, Optional, Sequence
+from typing import BinaryIO, Match, Sequence
 
 from histories.acts import IDS
 from histories.faults import Damaged
@@ -22,7 +20,7 @@ IN_VAIN = re.compile(rb"\S+ \S+ \S+ (?:poll none|pollfor \S+ \S+ none|drain \S+|
 ANY = "…"
 
 
-class EventsById(Dict[int, int]):
+class EventsById(dict[int, int]):
     """An event for an id, or NONE."""
 
     def __missing__(self, id: int) -> int:
@@ -35,23 +33,23 @@ class History:
     Its files are read one after the other. A queue that nobody has used has none.
     """
 
-    def __init__(self, shard: Optional[int] = None) -> None:
+    def __init__(self, shard: int | None = None) -> None:
         """`shard` is the number of the queue, if it is one of several with one name."""
         self._shard = shard
         self.version = 3  # of the first file
         self.text = bytearray()  # of the events
         self.starts = array("Q", [0])  # where each event's line begins, and where the next one would
-        self.seat_names: List[int] = []
+        self.seat_names: list[int] = []
         self.seats = array("I")  # by an index into the names
-        self.rows: List[array[int]] = []  # the events of each seat
+        self.rows: list[array[int]] = []  # the events of each seat
         self.places = array("I")  # of each event in its seat's row
         # The event that offered an element, the one that took it out, and the one that offered its job again.
         self.offers, self.exits, self.returns = EventsById(), EventsById(), EventsById()
-        self.kept: Dict[int, Element] = {}  # the elements of the opening
+        self.kept: dict[int, Element] = {}  # the elements of the opening
         self.files = array("I")  # the first event of each file, whose clock may be another than that of the one before
         self._next = self._last = 0  # the id with which a file would begin that goes on, and the last event's moment
-        self._latest: Dict[int, int] = {}  # the id of the latest attempt of each job that was offered again
-        self._seat_indexes: Dict[bytes, int] = {}
+        self._latest: dict[int, int] = {}  # the id of the latest attempt of each job that was offered again
+        self._seat_indexes: dict[bytes, int] = {}
 
     def __len__(self) -> int:
         return len(self.seats)
@@ -123,7 +121,7 @@ class History:
         return self.kept.get(id) if event == NONE else element_of(self.act(event).split(" ")[1:])
 
     @lru_cache(1)  # an event is often looked at several times, one time after the other
-    def _words(self, event: int) -> List[str]:
+    def _words(self, event: int) -> list[str]:
         """Seat, moments and act."""
         return self.text[self.starts[event]:self.starts[event + 1] - 1].decode("ascii").split(" ", 3)
 
@@ -157,7 +155,7 @@ class History:
             self.exits[int(line["removed"])] = event
 
 
-def element_of(words: List[str]) -> Element:
+def element_of(words: list[str]) -> Element:
     """The element of an offer's words, or of a `keep` line's. Earlier versions do not tell its first expiry."""
     id, expiry, origin, *first, attempt, payload = words
     return Element(int(id), int(expiry), int(origin), int(first[0]) if first else NONE, int(attempt), payload)

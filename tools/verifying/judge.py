@@ -1,8 +1,6 @@
 """Judges a run by its history and the records of its clients."""
-from __future__ import annotations
-
 from collections import Counter
-from typing import Iterable, List, Sequence, Set, Tuple
+from typing import Iterable, Sequence
 
 from reporting.units import counted
 from verifying.account import Rules, Strange
@@ -16,7 +14,7 @@ from verifying.placing import place_named
 from verifying.record import Exchange
 from verifying.shards import parts_of
 
-Exchanges = Iterable[Tuple[str, Exchange]]
+Exchanges = Iterable[tuple[str, Exchange]]
 
 
 class Verdict:
@@ -29,7 +27,7 @@ class Verdict:
         path of its record. If the records are those of all clients, an event of none of them is a fault."""
         self.faults, self._is_whole = Faults(), is_whole
         self._queues = [Calls(it, self.faults, Rules(has_leases, len(histories) > 1)) for it in histories]
-        self._sessions: Set[Tuple[str, str]] = set()
+        self._sessions: set[tuple[str, str]] = set()
         self._counts: Counter[str] = Counter()
         for path, exchange in exchanges:
             self._read(path, exchange)
@@ -61,7 +59,7 @@ class Verdict:
                     told = f"{calls.history.told(event)} is the call of no record"
                     self.faults.add("unrecorded", f"event {event}", told)
 
-    def lines(self) -> List[str]:
+    def lines(self) -> list[str]:
         """The lines that are printed: faults, what was compared, and each sentence with the number of its faults."""
         counts, histories = self._counts, [it.history for it in self._queues]
         events, seats = sum(map(len, histories)), sum(len(it.rows) for it in histories)

@@ -3,13 +3,11 @@
 Several rows of events may be what such a session was answered, and the first of them may be another's. So each session
 is put at a row that keeps the order of real time, and others are put elsewhere if they are in its way.
 """
-from __future__ import annotations
-
 import re
 from array import array
 from bisect import bisect_left, bisect_right, insort
 from itertools import accumulate, islice
-from typing import Container, Dict, FrozenSet, Iterator, List, Optional, Sequence, Tuple
+from typing import Container, Iterator, Sequence
 
 from verifying.calls import NEVER, Calls, Session
 from histories.history import NONE
@@ -36,7 +34,7 @@ class Times:
         bounds = [*history.files, len(history)]
         self._clocks = [self._compared(range(*it)) for it in zip(bounds, bounds[1:])]
 
-    def _compared(self, events: range) -> Optional[Tuple[int, int]]:
+    def _compared(self, events: range) -> tuple[int, int] | None:
         """Between which two values the clients' clock is ahead of the server's, by those of a file's events that have
         their call."""
         calls, asked = self._calls, self._calls.history.asked
@@ -73,14 +71,14 @@ class Arrangement:
 
     def __init__(self, calls: Calls) -> None:
         self._all, self._times = calls, Times(calls)
-        self._free: Dict[str, List[int]] = {}  # the events that are nobody's, by their words
+        self._free: dict[str, list[int]] = {}  # the events that are nobody's, by their words
         for event, call in enumerate(calls.claims):
             if call == NONE:
                 act = POLLFOR.sub(f"pollfor {ANY}", calls.history.act(event))
                 self._free.setdefault(act, []).append(event)
-        self.firsts: Dict[Session, int] = {}  # the first event of each session that is put somewhere
-        self._calls: Dict[int, int] = {}  # those that are put at an event, by it
-        self._events: List[int] = []  # the same events, in order
+        self.firsts: dict[Session, int] = {}  # the first event of each session that is put somewhere
+        self._calls: dict[int, int] = {}  # those that are put at an event, by it
+        self._events: list[int] = []  # the same events, in order
         self._keeps_time, self._tries = True, 0
 
     def add(self, session: Session, keeps_time: bool) -> bool:
@@ -88,7 +86,7 @@ class Arrangement:
         self._keeps_time, self._tries = keeps_time, TRIES
         return self._arrange([session], frozenset())
 
-    def _arrange(self, waiting: List[Session], fixed: FrozenSet[Session]) -> bool:
+    def _arrange(self, waiting: list[Session], fixed: frozenset[Session]) -> bool:
         """Puts each of these sessions at a row, and moves others, except those that are fixed. Changes nothing if it
         finds no way."""
         if not waiting:
@@ -107,7 +105,7 @@ class Arrangement:
                 self._put(rival, place)
         return False
 
-    def _choices(self, session: Session, fixed: FrozenSet[Session]) -> Iterator[Tuple[int, List[Session]]]:
+    def _choices(self, session: Session, fixed: frozenset[Session]) -> Iterator[tuple[int, list[Session]]]:
         """The rows of a session by their first events, each with the sessions that it moves: the fewest first."""
         yield from (it for it in self._rows(session, self._calls) if not it[1])
         looked_at = list(islice(self._rows(session, ()), self._tries // 2))
@@ -115,7 +113,7 @@ class Arrangement:
         crowded = [it for it in looked_at if it[1] and fixed.isdisjoint(it[1])]
         yield from sorted(crowded, key=lambda it: len(it[1]))
 
-    def _rows(self, session: Session, but: Container[int]) -> Iterator[Tuple[int, List[Session]]]:
+    def _rows(self, session: Session, but: Container[int]) -> Iterator[tuple[int, list[Session]]]:
         """The rows of a session, each of events that are what its replies say, at one seat and at their times: by their
         first events, which are none of `but`, each with the sessions that it moves."""
         calls, count = self._all, len(session.calls)
@@ -134,7 +132,7 @@ class Arrangement:
         """Whether a call may be put at an event, which another may have to leave."""
         return self._all.may_be(call, event) and self._times.is_right(call, event) and event in self._within(call)
 
-    def _rivals(self, session: Session, row: Sequence[int]) -> List[Session]:
+    def _rivals(self, session: Session, row: Sequence[int]) -> list[Session]:
         """The sessions that can't stay where they are if a session is put at this row."""
         others = (other for call, event in zip(session.calls, row) for other in self._in_the_way(call, event))
         return list(dict.fromkeys(map(self._all.session, others)))
@@ -163,7 +161,7 @@ class Arrangement:
         return first
 
 
-def place_loose(calls: Calls, sessions: List[Session]) -> None:
+def place_loose(calls: Calls, sessions: list[Session]) -> None:
     """Places these sessions. Those that fit nowhere in the order of real time are placed out of it.
 
     Those of most calls choose first, since they fit at the fewest places, and of those that are alike the ones that

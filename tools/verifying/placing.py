@@ -1,11 +1,9 @@
 """Finds a place in the history for each call of the sessions that name an element somewhere."""
-from __future__ import annotations
-
 from array import array
 from bisect import bisect_left
 from collections import Counter
 from itertools import islice, takewhile
-from typing import List, Optional, Sequence
+from typing import Sequence
 
 from verifying.calls import Calls, Session
 from histories.history import NONE
@@ -13,7 +11,7 @@ from histories.history import NONE
 AHEAD = 8  # places at which a call is looked for behind the last whose event is known, or before the first
 
 
-def place_named(calls: Calls) -> List[Session]:
+def place_named(calls: Calls) -> list[Session]:
     """Places the sessions that name an element somewhere. Returns the others."""
     for session in calls.sessions:
         _claim(calls, session)
@@ -72,14 +70,14 @@ class Alignment:
         assert session.seat is not None
         self._calls, self._session = calls, session
         self._row = calls.history.rows[session.seat]
-        self._missing: List[int] = []  # calls without an event
-        self._strangers: List[int] = []  # events without a call, between two calls
+        self._missing: list[int] = []  # calls without an event
+        self._strangers: list[int] = []  # events without a call, between two calls
 
     def align(self, calls: Sequence[int]) -> None:
         """Places the calls, which are in the order of their requests, and some of which have an event."""
         events, places, astray = self._calls.events, self._calls.history.places, self._calls.astray
-        last: Optional[int] = None
-        waiting: List[int] = []
+        last: int | None = None
+        waiting: list[int] = []
         for call in calls:
             if events[call] < 0:
                 waiting.append(call)
@@ -97,7 +95,7 @@ class Alignment:
         self._session.end = 1 + (last if taken == NONE else places[taken])
         self._tell()
 
-    def _free(self, places: range, calls: int) -> List[int]:
+    def _free(self, places: range, calls: int) -> list[int]:
         """The events at the next places that are nobody's, as many as so many calls look at. Calls of this session that
         are out of order are passed over."""
         claims, events = self._calls.claims, (self._row[it] for it in places)
@@ -164,11 +162,11 @@ class Alignment:
             calls.tell_missing(call)
 
 
-def longest_rise(values: List[int]) -> List[int]:
+def longest_rise(values: list[int]) -> list[int]:
     """The longest rising part of different values, which is all of them if each is greater than the one before."""
     if all(before < after for before, after in zip(values, values[1:])):
         return values
-    ends: List[int] = []  # the least end of a rise of each length
+    ends: list[int] = []  # the least end of a rise of each length
     lengths = []
     for value in values:
         length = bisect_left(ends, value)

@@ -6,10 +6,8 @@
 last reply line had come. A request without a whole reply has `null`. The requests of a session stand in the order
 in which they were sent; those of several sessions may stand among each other.
 """
-from __future__ import annotations
-
 import json
-from typing import Any, BinaryIO, Dict, Iterator, List, NamedTuple, Optional
+from typing import Any, BinaryIO, Iterator, NamedTuple
 
 from histories.faults import Damaged
 
@@ -24,14 +22,14 @@ class Exchange(NamedTuple):
     line: int  # in the file, from 1
     session: str
     sent: int
-    received: Optional[int]
+    received: int | None
     request: str
-    reply: List[str]
+    reply: list[str]
 
 
 def read_record(file: BinaryIO) -> Iterator[Exchange]:
     """The exchanges in a file, in its order."""
-    latest: Dict[str, Exchange] = {}
+    latest: dict[str, Exchange] = {}
     for number, line in enumerate(iter(lambda: file.readline(LONGEST_LINE), b""), 1):
         exchange = _exchange(line, number)
         before = latest.get(exchange.session)

@@ -5,10 +5,7 @@ The id that a client sees is 64 times the queue's own, plus the number of the qu
 some in vain; SIZE, PEEK and CLEAR ask all. So a reply that names no element which came or left is not compared, and
 what it asked is not looked for in the histories (`history.IN_VAIN`).
 """
-from __future__ import annotations
-
 import re
-from typing import Dict, List, Optional, Tuple
 
 from verifying.account import Strange
 from verifying.record import Exchange
@@ -26,17 +23,17 @@ NOT_THERE = ("REMOVED no", "ERR 5 not-held")
 
 _SHARD = re.compile(r".*\.([0-9]{1,2})-[0-9]+\.txt(?:\.gz)?", re.DOTALL)
 
-Part = Tuple[int, Exchange]
+Part = tuple[int, Exchange]
 """What an exchange is at the queue of this number."""
 
 
-def shard_of_file(path: str) -> Optional[int]:
+def shard_of_file(path: str) -> int | None:
     """The number of the queue whose events an archive's file has: 3 for jobs.3-000000000000.txt."""
     found = _SHARD.fullmatch(path)
     return int(found[1]) if found else None
 
 
-def parts_of(exchange: Exchange, count: int) -> List[Part]:
+def parts_of(exchange: Exchange, count: int) -> list[Part]:
     """What an exchange is at each of so many queues that it concerns. Raises `Strange` for no right reply."""
     asked = exchange.request.rstrip("\r").split(" ")
     try:
@@ -48,7 +45,7 @@ def parts_of(exchange: Exchange, count: int) -> List[Part]:
     return parts
 
 
-def _unanswered(exchange: Exchange, asked: List[str], count: int) -> List[Part]:
+def _unanswered(exchange: Exchange, asked: list[str], count: int) -> list[Part]:
     """It may have been carried out at each queue, unless it names an id."""
     if asked[0] not in BY_ID or not "".join(asked[1:2]).isdecimal():
         return [(queue, exchange) for queue in range(count)]
@@ -56,7 +53,7 @@ def _unanswered(exchange: Exchange, asked: List[str], count: int) -> List[Part]:
     return [(it, exchange._replace(request=request if it == owner else "")) for it in range(count)]
 
 
-def _answered(exchange: Exchange, asked: List[str], count: int) -> List[Part]:
+def _answered(exchange: Exchange, asked: list[str], count: int) -> list[Part]:
     (reply, *items), request, queue = exchange.reply, exchange.request, 0
     words = reply.split(" ")
     if words[0] in ("BYE", "CLEARED"):
@@ -77,9 +74,9 @@ def _answered(exchange: Exchange, asked: List[str], count: int) -> List[Part]:
     return [(queue, exchange._replace(request=request, reply=[reply, *items]))]
 
 
-def _drained(exchange: Exchange, reply: str, items: List[str]) -> List[Part]:
+def _drained(exchange: Exchange, reply: str, items: list[str]) -> list[Part]:
     """The items of each queue are what it gave."""
-    given: Dict[int, List[str]] = {}
+    given: dict[int, list[str]] = {}
     if reply != f"DRAINED {len(items)}":
         raise ValueError
     for queue, item in (_inner(it.split(" ")) for it in items):
@@ -87,7 +84,7 @@ def _drained(exchange: Exchange, reply: str, items: List[str]) -> List[Part]:
     return [(queue, exchange._replace(reply=[f"DRAINED {len(its)}", *its])) for queue, its in given.items()]
 
 
-def _inner(words: List[str]) -> Tuple[int, str]:
+def _inner(words: list[str]) -> tuple[int, str]:
     """The queue of a request or a line that names an id, and what it is there."""
     id, queue = divmod(int(words[1]), MOST_SHARDS)
     return queue, " ".join([words[0], str(id), *words[2:]])

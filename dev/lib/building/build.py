@@ -1,6 +1,4 @@
 """The build of a program's crates, each as soon as those below it are built."""
-from __future__ import annotations
-
 import fcntl
 import os
 import re

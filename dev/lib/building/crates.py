@@ -1,6 +1,4 @@
 """The crates that a program is made of, and which of them the others wait for longest."""
-from __future__ import annotations
-
 import os
 import re
 import shutil

@@ -1,6 +1,4 @@
 """What a build tells on standard error."""
-from __future__ import annotations
-
 import contextlib
 import re
 import sys

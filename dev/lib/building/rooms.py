@@ -1,10 +1,9 @@
 """The folders in which crates are built beside each other."""
-from __future__ import annotations
-
 import contextlib
 import os
 import shutil
 from pathlib import Path
+from typing import Self
 
 from building.crates import PARTS, Crates, read_uses
 
@@ -22,7 +21,7 @@ class Rooms:
         self._top, self._crates, self._place = Path(top), crates, place_in(Path(top))
         self._uses: dict[str, list[str]] = {}
 
-    def __enter__(self) -> Rooms:
+    def __enter__(self) -> Self:
         self._clear()  # of a build that was killed
         self._uses = read_uses(str(self._top))
         for part in (f"{name}/{part}" for name in self._crates.names for part in PARTS):

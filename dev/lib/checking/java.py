@@ -14,7 +14,7 @@ import sys
 import tempfile
 import textwrap
 from pathlib import Path
-from typing import Any, Optional
+from typing import Any
 
 from checking.suites import tests_below, try_tests
 from checking.tally import Tally
@@ -71,7 +71,7 @@ def sources(folder: str) -> list[str]:
     return sorted(map(str, (CLIENT / folder).rglob("*.java")))
 
 
-def build(room: str, tally: Tally) -> Optional[str]:
+def build(room: str, tally: Tally) -> str | None:
     """Compiles everything and writes the pages. Gives the class path, or None if something does not compile."""
     strict = ("javac", "--release", RELEASE, "-Xlint:all", "-Werror")
     pages = ("javadoc", "-quiet", "-Xdoclint:all", "-Werror", "-d", f"{room}/pages", *sources("src"))

@@ -1,5 +1,5 @@
 """What passed, failed and was skipped."""
-from typing import Optional, Sequence
+from typing import Sequence
 
 
 class Tally:
@@ -14,7 +14,7 @@ class Tally:
         """Whether something of this name is tried."""
         return not self.only or any(word in name for word in self.only)
 
-    def count(self, name: str, fault: Optional[object]) -> None:
+    def count(self, name: str, fault: object | None) -> None:
         """Counts something of this name. The fault is what is wrong with it, if anything is."""
         self.add(not fault, bool(fault))
         if fault:

@@ -1,7 +1,6 @@
 """The crates of a repository: the definition that a name in a file means."""
 import re
 from pathlib import Path
-from typing import Optional
 
 from defining.items import Item, rust_items, spec_items
 from defining.words import words_of
@@ -52,7 +51,7 @@ class SourceFile:
         """The name under which others import a file of specs/ or proofs/."""
         return ".".join(["Rattle", *Path(self.path).with_suffix("").parts[1:]])
 
-    def place_of(self, word: str) -> Optional[tuple[str, str]]:
+    def place_of(self, word: str) -> tuple[str, str] | None:
         """The module and the name there of what a word means, if that is imported here."""
         head, _, rest = word.partition(".")
         local = self.operators.get(head, head)
@@ -104,7 +103,7 @@ class Tree:
             raise Unknown(f"{module}.{name} is nowhere in src/ and specs/")
         return found
 
-    def _declared(self, crate: str, path: list[str], name: str) -> Optional[Item]:
+    def _declared(self, crate: str, path: list[str], name: str) -> Item | None:
         """The type or constant of src/ for which a generated module stands."""
         at = next((at for at, it in enumerate(path) if it.startswith("The")), len(path))
         is_constant = path[at:at + 1] == ["TheConstants"]  # followed by the type, if it is one of a type's
@@ -113,7 +112,7 @@ class Tree:
         found = (self.files[it].named.get("::".join(names)) for it in paths if it in self.files)
         return next(filter(None, found), None)
 
-    def _specified(self, crate: str, path: list[str], name: str) -> Optional[Item]:
+    def _specified(self, crate: str, path: list[str], name: str) -> Item | None:
         """The definition of specs/, there or where that file or the crate's Lib.antt has it from."""
         file, lib = (self.files.get(f"crates/{crate}/specs/{it}.antt") for it in ("/".join(path), "Lib"))
         if file and (name in file.named or name in file.variants):
@@ -122,7 +121,7 @@ class Tree:
         meant = self._imported(module, further)
         return meant if isinstance(meant, Item) else None
 
-    def _used(self, crate: str, name: str) -> Optional[Item]:
+    def _used(self, crate: str, name: str) -> Item | None:
         """The type or constant of this name in a crate, or in one from which that hands it on."""
         found = [it for file in self.files.values() for it in file.items if it.name == name and it.kind in TYPES]
         found.sort(key=lambda it: not it.path.startswith(f"crates/{crate}/"))

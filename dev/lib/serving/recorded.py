@@ -2,7 +2,7 @@
 import json
 import socket
 import time
-from typing import Callable, Optional
+from typing import Callable
 
 from serving.session import Session
 
@@ -40,7 +40,7 @@ class RecordedSession(Session):
         """The lines of the reply to a request."""
         return self.exchange(request)[0]
 
-    def note(self, sent: int, received: Optional[int], request: str, *reply: str) -> None:
+    def note(self, sent: int, received: int | None, request: str, *reply: str) -> None:
         """Adds to the record. A request without a reply was received at no time."""
         self._note(json.dumps(
             {"session": self._name, "sent": sent, "received": received, "request": request, "reply": reply}))

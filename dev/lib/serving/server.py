@@ -6,7 +6,7 @@ import socket
 import subprocess
 import threading
 import time
-from typing import NamedTuple, Optional, Self, Sequence
+from typing import NamedTuple, Self, Sequence
 
 from common.program import tested_program
 from serving import HOST, PATIENCE
@@ -22,7 +22,7 @@ class NoServer(Exception):
 class Ended(NamedTuple):
     """The end of a server: its exit status, the lines that it wrote then, at least one, and standard error."""
 
-    status: Optional[int]
+    status: int | None
     lines: list[str]
     errors: str
 
@@ -50,9 +50,7 @@ class Server:
 
     patience = PATIENCE  # seconds in which it has to end
 
-    def __init__(
-        self, options: Sequence[object] = (), program: Optional[str] = None, port: Optional[int] = None
-    ) -> None:
+    def __init__(self, options: Sequence[object] = (), program: str | None = None, port: int | None = None) -> None:
         """Starts the program, the one that is tested unless another one is given."""
         for _ in range(TRIES):
             self.port = port or random.choice(PORTS)

@@ -1,7 +1,7 @@
 """A client's session, as its requests and replies. The other clients of the tests are made of it."""
 import socket
 import struct
-from typing import Self, Union
+from typing import Self
 
 from serving import HOST, PATIENCE
 
@@ -38,7 +38,7 @@ class Session:
         """The port of the client's end."""
         return int(self.socket.getsockname()[1])
 
-    def send(self, *requests: Union[str, bytes]) -> None:
+    def send(self, *requests: str | bytes) -> None:
         """Sends requests in one piece, and reads no reply."""
         self.socket.sendall(b"".join((it.encode() if isinstance(it, str) else it) + b"\n" for it in requests))
 

@@ -1,6 +1,4 @@
 """What tests of several tools need: work that is long, at a terminal."""
-from __future__ import annotations
-
 import io
 import os
 from contextlib import contextmanager

@@ -1,6 +1,4 @@
 """Which program is run."""
-from __future__ import annotations
-
 import argparse
 import os
 import subprocess

@@ -1,6 +1,4 @@
 """How far long work is."""
-from __future__ import annotations
-
 import os
 import threading
 from pathlib import Path

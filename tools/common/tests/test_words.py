@@ -1,6 +1,4 @@
 """The words of a command line, and the status of a tool."""
-from __future__ import annotations
-
 import argparse
 import contextlib
 import io

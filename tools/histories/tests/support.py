@@ -1,6 +1,4 @@
 """What several tests need, also those of tools that read histories: texts from lines, and what is read from them."""
-from __future__ import annotations
-
 import collections
 import io
 from typing import Iterator

@@ -1,6 +1,4 @@
 """The files of histories, compressed or not."""
-from __future__ import annotations
-
 import gzip
 
 from checking.testing import RoomTest, call_tool

@@ -1,6 +1,4 @@
 """Which texts are read, what the columns hold, and which line is named if a text is damaged."""
-from __future__ import annotations
-
 import unittest
 from pathlib import Path
 

@@ -1,6 +1,4 @@
 """The lines of a text, which may say what no queue does."""
-from __future__ import annotations
-
 import io
 import unittest
 

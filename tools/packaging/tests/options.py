@@ -2,7 +2,7 @@
 says the same."""
 import re
 from pathlib import Path
-from typing import Iterator, NamedTuple, Optional
+from typing import Iterator, NamedTuple
 
 from checking.tally import Tally
 from packaging import SOURCES
@@ -116,7 +116,7 @@ def file_of(command: str) -> list[str]:
     return ["<FILE>"] if command == "replay" else []
 
 
-def accepts(program: str, command: str, *words: str) -> Optional[bool]:
+def accepts(program: str, command: str, *words: str) -> bool | None:
     """Whether the program accepts these words, with those that the command can't do without.
 
     It is told to begin with a missing file, so that it ends at once. Returns nothing if it ends neither because of that

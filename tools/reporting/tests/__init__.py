@@ -1,8 +1,6 @@
 """The tests of tools/report, which `dev/check report` runs. The values that they expect follow from docs/HISTORY.md,
 docs/PROTOCOL.md and the README, or from what a history says, counted by hand.
 """
-from __future__ import annotations
-
 import os
 import shutil
 

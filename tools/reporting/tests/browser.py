@@ -1,6 +1,4 @@
 """A headless browser, driven over a socket by the protocol of Chromium's developer tools."""
-from __future__ import annotations
-
 import base64
 import contextlib
 import itertools

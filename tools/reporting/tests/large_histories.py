@@ -1,6 +1,4 @@
 """The texts of large histories, which a single queue could have had: `rb_broker replay --chains` accepts them."""
-from __future__ import annotations
-
 import re
 from typing import Iterator
 

@@ -5,8 +5,6 @@ The history is a busy one of 200,000 events, of large_histories.py, and the life
 on a page of 1100 pixels in light colors. All follows from a seed, so the picture changes only with the page, or with
 the fonts. It needs chromium on the path, and pngquant to make the file a third as large.
 """
-from __future__ import annotations
-
 import shutil
 import subprocess
 import sys

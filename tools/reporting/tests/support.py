@@ -1,6 +1,4 @@
 """What several tests need: the figures of a text, the tool within this process or as a command, and a browser."""
-from __future__ import annotations
-
 import re
 import subprocess
 import tempfile

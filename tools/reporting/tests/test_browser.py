@@ -1,7 +1,5 @@
 """The page in a browser: it opens without complaint, its plots tell their values, a job is found, and payloads are
 text."""
-from __future__ import annotations
-
 import time
 from typing import Any
 

@@ -1,6 +1,4 @@
 """tools/report as a command: what it prints, its exit statuses, and what it says about bad input."""
-from __future__ import annotations
-
 import os
 from pathlib import Path
 

@@ -1,6 +1,4 @@
 """The figures of histories, counted by hand."""
-from __future__ import annotations
-
 import unittest
 
 from histories.tests.support import RUN, offer, read, text_of

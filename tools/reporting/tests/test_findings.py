@@ -1,7 +1,5 @@
 """What looks wrong in a history: by itself, and by the last attempt that the report was told; what the program never
 writes."""
-from __future__ import annotations
-
 import unittest
 from pathlib import Path
 

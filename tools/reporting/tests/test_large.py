@@ -1,6 +1,4 @@
 """A report on a large history, with its page: 1,000,000 events within 200 MB, and 30 s of a processor."""
-from __future__ import annotations
-
 import os
 import subprocess
 

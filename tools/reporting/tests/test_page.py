@@ -1,6 +1,4 @@
 """The page as a text: what a payload may spell, what it needs, and which jobs it has."""
-from __future__ import annotations
-
 import json
 import re
 import unittest

@@ -1,6 +1,4 @@
 """The axes of the plots, what they draw, and what they say of each place."""
-from __future__ import annotations
-
 import re
 import unittest
 

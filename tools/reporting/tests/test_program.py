@@ -1,6 +1,4 @@
 """Histories that the program itself wrote, by the examples of the README, and the counts on which both agree."""
-from __future__ import annotations
-
 import json
 import subprocess
 

@@ -1,6 +1,4 @@
 """Runs that follow one another: their order, what does not continue, one life of a job, totals, and dates."""
-from __future__ import annotations
-
 from histories.faults import Damaged
 from histories.files import read_series
 from histories.tests.support import offer, text_of

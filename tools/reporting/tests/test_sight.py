@@ -1,6 +1,4 @@
 """The page as it is seen: at the widths of a telephone and of screens, light and dark."""
-from __future__ import annotations
-
 import math
 
 from reporting.tests.large_histories import history

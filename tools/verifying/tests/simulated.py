@@ -6,7 +6,6 @@ history keeps the order of real time by the way in which it is made.
 import heapq
 import random
 from collections.abc import Sequence
-from typing import Optional
 
 from histories.history import Element
 from verifying.tests.support import Line
@@ -93,7 +92,7 @@ class Simulation:
     def _event(self, client: Client, act: str) -> None:
         self.events.append(f"{client.seat} {self._at} {self._at} {act}")
 
-    def _offer(self, client: Client, expiry: int, payload: str, before: Optional[Element]) -> Element:
+    def _offer(self, client: Client, expiry: int, payload: str, before: Element | None) -> Element:
         element = Element(self._next_id, expiry, self._next_id, expiry, 1, payload)
         if before:
             element = before._replace(id=self._next_id, expiry=expiry, attempt=before.attempt + 1)
@@ -103,7 +102,7 @@ class Simulation:
         self._event(client, " ".join(map(str, ("offer", *element))))
         return element
 
-    def _taken(self, client: Client) -> Optional[Element]:
+    def _taken(self, client: Client) -> Element | None:
         """The element that the client fetches, if one has expired."""
         if not self._queue or self._queue[0][0] > self._at:
             return None

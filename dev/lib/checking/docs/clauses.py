@@ -8,7 +8,7 @@ a sentence says what its clause says is for a reader to judge.
 import re
 from collections import defaultdict
 from pathlib import Path
-from typing import Iterator, Optional
+from typing import Iterator
 
 from defining.tree import SourceFile, Tree
 
@@ -21,7 +21,7 @@ HEADS = {"Public call", "Public type", "Private function"}
 NO_CLAUSES = {"impl", "requires"}
 
 
-def find(top: Path) -> Iterator[Optional[str]]:
+def find(top: Path) -> Iterator[str | None]:
     """Finds the names of docs/PROVED.md below a folder. The fault of one is `CRATE: CALL: NAME is not there`."""
     page, files = (top / "docs/PROVED.md").read_text("utf-8"), Tree(top).files.values()
     definitions = {it.name for file in files if file.path.endswith(".antt") for it in file.items}

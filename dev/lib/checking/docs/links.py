@@ -7,7 +7,7 @@ over.
 import os
 import re
 from pathlib import Path
-from typing import Iterator, Optional
+from typing import Iterator
 
 LINK = re.compile(r"\]\( *<?([^)\s>]+)>?[^)\n]*\)|^ {0,3}\[[^\]\n]+\]: *<?([^\s>]+)", re.M)
 OF_A_HOST = re.compile(r"[a-z][a-z+.-]*:")
@@ -17,7 +17,7 @@ CODE = re.compile(r"(`+)(?:(?!\1).)+\1")
 LEFT_OUT = {".git", "out", "node_modules"}
 
 
-def find(top: Path) -> Iterator[Optional[str]]:
+def find(top: Path) -> Iterator[str | None]:
     """Follows the links of all pages below a folder. The fault of one is `PAGE:LINE: TARGET leads nowhere`."""
     for folder, folders, names in os.walk(top):
         folders[:] = sorted({*folders} - LEFT_OUT)

@@ -6,7 +6,7 @@ order of the table. It is changed by hand.
 import re
 from itertools import zip_longest
 from pathlib import Path
-from typing import Iterator, Optional
+from typing import Iterator
 
 from defining.tree import Unknown
 
@@ -16,7 +16,7 @@ HOP = re.compile(r"^\| (\d+) \| `(rb_\w+)/src/(\w+\.rt)` \| ", re.M)
 TEXT = re.compile(r'<text x="(\d+)"[^>]*>([^<]*)</text>')
 
 
-def find(top: Path) -> Iterator[Optional[str]]:
+def find(top: Path) -> Iterator[str | None]:
     """Compares the picture and the table below a folder, hop by hop."""
     page, picture = ((top / it).read_text("utf-8") for it in (PAGE, PICTURE))
     table = HOP.findall(page.partition(HEADING)[2].partition("\n## ")[0])

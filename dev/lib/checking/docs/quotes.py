@@ -7,7 +7,7 @@ name to its file. A name of a library must stand in code between the blocks. The
 """
 import re
 from pathlib import Path
-from typing import Iterator, Optional
+from typing import Iterator
 
 from defining.items import Item, dedented
 from defining.tree import SourceFile, Tree
@@ -20,7 +20,7 @@ CODE = re.compile(r"`([^`\n]+)`")
 COMMENTS = r"(?: *(?:--|//).*\n)*"
 
 
-def find(top: Path) -> Iterator[Optional[str]]:
+def find(top: Path) -> Iterator[str | None]:
     """Compares the page below a folder. The fault of a quotation is `docs/HEADLINE.md:LINE: REASON`."""
     text, tree = (top / PAGE).read_text("utf-8"), Tree(top)
     count = len(text.split())
@@ -58,7 +58,7 @@ def parted(text: str) -> tuple[str, list[tuple[str, str, list[str]]]]:
     return "".join(pieces[::2]), quotes
 
 
-def quoted(file: Optional[SourceFile], lines: list[str]) -> Optional[Item]:
+def quoted(file: SourceFile | None, lines: list[str]) -> Item | None:
     """The item of a file that these lines quote, if there is one."""
     parts = ("(?:.*\n)+" if it.strip() == ".." else COMMENTS + re.escape(f"{it}\n") for it in lines)
     whole = re.compile("".join(parts) + COMMENTS)

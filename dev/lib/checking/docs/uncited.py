@@ -7,7 +7,7 @@ the answers and invariants that it looks up by name (those of a type `goal.NAME`
 """
 import re
 from pathlib import Path
-from typing import Iterator, Optional
+from typing import Iterator
 
 from defining.items import Item
 from defining.tree import SourceFile
@@ -18,7 +18,7 @@ COMMENT = re.compile("--.*")
 CITED_BY_TACTIC = re.compile(r"crate::(proofs(?:::\w+)+)::([^\s,)]+)")
 
 
-def find(top: Path) -> Iterator[Optional[str]]:
+def find(top: Path) -> Iterator[str | None]:
     """Looks for each definition of a folder's crates. The fault of one is `FILE:LINE: NAME is cited nowhere`."""
     paths = sorted(it.relative_to(top).as_posix() for files in FILES for it in top.glob(f"crates/*/{files}"))
     files = [SourceFile(top, it) for it in paths]

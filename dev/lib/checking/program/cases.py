@@ -5,7 +5,7 @@ import signal
 import subprocess
 from dataclasses import dataclass, field
 from pathlib import Path
-from typing import Iterator, Optional
+from typing import Iterator
 
 from checking.marked import marked
 from serving.server import Server, free_port
@@ -18,18 +18,18 @@ PATIENCE = 120
 # What an audit line counts.
 COUNTED = ("calls", "cleared", "given", "left", "offered", "opening", "removed")
 
-Faults = Iterator[tuple[str, Optional[str]]]  # what was compared, each with what is wrong with it, if anything is
+Faults = Iterator[tuple[str, str | None]]  # what was compared, each with what is wrong with it, if anything is
 
 
 @dataclass(frozen=True)
 class Ended:
     """The exit status of a run, and what it wrote. A run that had to be killed has no status."""
 
-    status: Optional[int]
+    status: int | None
     output: str
     errors: str = ""
 
-    def fault(self, status: int = 0, output: str = "(?s:.*)", errors: str = "") -> Optional[str]:
+    def fault(self, status: int = 0, output: str = "(?s:.*)", errors: str = "") -> str | None:
         """What is not like this, with what the run wrote; or nothing. Texts are patterns."""
         differs = [f"status {self.status}, not {status}"] if self.status != status else []
         differs += ["its output"] if not re.fullmatch(output, self.output) else []
@@ -42,7 +42,7 @@ class Place:
 
     def __init__(self, program: str, room: Path) -> None:
         self.program, self.room = program, room
-        self.server: Optional[Server] = None
+        self.server: Server | None = None
         self._served = (0, "")
 
     def start(self, words: str) -> Server:

@@ -9,7 +9,7 @@ import math
 import select
 import statistics
 import time
-from typing import Iterator, Optional
+from typing import Iterator
 
 from checking.program.cases import Faults, Place, end_of
 from serving.server import Server
@@ -40,7 +40,7 @@ def clients_of(place: Place, words: str, count: int = 1) -> Iterator[list[Sessio
             client.quit()
 
 
-def differ(told: object, wanted: object) -> Optional[str]:
+def differ(told: object, wanted: object) -> str | None:
     """What was told, if it is not what was wanted."""
     return None if told == wanted else f"{told}, not {wanted}"
 
