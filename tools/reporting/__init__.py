@@ -5,7 +5,7 @@ on a terminal and on a page.
     chains.py, findings.py, figures.py         what looks wrong, and all figures of a history
     dates.py, units.py                         moments and numbers as people read them
     tables.py, report_tables.py                what the terminal and the page show alike
-    svg.py, time_axis.py, span_axis.py, plots.py  the plots of the page
+    svg.py, time_axis.py, plots.py             the plots of the page
     head.py, page.py, page.html, page.css, page.js  the page, and what it does in a browser
     readings.js                                tells what a plot shows
 

@@ -15,7 +15,7 @@ from reporting.jobs import lives
 from reporting.plots import Plot, plots_of
 from reporting.report_tables import LIFE, head_of, life_rows, tables_of
 from reporting.svg import HEIGHT
-from reporting.tables import Table
+from reporting.tables import Table, grid
 from reporting.units import counted, number
 
 # A page has the lives of jobs of about this many elements, which are 3 MB.
@@ -31,8 +31,8 @@ def page(figures: Figures) -> str:
         name=escape(figures.name), lines="".join(f"<p>{escape(it)}</p>" for it in head_of(figures)),
         findings=f"<ul>{''.join(map(_finding, figures.findings))}</ul>" if figures.findings else "<p>Nothing.</p>",
         plots="".join(map(_plot, plots)), tables="".join(map(_table, tables_of(figures))),
-        has=f"{number(len(chosen))} of {counted(len(figures.jobs.roots), 'job')}", life=_grid(LIFE, [], 'id="life" hidden'),
-        lives=told_json(figures, chosen, plots), script=script)
+        has=f"{number(len(chosen))} of {counted(len(figures.jobs.roots), 'job')}", script=script,
+        life=grid(LIFE, [], ' id="life" hidden'), lives=told_json(figures, chosen, plots))
 
 
 def chosen_jobs(figures: Figures) -> list[int]:
@@ -87,14 +87,6 @@ def _table(told: Table) -> str:
     rows: Iterable[Sequence[str]] = ([*map(escape, row)] for row in told.rows)
     if told.is_of_jobs:
         rows = ([_link(origin), f"<code>{payload}</code>", *others] for origin, payload, *others in rows)
-    grid = _grid(told.heading, rows, f'class="words-{told.left}"') if told.rows else ""
+    cells = grid(told.heading, rows, f' class="words-{told.left}"') if told.rows else ""
     notes = "".join(f'<p class="note">{escape(it)}</p>' for it in told.notes)
-    return f"<section><h2>{escape(told.title)}</h2>{grid}{notes}</section>\n"
-
-
-def _grid(heading: Iterable[str], rows: Iterable[Iterable[str]], attributes: str) -> str:
-    """A table whose cells are HTML already. A narrow page scrolls it."""
-    top = "".join(f"<th>{escape(it)}</th>" for it in heading)
-    body = "".join("<tr>" + "".join(f"<td>{it}</td>" for it in row) + "</tr>\n" for row in rows)
-    return (f'<div class="scrolled"><table {attributes}><thead><tr>{top}</tr></thead>\n'
-            f"<tbody>{body}</tbody></table></div>")
+    return f"<section><h2>{escape(told.title)}</h2>{cells}{notes}</section>\n"

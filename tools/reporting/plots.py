@@ -7,9 +7,8 @@ from reporting import svg
 from reporting.depth import Depth
 from reporting.figures import Figures
 from reporting.lateness import rank
-from reporting.span_axis import span_ticks
-from reporting.time_axis import TimeAxis
-from reporting.units import counted, span
+from reporting.time_axis import DATE_STEPS, TimeAxis
+from reporting.units import counted, mark, number, span
 
 
 class Plot(NamedTuple):
@@ -46,7 +45,7 @@ def depth_plot(depth: Depth, axis: TimeAxis) -> Plot:
         "depth", "Depth of the queue",
         {"standing": ("in the queue", [*map(y.at, standing)]),
          "expired": ("of these expired, and not given yet", [*map(y.at, expired)])},
-        svg.y_axis(svg.count_ticks(y), "elements"), axis,
+        svg.y_axis(svg.round_ticks(y, svg.COUNT_STEPS, number), "elements"), axis,
         f"The greatest number of each {span(round(axis.width))}, so that no peak is lost.",
         axis.readings((f"{every:,} in the queue", f"{due:,} of these expired")
                       for every, due in zip(standing, expired)))
@@ -75,6 +74,7 @@ def lateness_plot(late: Sequence[Late | None], axis: TimeAxis) -> Plot:
         "lateness", "Lateness over time",
         {"median": ("median", [y.at(it.median) if it else None for it in late]),
          "greatest": ("greatest", [y.at(it.greatest) if it else None for it in late])},
-        svg.y_axis(span_ticks(y), "lateness"), axis, f"Of what was given in each {span(round(axis.width))}.",
+        svg.y_axis(svg.round_ticks(y, DATE_STEPS, mark), "lateness"), axis,
+        f"Of what was given in each {span(round(axis.width))}.",
         axis.readings([f"median {span(it.median)}", f"greatest {span(it.greatest)}", f"of {counted(it.gifts, 'gift')}"]
                       if it else ["nothing was given"] for it in late))

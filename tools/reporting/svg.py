@@ -7,13 +7,13 @@ hides every second label at the bottom.
 """
 import itertools
 from html import escape
-from typing import Iterable, NamedTuple, Sequence
-
-from reporting.units import number
+from typing import Callable, Iterable, NamedTuple, Sequence
 
 HEIGHT, TOP, BOTTOM = 270, 28, 222
 LEFT = 72  # the room for labels at the left, as in page.css
 SHARES = 1000
+MOST_STEPS = 5  # so that words fit on a page for which page.css shows them all
+COUNT_STEPS = tuple(factor * 10**power for power in range(20) for factor in (1, 2, 5))
 
 
 class Scale(NamedTuple):
@@ -36,11 +36,10 @@ class Tick(NamedTuple):
     label: str
 
 
-def steps_of(high: int, most: int) -> list[int]:
-    """Round values from 0 to `high`, some `most` of them: 1, 2 or 5 and zeros apart."""
-    steps = (factor * 10**power for power in itertools.count() for factor in (1, 2, 5))
-    step = next(it for it in steps if it * most >= high)
-    return list(range(0, high + 1, step))
+def round_values(high: int, steps: Iterable[int]) -> range:
+    """Values from 0 to `high`, one of these steps apart, so that they are few."""
+    step = next(it for it in steps if it * MOST_STEPS >= high)
+    return range(0, high + 1, step)
 
 
 def count_scale(values: Iterable[int]) -> Scale:
@@ -48,8 +47,9 @@ def count_scale(values: Iterable[int]) -> Scale:
     return Scale(0, max(1, max(values, default=1)), BOTTOM, TOP)
 
 
-def count_ticks(scale: Scale) -> list[Tick]:
-    return [Tick(scale.at(value), number(value)) for value in steps_of(int(scale.high), 5)]
+def round_ticks(scale: Scale, steps: Iterable[int], label: Callable[[int], str]) -> list[Tick]:
+    """Some round values of a scale from 0 on."""
+    return [Tick(scale.at(it), label(it)) for it in round_values(int(scale.high), steps)]
 
 
 def text(x: float | str, y: float, words: str, kind: str) -> str:

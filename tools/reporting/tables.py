@@ -1,4 +1,5 @@
-"""Tables of texts, and how they look where each letter is as wide as another."""
+"""Tables of texts, and how they look on a page, and where each letter is as wide as another."""
+from html import escape
 from typing import Iterable, NamedTuple, Sequence
 
 
@@ -20,9 +21,17 @@ class Table(NamedTuple):
         return [self.title, *told, *(f"  {note}" for note in self.notes)]
 
 
-def table(heading: Sequence[str], rows: Iterable[Sequence[str]], left: int = 1, indent: str = "  ") -> list[str]:
+def table(heading: Sequence[str], rows: Iterable[Sequence[str]], left: int = 1) -> list[str]:
     """The lines of a table. The first `left` columns begin at one edge, the others, which are numbers, end at one."""
     cells: list[Sequence[str]] = [heading, *rows]
     widths = [max(map(len, column)) for column in zip(*cells)]
-    return [(indent + "  ".join(it.ljust(width) if place < left else it.rjust(width)
-                                for place, (it, width) in enumerate(zip(row, widths)))).rstrip() for row in cells]
+    return [("  " + "  ".join(it.ljust(width) if place < left else it.rjust(width)
+                              for place, (it, width) in enumerate(zip(row, widths)))).rstrip() for row in cells]
+
+
+def grid(heading: Iterable[str], rows: Iterable[Iterable[str]], attributes: str = "") -> str:
+    """A table of a page, whose cells are HTML already. A narrow page scrolls it."""
+    top = "".join(f'<th scope="col">{escape(it)}</th>' for it in heading)
+    body = "".join("<tr>" + "".join(f"<td>{it}</td>" for it in row) + "</tr>\n" for row in rows)
+    return (f'<div class="scrolled"><table{attributes}><thead><tr>{top}</tr></thead>\n'
+            f"<tbody>{body}</tbody></table></div>")

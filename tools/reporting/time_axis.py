@@ -13,7 +13,6 @@ from reporting.units import SECOND, span, unit_of
 
 MINUTE, HOUR, DAY = 60 * SECOND, 3600 * SECOND, 86_400 * SECOND
 MOST_BUCKETS = 200
-MOST_STEPS = 5  # so that words fit on a page for which page.css shows them all
 
 # Round steps of time. All divide the day, or are days.
 DATE_STEPS = (
@@ -50,9 +49,8 @@ class TimeAxis:
 
     def drawn(self) -> str:
         """The axis, with round times since the first event."""
-        length = self._end - self._start
-        step = next(it for it in DATE_STEPS if it * MOST_STEPS >= length)
-        ticks = (Tick(self._scale.at(self._start + it), f"{it / self._size:g}") for it in range(0, length + 1, step))
+        values = svg.round_values(self._end - self._start, DATE_STEPS)
+        ticks = (Tick(self._scale.at(self._start + it), f"{it / self._size:g}") for it in values)
         start = "the first event" if self._clock.offset is None else f"{self._clock.text(self._start, 0)} UTC"
         return svg.x_axis(ticks, f"time since {start} ({self._unit})")
 

@@ -3,7 +3,7 @@ from html import escape
 from pathlib import Path
 
 from reporting.head import head
-from reporting.tables import Table
+from reporting.tables import Table, grid
 from servicing.shown import attention, headline, since, tables
 from servicing.state import Phase, State
 
@@ -36,9 +36,7 @@ def _kind(state: State) -> str:
 
 def _section(table: Table, links: dict[str, str]) -> str:
     """A table, with the links that take the place of its first cells."""
-    heads = "".join(f'<th scope="col">{it}</th>' for it in table.heading)
-    told = ([links.get(first, escape(first)), *(escape(it) for it in more)] for first, *more in table.rows)
-    rows = "".join(f"<tr>{''.join(f'<td>{it}</td>' for it in row)}</tr>\n" for row in told)
+    rows = ([links.get(first, escape(first)), *(escape(it) for it in more)] for first, *more in table.rows)
     notes = "".join(f'<p class="note">{it}</p>' for it in table.notes)
-    return (f'<section id="{table.title.split()[0].lower()}"><h2>{table.title}</h2><div class="scrolled"><table><thead>'
-            f"<tr>{heads}</tr></thead>\n<tbody>{rows}</tbody></table></div>{notes}</section>\n")
+    told = f"<h2>{table.title}</h2>{grid(table.heading, rows)}{notes}"
+    return f'<section id="{table.title.split()[0].lower()}">{told}</section>\n'

@@ -6,11 +6,10 @@ from histories.tests.support import RUN, offer, read, text_of
 from reporting import svg
 from reporting.dates import Clock, nanoseconds_of
 from reporting.plots import depth_plot, lateness_in, lateness_plot, plots_of
-from reporting.span_axis import span_ticks
 from reporting.svg import SHARES, Scale
 from reporting.tests.support import figures
-from reporting.time_axis import TimeAxis
-from reporting.units import SECOND
+from reporting.time_axis import DATE_STEPS, TimeAxis
+from reporting.units import SECOND, mark
 
 EIGHT = "2026-11-26T08:00:00Z"
 
@@ -28,7 +27,7 @@ class SpanAxisTest(unittest.TestCase):
             (1, "0 ns 1 ns"), (38_800_000, "0 ns 10 ms 20 ms 30 ms"), (540 * SECOND, "0 ns 2 min 4 min 6 min 8 min"),
             (2**64 - 1, "0 ns 50,000 d 100,000 d 150,000 d 200,000 d"),
         ):
-            ticks = span_ticks(Scale(0, high, svg.BOTTOM, svg.TOP))
+            ticks = svg.round_ticks(Scale(0, high, svg.BOTTOM, svg.TOP), DATE_STEPS, mark)
             self.assertEqual(" ".join(it.label for it in ticks), told)
             self.assertTrue(all(svg.TOP <= it.place <= svg.BOTTOM for it in ticks))
 
