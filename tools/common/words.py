@@ -27,17 +27,6 @@ def number(kind: Callable[[str], Number], least: Number, most: Number) -> Callab
     return read
 
 
-def whole_number(least: int, most: int) -> Callable[[str], int]:
-    """Reads a number of digits alone, from `least` to `most`."""
-
-    def read(word: str) -> int:
-        if not (word.isascii() and word.isdigit() and least <= int(word) <= most):
-            raise argparse.ArgumentTypeError(f"{word!r} is no number from {least} to {most:,}")
-        return int(word)
-
-    return read
-
-
 def exit_status(name: str, work: Callable[[], int]) -> int:
     """The exit status of a tool by its work, or 2 behind a line that says why it can't be done."""
     for stream in (sys.stdout, sys.stderr):

@@ -1,16 +1,15 @@
 """The settings of tools/service: one table of its options, and what follows from them for servers."""
 import argparse
-import functools
 import ipaddress
 import math
 import os
 import re
 from dataclasses import dataclass, field, fields
 from decimal import Decimal
-from typing import Any, Callable, NoReturn
+from typing import Any, Callable
 
 from common.program import program_named
-from common.words import number, parser_of, whole_number
+from common.words import number, parser_of
 from reporting.units import SECOND
 from servicing.keeper import HISTORY, OPENING
 
@@ -62,7 +61,7 @@ def _address(word: str) -> tuple[str, int]:
     host = "127.0.0.1" if host in ("", "localhost") else host.strip("[]")
     try:
         ipaddress.ip_address(host)
-        return host, whole_number(0, 65_535)(port)
+        return host, int(number(int, 0, 65_535)(port))
     except (ValueError, argparse.ArgumentTypeError):
         raise argparse.ArgumentTypeError(f"{word!r} is no address such as 127.0.0.1:7080") from None
 
@@ -123,15 +122,10 @@ class Settings:
         return [self.program, "serve", *sum(said, ()), *self.policy, "--from", OPENING, "--history", HISTORY]
 
 
-def _refuse(made: argparse.ArgumentParser, message: str) -> NoReturn:
-    """Refuses words in one line."""
-    made.exit(2, f"service: {message}\n")
-
-
 def parser(doc: str | None) -> argparse.ArgumentParser:
     """The parser of all words."""
     made = parser_of("service", doc, "service [--port P] [--folder DIR] [OPTION ..]")
-    made.error = functools.partial(_refuse, made)  # type: ignore[assignment]
+    made.error = lambda message: made.exit(2, f"service: {message}\n")  # type: ignore[assignment,misc]
     retry = made.add_mutually_exclusive_group()
     for it in fields(Settings):
         told = {**it.metadata}
