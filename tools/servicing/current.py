@@ -145,8 +145,7 @@ class Current:
 
     def _cut_silent(self) -> None:
         silent = self._settings.silent
-        ports = silent_ports(self.looks.served, silent / SECOND) if silent is not None else []
-        if silent is not None and ports:
+        if silent is not None and (ports := silent_ports(self.looks.served, silent / SECOND)):
             count, why = self._parts.keeping.cut(ports)
             say("warning", "cut-silent", sessions=count, silent=span_of(silent / SECOND), why=why or None)
 

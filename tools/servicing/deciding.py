@@ -23,7 +23,6 @@ MOMENT = 0.25  # seconds that a client waits for a worker then; at 0.1 it takes 
 class Start(Enum):
     """How a service begins, by what the one before left."""
 
-    FIRST = "first"  # there is no run
     GO_ON = "go on"  # the server of the last run is still there
     COLLECT = "collect"  # it has ended, and its history is held
     CONTINUE = "continue"  # the last run ended in good order, and its history is a file
@@ -31,10 +30,8 @@ class Start(Enum):
     LOST = "lost"  # the last run is lost
 
 
-def how_to_start(last: Run | None, has_history: bool, held: Held | None, is_alive: bool) -> Start:
+def how_to_start(last: Run, has_history: bool, held: Held | None, is_alive: bool) -> Start:
     """`held` is what a keeper of an earlier service holds, and `is_alive` whether the server there still runs."""
-    if last is None:
-        return Start.FIRST
     if has_history:
         return Start.CONTINUE
     if held is not None and held.run == last.number:
@@ -96,8 +93,7 @@ def is_to_prepare(seen: Seen) -> bool:
 
 def is_to_crowd(seen: Seen) -> bool:
     """Whether a run's end is so near that a client which stays for half a minute would hold it up."""
-    left, _ = left_until_end(seen)
-    return left <= _crowd_lasts(seen)
+    return left_until_end(seen)[0] <= _crowd_lasts(seen)
 
 
 def crowd_of(seen: Seen) -> int:
@@ -113,16 +109,14 @@ def sessions_a_second(crowd: int) -> float:
 
 def sessions_to_use_up(seen: Seen) -> int:
     """How many sessions are used up before a run's end: all but those that its clients and the crowd may need."""
-    left, _ = left_until_end(seen)
-    crowded = sessions_a_second(crowd_of(seen)) * min(left, _crowd_lasts(seen))
+    crowded = sessions_a_second(crowd_of(seen)) * min(left_until_end(seen)[0], _crowd_lasts(seen))
     return max(int(seen.sessions.limit - seen.sessions.used - RESERVE - crowded), 0)
 
 
 def _crowd_lasts(seen: Seen) -> float:
     """For how many seconds before a run's end there is a crowd, which uses at most half of the sessions."""
-    left, _ = left_until_end(seen)
     half = seen.sessions.limit / 2 / sessions_a_second(crowd_of(seen))
-    return min(LAST_SESSIONS, 0.8 * (seen.age + left), half)
+    return min(LAST_SESSIONS, 0.8 * (seen.age + left_until_end(seen)[0]), half)
 
 
 def _is_closed(seen: Seen) -> bool:

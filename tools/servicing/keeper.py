@@ -20,6 +20,7 @@ A request is an object of JSON with `do`; the answer is one too, with `fault` if
     drop      holds nothing any more
     end       the same, and ends
 """
+import contextlib
 import json
 import os
 import select
@@ -124,12 +125,9 @@ def main(door: socket.socket, folder: str) -> None:
                 return
             continue
         service.settimeout(None)
-        with service:
-            try:
-                if serve(keeper, service):
-                    return
-            except OSError:
-                pass  # the service has gone
+        with service, contextlib.suppress(OSError):  # the service has gone
+            if serve(keeper, service):
+                return
 
 
 if __name__ == "__main__":

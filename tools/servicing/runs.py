@@ -43,11 +43,7 @@ class Next:
 class Runs:
     def __init__(self, folder: Folder) -> None:
         self.folder = folder
-        self.records: dict[int, Run] = {}
-        for number in folder.numbers():
-            record = folder.run(number)
-            if record is not None:
-                self.records[number] = record
+        self.records = {number: run for number in folder.numbers() if (run := folder.run(number))}
         # Histories of another service may be there, which are never written over.
         self._greatest = max(folder.numbers(), default=0)
 

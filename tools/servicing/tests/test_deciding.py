@@ -30,7 +30,6 @@ class StartTest(unittest.TestCase):
     def test_each_way(self) -> None:
         going = record(7)
         for wanted, last, has_history, held, is_alive in (
-            (Start.FIRST, None, False, None, False),
             (Start.GO_ON, going, False, Held(7, 7, 99, None), True),
             (Start.COLLECT, going, False, Held(7, 7, 99, 0), False),
             (Start.CONTINUE, going, True, Held(7, 7, 99, 0), False),  # killed before the keeper was told to drop it
