@@ -17,7 +17,7 @@ COUNT_STEPS = tuple(factor * 10**power for power in range(20) for factor in (1, 
 
 
 class Scale(NamedTuple):
-    """Puts values from `low` to `high` on places from `start` to `stop`."""
+    """Puts values from `low` to `high`, which is greater, on places from `start` to `stop`."""
 
     low: float
     high: float
@@ -25,7 +25,7 @@ class Scale(NamedTuple):
     stop: float
 
     def at(self, value: float) -> float:
-        share = (value - self.low) / (self.high - self.low) if self.high > self.low else 0.0
+        share = (value - self.low) / (self.high - self.low)
         return round(self.start + share * (self.stop - self.start), 1)
 
 

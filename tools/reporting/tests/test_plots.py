@@ -6,7 +6,7 @@ from histories.tests.support import RUN, offer, read, text_of
 from reporting import svg
 from reporting.dates import Clock, nanoseconds_of
 from reporting.plots import depth_plot, lateness_in, lateness_plot, plots_of
-from reporting.svg import SHARES, Scale
+from reporting.svg import Scale
 from reporting.tests.support import figures
 from reporting.time_axis import DATE_STEPS, TimeAxis
 from reporting.units import SECOND, mark
@@ -96,6 +96,3 @@ class PlotsTest(unittest.TestCase):
         for plot in plots_of(figures(RUN)):
             places = [place for place, _ in plot.readings]
             self.assertEqual((places, places[0]), (sorted(places), 0))
-
-    def test_scale_of_one_value(self) -> None:
-        self.assertEqual(Scale(5, 5, 0, SHARES).at(5), 0)
