@@ -111,8 +111,7 @@ class Browser:
             if message.get("id") == number:
                 if "error" in message:
                     raise AssertionError(f"{method}: {message['error']}")
-                result: dict[str, Any] = message["result"]
-                return result
+                return message["result"]
             self._take(message)
 
     def _take(self, message: dict[str, Any]) -> None:
@@ -130,5 +129,4 @@ class Browser:
                 raise AssertionError("the browser has gone")
             self._rest += some
         text, _, self._rest = self._rest.partition(b"\0")
-        message: dict[str, Any] = json.loads(text)
-        return message
+        return json.loads(text)

@@ -2,15 +2,16 @@
 import re
 import subprocess
 import tempfile
+import time
 import unittest
 from pathlib import Path
-from typing import Sequence
+from typing import Any, Sequence
 
 from checking.testing import RoomTest, call_tool, run_tool
 from histories.tests.support import read
 from reporting import tests
 from reporting.figures import Figures, figures_of
-from reporting.tests.browser import Browser
+from reporting.tests.browser import PATIENCE, Browser
 
 
 def figures(text: str, last: int | None = None) -> Figures:
@@ -49,6 +50,13 @@ class PageTest(unittest.TestCase):
         cls.browser = Browser(tests.BROWSER, cls.room)
         cls.addClassCleanup(cls.browser.end)
 
+    def shows(self, expression: str, expected: Any) -> None:
+        """Waits until the page has answered what was done, if it must."""
+        end = time.monotonic() + PATIENCE
+        while (told := self.browser.value(expression)) != expected and time.monotonic() < end:
+            time.sleep(0.05)
+        self.assertEqual(told, expected)
+
 
 class ReportPageTest(PageTest):
     """Tests of pages of tools/report, none of which complains."""
@@ -71,13 +79,12 @@ class ReportPageTest(PageTest):
 
     def place(self, selector: str) -> list[float]:
         """Left, top, width and height of what a selector names, once it is in sight."""
-        place: list[float] = self.browser.value(f"""(() => {{
+        return self.browser.value(f"""(() => {{
             const it = document.querySelector('{selector}');
             it.scrollIntoView({{ block: "center" }});
             const {{ left, top, width, height }} = it.getBoundingClientRect();
             return [left, top, width, height];
         }})()""")
-        return place
 
 
 def counts(lines: Sequence[str]) -> list[int]:

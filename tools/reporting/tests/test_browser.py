@@ -1,6 +1,5 @@
 """The page in a browser: it opens without complaint, its plots tell their values, a job is found, and payloads are
 text."""
-import time
 from typing import Any
 
 from histories.tests.support import RUN, offer, text_of
@@ -10,7 +9,6 @@ from reporting.tests.test_page import HOSTILE, hostile_text
 ANSWER = "document.getElementById('answer').textContent"
 LIFE = "[...document.querySelectorAll('#life tbody tr')].map((row) => [...row.cells].map((cell) => cell.textContent))"
 READING = "[...document.querySelectorAll('#plot-depth .reading')].map((it) => it.hidden ? null : it.textContent)"
-PATIENCE = 10.0  # seconds
 
 
 class BrowserTest(ReportPageTest):
@@ -29,13 +27,6 @@ class BrowserTest(ReportPageTest):
         self.browser.value("document.getElementById('word').value = ''; document.getElementById('word').focus()")
         self.browser.type(word)
         return str(self.told("#answer"))
-
-    def shows(self, expression: str, expected: Any) -> None:
-        """Waits until the page has answered what was pressed or pointed at, if it must."""
-        end = time.monotonic() + PATIENCE
-        while (told := self.browser.value(expression)) != expected and time.monotonic() < end:
-            time.sleep(0.05)
-        self.assertEqual(told, expected)
 
     def test_jobs_are_found_by_origin_or_payload(self) -> None:
         self.show(RUN)

@@ -1,6 +1,5 @@
 """The page in a browser, which asks a server of this process for states that were written by hand."""
 import dataclasses
-import time
 from typing import Any
 
 from reporting.tests.support import PageTest
@@ -11,7 +10,6 @@ from servicing.site import answer_of
 from servicing.state import Alert, Board, Phase, Queue, Reason, State
 from servicing.tests.support import AT, HELD, connection, first_state, state, troubled_state
 
-PATIENCE = 60.0  # seconds
 WIDTHS, SCHEMES = (420, 1200), ("light", "dark")
 
 STATE, TITLE = "document.querySelector('#state').textContent", "document.title"
@@ -68,12 +66,6 @@ class ServedTest(PageTest):
         """Opens the page of a service in this state."""
         self.board.put(state)
         self.browser.go(f"http://127.0.0.1:{self.server.server_address[1]}/")
-
-    def shows(self, expression: str, expected: Any) -> None:
-        end = time.monotonic() + PATIENCE
-        while (told := self.browser.value(expression)) != expected and time.monotonic() < end:
-            time.sleep(0.05)
-        self.assertEqual(told, expected)
 
     def test_what_it_shows_without_being_loaded_again(self) -> None:
         """What stays the same stays in its place, so that whoever reads or selects is not disturbed."""
