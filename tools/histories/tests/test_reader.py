@@ -72,6 +72,14 @@ class ReaderTest(unittest.TestCase):
         history = read(text_of(offer(0, GREATEST), f"{GREATEST} {GREATEST} {GREATEST} drain {GREATEST} 0"))
         self.assertEqual((history.end, list(history.elements.left_in)), (GREATEST, [1]))
 
+    def test_what_an_act_gave(self) -> None:
+        for act, ids in (
+            ("poll 3", [3]), ("poll none", []), ("take 4", [4]), ("pollfor 160 10 2", [2]), ("pollfor 160 10 none", []),
+            ("drain 5 4 7", [4, 7]), ("drain 5", []), ("peek 4", []), ("remove 9 yes", []), ("clear", []),
+            ("size 1", []), ("offer 4 300 3 100 2 c", []),
+        ):
+            self.assertEqual(acts.given_ids(act.split(" ")), ids, act)
+
     def test_texts_of_nothing(self) -> None:
         for text in ("history 1\nend 0\n", "history 2\nopen 1 11 0\nend 0\n", "history 3\nopen 0 0 0\nend 0\n"):
             self.assertEqual(len(read(text).events), 0)
