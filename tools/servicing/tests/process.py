@@ -95,6 +95,14 @@ class Service:
                     os.kill(int(it), signal.SIGKILL)
 
 
+def until(holds: Callable[[], bool], what: str) -> None:
+    """Waits until something holds."""
+    end = time.monotonic() + PATIENCE
+    while not holds():
+        assert time.monotonic() < end, what
+        time.sleep(0.02)
+
+
 class ServiceTest(RoomTest):
     """A test with a folder of its own, in which services run one after the other at one port."""
 
@@ -134,8 +142,8 @@ class ServiceTest(RoomTest):
 
     def ask(self, *requests: str) -> list[str]:
         """The replies in a session of its own, once a worker serves it; it is begun again if it is not served."""
-        until = time.monotonic() + PATIENCE
-        while time.monotonic() < until:
+        end = time.monotonic() + PATIENCE
+        while time.monotonic() < end:
             with contextlib.suppress(OSError), Session(self.port) as it:
                 if it.ask("AT 0") == "ERR 1 syntax":
                     replies = [it.ask(request) for request in requests]
@@ -154,13 +162,7 @@ class ServiceTest(RoomTest):
 
     def has_left(self, size: int) -> None:
         """So many elements are in the queue. The service's own comes and goes."""
-        self.until(lambda: self.ask("SIZE") == [f"SIZE {size}"], f"{size} elements")
-
-    def until(self, holds: Callable[[], bool], what: str) -> None:
-        until = time.monotonic() + PATIENCE
-        while not holds():
-            self.assertLess(time.monotonic(), until, what)
-            time.sleep(0.02)
+        until(lambda: self.ask("SIZE") == [f"SIZE {size}"], f"{size} elements")
 
     def record(self, run: int, folder: str = "") -> Any:
         """What is written down of a run, once it is."""

@@ -1,16 +1,10 @@
 """Cuts of a server's sessions: those of its clients that are named, and nothing else."""
-import os
-import shutil
-import subprocess
-import sys
 import time
-import unittest
 
-from common.program import TOP
 from servicing.cutting import ROOM, cut_sessions, make_room
 from servicing.sockets import look_at
+from servicing.tests.process import until
 from servicing.visits import Visits
-from serving import PATIENCE
 from serving.server import free_port
 from serving.session import Session
 from serving.testing import ServingTest
@@ -64,9 +58,8 @@ class CutsTest(ServingTest):
         it.fill()
         cut_sessions(server.process.pid, [it.own_port])
         cut_sessions(server.process.pid, [it.own_port], [it.own_port])
-        last, until = self.client(server.port), time.monotonic() + PATIENCE
-        while last.ask("SIZE") != "SIZE 1":
-            self.assertLess(time.monotonic(), until, "the job of the session is not back")
+        last = self.client(server.port)
+        until(lambda: last.ask("SIZE") == "SIZE 1", "the job of the session is back")
 
     def test_a_process_that_has_ended(self) -> None:
         server = self.serve(*OPTIONS)
@@ -85,16 +78,3 @@ class CutsTest(ServingTest):
             self.client(server.port)
             self.assertLess(time.monotonic() - began, 1, number)
         self.assertEqual(len(look_at(server.port)), 251)
-
-    @unittest.skipIf(os.geteuid() or not shutil.which("setpriv"), "it takes root and setpriv to be another user")
-    def test_a_user_who_may_not_cut_is_told_so(self) -> None:
-        server = self.serve(*OPTIONS)
-        it = self.client(server.port)
-        it.ask("SIZE")
-        code = (f"import sys; sys.path.insert(0, {TOP + '/tools'!r}); from servicing.cutting import cut_sessions; "
-                f"print(cut_sessions({server.process.pid}, [{it.own_port}]))")
-        words = ["setpriv", "--reuid=65534", "--regid=65534", "--clear-groups", "--bounding-set=-all",
-                 "--inh-caps=-all", sys.executable, "-S", "-B", "-c", code]
-        ran = subprocess.run(words, capture_output=True, encoding="utf-8", check=False)
-        self.assertRegex(ran.stdout + ran.stderr, r"^\(set\(\), '[A-Z][a-z ]+ (denied|permitted)'\)\n$")
-        self.assertEqual(it.ask("SIZE"), "SIZE 0")

@@ -8,7 +8,7 @@ import time
 from pathlib import Path
 
 from common.program import tested_program
-from servicing.tests.process import ServiceTest
+from servicing.tests.process import ServiceTest, until
 
 JOBS = 2000
 
@@ -97,7 +97,7 @@ class FolderTest(ServiceTest):
                 folder = self.path(f"off{hours}")
                 with self.serving(folder=folder):
                     self.ask("OFFER 1800000000000 reminder")
-                    self.until(lambda: bool(self.record(1, folder)["is_seen"]), "the server shows its moment")
+                    until(lambda: bool(self.record(1, folder)["is_seen"]), "the server shows its moment")
                 told = self.record(1, folder)
                 told["began"].update(boot="another", date=told["began"]["date"] - hours * 3_600_000_000_000)
                 Path(f"{folder}/run-1.json").write_text(json.dumps(told), encoding="ascii")

@@ -122,9 +122,7 @@ class HttpTest(unittest.TestCase):
         self.assertEqual(self.get("/")[0], 200)
         self.assertLess(time.monotonic() - began, 1)
 
-    def test_an_address_that_is_taken_and_others(self) -> None:
-        with self.assertRaisesRegex(OSError, "Address already in use"):
-            HttpServer(("127.0.0.1", self.port), answer)
+    def test_other_addresses(self) -> None:
         for host, names in (("127.0.0.9", {"127.0.0.9", *served.LOCAL_NAMES}), ("0.0.0.0", None)):
             other = HttpServer((host, 0), answer)
             self.assertEqual(other.names, names)

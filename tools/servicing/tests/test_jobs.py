@@ -9,9 +9,8 @@ from examples.tests.processes import Worker
 from histories.history import Element
 from histories.tests.support import offers_in
 from histories.text import Text
-from serving import PATIENCE
 from servicing.opening import PROBE
-from servicing.tests.process import ServiceTest
+from servicing.tests.process import ServiceTest, until
 
 JOBS = 200
 
@@ -36,9 +35,7 @@ class JobsTest(ServiceTest):
             for payload in payloads:
                 self.assertRegex(self.ask(f"OFFER 0 {payload}")[0], "^OFFERED ")
                 time.sleep(0.03)
-            until = time.monotonic() + PATIENCE
-            while time.monotonic() < until and (not noted.exists() or len(noted.read_text().splitlines()) < JOBS):
-                time.sleep(0.1)
+            until(lambda: noted.exists() and len(noted.read_text().splitlines()) >= JOBS, "all jobs are done")
             time.sleep(1)  # in which a job that is run twice would show
         finally:
             reports = [it.stop().lines[-1] for it in workers]

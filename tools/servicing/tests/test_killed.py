@@ -7,7 +7,7 @@ import time
 from collections.abc import Callable
 
 from serving.session import Session
-from servicing.tests.process import Service, ServiceTest
+from servicing.tests.process import Service, ServiceTest, until
 
 
 class KilledTest(ServiceTest):
@@ -75,7 +75,7 @@ class KilledTest(ServiceTest):
             is_over.set()
             for it in clients:
                 it.join()
-        self.until(lambda: self.drain(done) == len(offered), "all jobs are done")  # a rollover may end a session
+        until(lambda: self.drain(done) == len(offered), "all jobs are done")  # a rollover may end a session
         self.ends(service)
         self.assertGreater(len(offered), 100)
         self.assertEqual(sorted(done), sorted(offered))

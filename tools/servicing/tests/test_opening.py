@@ -18,10 +18,6 @@ end 3
 
 
 class LeftTest(unittest.TestCase):
-    def test_what_was_given_has_left(self) -> None:
-        left = left_of(HISTORY)
-        self.assertEqual((left.next_id, left.moment, left.elements), (3, 1000, {b"2": b"1000 2 1000 1 b"}))
-
     def test_each_way_of_leaving(self) -> None:
         offers = "".join(f"1 {at} {at} offer {at} 5 {at} 5 1 p{at}\n" for at in range(10))
         cases: list[tuple[str, list[int]]] = [

@@ -6,7 +6,7 @@ import time
 from pathlib import Path
 
 from serving.session import Session
-from servicing.tests.process import ServiceTest
+from servicing.tests.process import ServiceTest, until
 
 
 class RunsTest(ServiceTest):
@@ -106,5 +106,5 @@ class RunsTest(ServiceTest):
         last = int(self.begin("--keep", "3").all("serving")[0]["run"])
         wanted = {f"run-{last - 1}.json", f"run-{last - 1}.txt.gz", f"run-{last - 2}.json", f"run-{last - 2}.txt.gz",
                   f"run-{last}.json", f"opening-{last}.txt", "id", "lock", "status"}
-        self.until(lambda: set(os.listdir(self.path("runs"))) <= wanted, "old files are gone")
+        until(lambda: set(os.listdir(self.path("runs"))) <= wanted, "old files are gone")
         self.assertEqual(self.record(last - 1)["end"]["why"], "asked")

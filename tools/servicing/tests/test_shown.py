@@ -14,7 +14,7 @@ from unittest import mock
 from checking.testing import run_tool
 from common.program import tested_program
 from servicing.saying import notify
-from servicing.tests.process import ServiceTest
+from servicing.tests.process import ServiceTest, until
 from servicing.tests.test_metrics import PROMTOOL, promtool
 from serving.server import free_port
 
@@ -47,9 +47,9 @@ class ShownTest(ServiceTest):
         service = self.begin("--every", "4s", "--stop-within", "2s", "--http", f"127.0.0.1:{self.page}")
         self.assertEqual(self.get("/health")[0], 200)
         self.offer(20)
-        self.until(lambda: self.metric("offered_total") == 20 and self.metric("elements") == 20, "20 offers")
+        until(lambda: self.metric("offered_total") == 20 and self.metric("elements") == 20, "20 offers")
         service.wait("serving", 2)
-        self.until(lambda: self.metric("runs_total") >= 2, "another run")
+        until(lambda: self.metric("runs_total") >= 2, "another run")
         status, report = self.get("/runs/1")
         self.assertEqual((status, "<h1>" in report), (200, True), report[:200])
         identity = Path(self.path("runs/id")).read_text("utf-8").strip()
@@ -57,7 +57,7 @@ class ShownTest(ServiceTest):
         self.assertEqual(self.metric("offered_total"), 20)
         self.assertEqual(self.metric("lost_runs_total"), 0)
         os.kill(service.server, signal.SIGKILL)
-        self.until(lambda: self.metric("lost_runs_total") == 1 and self.get("/health")[0] == 200, "a lost run")
+        until(lambda: self.metric("lost_runs_total") == 1 and self.get("/health")[0] == 200, "a lost run")
         self.assertEqual(self.metric("lost_run_opening_elements"), 20)
         self.assertEqual(self.metric("offered_total"), 20)
         shown = self.status()
@@ -76,13 +76,6 @@ class ShownTest(ServiceTest):
 
 
 class NotifyingTest(ServiceTest):
-    def test_a_line_for_each_value(self) -> None:
-        with socket.socket(socket.AF_UNIX, socket.SOCK_DGRAM) as it:
-            it.bind(self.path("notify"))
-            with mock.patch.dict(os.environ, NOTIFY_SOCKET=self.path("notify")):
-                notify(READY=1, STATUS="serving, run 1")
-            self.assertEqual(it.recv(4096), b"READY=1\nSTATUS=serving, run 1")
-
     def test_where_nobody_is_told(self) -> None:
         for address in ("", self.path("none")):
             with mock.patch.dict(os.environ, NOTIFY_SOCKET=address):

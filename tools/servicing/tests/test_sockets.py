@@ -54,17 +54,14 @@ class SocketsTest(RoomTest):
             it = connection(**told)
             self.assertEqual((it.is_unread, it.silence), (is_unread, silence), told)
 
-    def test_another_port(self) -> None:
-        self.assertEqual(connections_in(LISTED, 7012), [])
-
     def test_a_kernel_that_tells_nothing_about_connections(self) -> None:
         text = "ESTAB 0 7 127.0.0.1:7011 127.0.0.1:44070 ino:5 sk:1\n"
         self.assertEqual(connections_in(text, 7011), [
             connection(44070, key="127.0.0.1:44070 1", send_queue=7, heard=None, told=None)])
 
-    def test_lines_that_are_none(self) -> None:
-        self.assertEqual(connections_in("", 7011), [])
-        self.assertEqual(connections_in("nonsense\n\n a b\n", 7011), [])
+    def test_lines_that_are_none_of_the_port(self) -> None:
+        for text, port in ((LISTED, 7012), ("", 7011), ("nonsense\n\n a b\n", 7011)):
+            self.assertEqual(connections_in(text, port), [])
 
     def test_where_ss_is_missing_or_fails(self) -> None:
         script = "#!/bin/sh\necho 'Cannot open netlink socket' >&2\nexit 1\n"

@@ -2,8 +2,8 @@
 import time
 
 from servicing.sockets import look_at
+from servicing.tests.process import until
 from servicing.visits import ROOM, Visits
-from serving import PATIENCE
 from serving.session import Session
 from serving.testing import ServingTest
 
@@ -14,25 +14,18 @@ class VisitsTest(ServingTest):
         self.addCleanup(visits.stop)
         return visits
 
-    def test_a_server_ends_by_them(self) -> None:
-        server = self.serve("--workers", 4, "--sessions", 1000)
-        self.visits(server.port)
-        self.assertEqual(server.end().lines[0], "sessions 1000 faults 0 lost 0")
-
     def test_no_more_than_are_asked_for(self) -> None:
         """Each thread may make one more, since they count together."""
         server = self.serve("--workers", 4, "--sessions", 1000)
         visits = self.visits(server.port, 300)
-        until = time.monotonic() + PATIENCE
-        while not visits.are_made:
-            self.assertLess(time.monotonic(), until)
-            time.sleep(0.01)
+        until(lambda: visits.are_made, "all are made")
         self.assertTrue(300 <= visits.count <= 303, visits.count)
         with Session(server.port) as it:
             self.assertEqual(it.ask("SIZE"), "SIZE 0")
 
     def test_clients_find_room_while_no_worker_is_free(self) -> None:
-        """A connection that finds none is tried again after a second. No look lists the visits that wait."""
+        """A connection that finds none is tried again after a second. No look lists the visits that wait, which end at
+        once."""
         server = self.serve("--workers", 1, "--sessions", 1000)
         with Session(server.port) as busy:
             busy.ask("SIZE")
@@ -44,16 +37,8 @@ class VisitsTest(ServingTest):
             with Session(server.port) as client:
                 self.assertLess(time.monotonic() - began, 1)
                 client.send("SIZE")
+                began = time.monotonic()
+                visits.stop()
+                self.assertLess(time.monotonic() - began, 1)
                 busy.ask("QUIT")
                 self.assertEqual(client.heard(), "SIZE 0")
-                visits.stop()
-
-    def test_they_end_at_once(self) -> None:
-        server = self.serve("--workers", 1, "--sessions", 1000)
-        with Session(server.port) as busy:
-            busy.ask("SIZE")
-            visits = self.visits(server.port)
-            time.sleep(0.2)
-            began = time.monotonic()
-            visits.stop()
-            self.assertLess(time.monotonic() - began, 1)

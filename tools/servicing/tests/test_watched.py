@@ -7,7 +7,7 @@ from collections.abc import Callable
 from unittest import mock
 
 from servicing.looking import WINDOW, Looks, Pace, silent_ports
-from servicing.sockets import Connection, look_at
+from servicing.sockets import Connection
 from servicing.tests.support import connection, record
 from serving.server import Server
 from serving.session import Session
@@ -197,21 +197,14 @@ class WatchedTest(ServingTest):
         self.assertTrue(1 < (looks.leaving or 0) <= 5, looks.leaving)
         self.until(looks, lambda: looks.leaving == 0)
 
-    def test_silent_clients(self) -> None:
-        server, looks = self.watch(3, 10)
-        silent, busy = self.ask(server, "SIZE"), self.ask(server, "SIZE")
-        until = time.monotonic() + 1.5
-        while time.monotonic() < until:
-            busy.ask("SIZE")
-            time.sleep(0.05)
-        self.ask(server, "SIZE")
-        self.connect(server, "SIZE")
-        connections = look_at(server.port)
-        self.assertEqual(silent_ports(connections, 1), [silent.own_port])
-        self.assertEqual(silent_ports(connections, 30), [])
-
 
 class SeenTest(unittest.TestCase):
+    def test_silent_clients(self) -> None:
+        """Those over whose sessions nothing came and nothing went, of which a worker has to serve each."""
+        them = [connection(port, heard=heard, told=told, is_served=port != 5) for port, heard, told in (
+            (1, 1500, 1400), (2, 20, 1500), (3, 1500, 20), (4, None, None), (5, 1500, 1500))]
+        self.assertEqual([silent_ports(them, it) for it in (1, 1.4, 1.5)], [[1], [1], []])
+
     def test_who_has_given_up_without_a_request_is_no_client(self) -> None:
         """The service's own visits leave like that, a hundred at a time while a run ends."""
         looks = Looks(1, record(), 4, 20)
