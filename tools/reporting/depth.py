@@ -21,11 +21,6 @@ class Depth:
         self.standing.append(standing)
         self.expired.append(expired)
 
-    def greatest(self, values: array[int]) -> tuple[int, int]:
-        """The greatest of these values, and the moment at which it was first reached."""
-        greatest = max(values)
-        return greatest, self.moments[values.index(greatest)]
-
 
 def depth_of(history: History) -> Depth:
     """Follows the queue from event to event. An element that expires between two events counts from that moment on."""

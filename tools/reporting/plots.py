@@ -25,7 +25,7 @@ class Plot(NamedTuple):
 
     @property
     def drawing(self) -> str:
-        paths = (svg.line_path(kind, svg.stairs(self.axis.places, it)) for kind, (_, it) in self.lines.items())
+        paths = ((kind, svg.stairs(self.axis.places, it)) for kind, (_, it) in self.lines.items())
         return self.upright + self.axis.drawn() + svg.marks(paths)
 
 

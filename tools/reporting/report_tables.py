@@ -62,8 +62,8 @@ def tables_of(figures: Figures) -> Iterator[Table]:
 def _depth(depth: Depth, clock: Clock) -> Table:
     rows = []
     for name, values in (("elements in the queue", depth.standing), ("of these expired", depth.expired)):
-        most, when = depth.greatest(values)
-        rows.append((name, number(most), clock.text(when), number(values[-1])))
+        most = max(values)
+        rows.append((name, number(most), clock.text(depth.moments[values.index(most)]), number(values[-1])))
     return Table("Depth", ("", "greatest", "first at", "at the end"), rows)
 
 

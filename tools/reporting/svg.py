@@ -87,11 +87,8 @@ def stairs(places: Sequence[float], heights: Sequence[float | None]) -> str:
     return "".join(path)
 
 
-def line_path(kind: str, path: str) -> str:
-    return f'<path class="line {kind}" d="{path}"/>'
-
-
-def marks(paths: Iterable[str]) -> str:
-    """Paths whose places are shares."""
+def marks(paths: Iterable[tuple[str, str]]) -> str:
+    """Lines by their kinds, each as a path whose places are shares."""
+    told = "".join(f'<path class="line {kind}" d="{path}"/>' for kind, path in paths)
     return (f'<svg class="marks" viewBox="0 0 {SHARES} {HEIGHT}" preserveAspectRatio="none" width="100%"'
-            f' height="{HEIGHT}">{"".join(paths)}</svg>')
+            f' height="{HEIGHT}">{told}</svg>')

@@ -20,8 +20,6 @@ class FiguresTest(unittest.TestCase):
         ):
             depth = depth_of(read(text))
             self.assertEqual([*map(list, (depth.moments, depth.standing, depth.expired))], [moments, standing, expired])
-        depth = depth_of(read(RUN))
-        self.assertEqual([*map(depth.greatest, (depth.standing, depth.expired))], [(3, 100), (2, 100)])
 
     def test_lateness(self) -> None:
         lateness = figures(RUN).lateness
