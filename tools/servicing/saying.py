@@ -2,6 +2,7 @@
 log collectors read; to systemd how a unit with `Type=notify` is, which elsewhere hears nothing; and signals, which ask
 for the end: they end a wait at once, and nothing else."""
 import contextlib
+import json
 import os
 import re
 import select
@@ -30,10 +31,7 @@ def say(level: str, event: str, **fields: object) -> None:
 
 
 def _quoted(value: str) -> str:
-    if _PLAIN.fullmatch(value):
-        return value
-    escaped = value.replace("\\", "\\\\").replace('"', '\\"').replace("\n", "\\n")
-    return f'"{escaped}"'
+    return value if _PLAIN.fullmatch(value) else json.dumps(value, ensure_ascii=False)
 
 
 def notify(**values: object) -> None:
