@@ -88,8 +88,7 @@ class Settings:
     calls: int = _option("calls of a run, 1 to 1000000", number(int, 1, 1_000_000), 1_000_000, "N")
     wait: int = _option("how long a TAKE or POLLFOR waits at most, %(type)s", _span("0s", "20000s"), "1s")
     delay: int = _option("how long after a failure the job comes back", _span("0s", "213503d"), "30s")
-    rate: int | None = _option(
-        "instead: the time from one attempt's expiry to the next", _span("0s", "213503d"))
+    rate: int | None = _option("instead: the time from one attempt's expiry to the next", _span("0s", "213503d"))
     attempts: int = _option("attempts of a job, 1 to 1000", number(int, 1, 1000), 20, "N")
     timer: str = _option(
         "how the next element is found", str, "heap", None, choices=["list", "heap", "pairing", "wheel"])

@@ -9,6 +9,7 @@ Whatever clients send, or leave out, the service goes on: they are answered from
 kept, alone. The same is always
 answered at the socket `status` in the folder, for `tools/service --status`: who may use the folder may connect there.
 """
+import functools
 import os
 import socket
 from http import HTTPStatus
@@ -30,10 +31,7 @@ PATIENCE = 5.0  # seconds for an answer
 def serve_pages(board: Board, folder: str, http: tuple[str, int] | None) -> None:
     """Shows what is on a board at the socket of a folder, and at an address if there is one. Raises an `Unusable` if
     that can't be had."""
-
-    def answer(path: str) -> Answer | None:
-        return answer_of(board, folder, path)
-
+    answer = functools.partial(answer_of, board, folder)
     if http:
         try:
             HttpServer(http, answer)

@@ -28,9 +28,7 @@ SYSTEM_PYTHON = "/usr/bin/python3"  # for which Debian has the package python3-r
 USABLE = "import sys, redis.asyncio; sys.exit(sys.version_info < (3, 11))"
 AT_ONCE = int(os.environ.get("RB_BROKER_AT_ONCE", 4))
 PORTS = range(26_000, 27_000)  # of which each process has its own
-LONGEST = [
-    f"test_{it}" for it in ("hostile_day", "script", "lost", "cluster", "talks", "gateway", "load", "types")
-]
+LONGEST = [f"test_{it}" for it in ("hostile_day", "script", "lost", "cluster", "talks", "gateway", "load", "types")]
 
 
 def take_other_python() -> None:
