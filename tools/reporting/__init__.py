@@ -2,7 +2,7 @@
 on a terminal and on a page.
 
     depth.py, lateness.py, jobs.py             figures
-    chains.py, findings.py, figures.py         what looks wrong, and all figures of a history
+    findings.py, figures.py                    what looks wrong, and all figures of a history
     dates.py, units.py                         moments and numbers as people read them
     tables.py, report_tables.py                what the terminal and the page show alike
     svg.py, time_axis.py, plots.py             the plots of the page
