@@ -16,6 +16,5 @@
     metrics.py       the numbers of a state, also as Prometheus reads them
     shown.py         a state as texts, for the page, --status and systemd
     page.py, page.css, page.js               the page
-    reports.py       the reports on runs that have ended
-    site.py, http.py what is served of it: always at the socket FOLDER/status, and at an address if --http names one
+    site.py, http.py the site, with reports: always at the socket FOLDER/status, and at an address if --http names one
 """

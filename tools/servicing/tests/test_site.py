@@ -12,7 +12,7 @@ from unittest import mock
 
 from checking.testing import RoomTest
 from histories.tests.support import RUN
-from servicing import reports
+from servicing import site
 from servicing import state as served
 from servicing.folder import Unusable
 from servicing.http import Answer, short_name
@@ -66,7 +66,7 @@ class PathsTest(RoomTest):
 
     def test_reports(self) -> None:
         """Of histories of ended runs that are kept, whole, compressed or not."""
-        self.enterContext(mock.patch.object(reports, "NICENESS", 0))  # so that other tests do not come first
+        self.enterContext(mock.patch.object(site, "NICENESS", 0))  # so that other tests do not come first
         self.board.put(state())
         for number in (8, 10, 12):  # of a run that is not kept, of one that was lost, and of the present one
             self.file(f"run-{number}.txt", RUN)
@@ -83,7 +83,7 @@ class PathsTest(RoomTest):
         self.assertIn("<h1>", answer.text)
         self.assertIn("2026-11-26 05:53:20", answer.text, "the run began 7,600 seconds before 08:00:00.5")
         for name, limit, says in (("MOST_SECONDS", 0.05, "timed out"), ("MOST_BYTES", 10, "larger than 10 bytes")):
-            with mock.patch.object(reports, name, limit):
+            with mock.patch.object(site, name, limit):
                 self.assertIn(says, self.answer("/runs/11").text)
         self.assertEqual(self.answer("/runs/11").status, 200, "what failed is tried again")
 
