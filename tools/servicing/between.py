@@ -25,7 +25,7 @@ def resumed(parts: Parts) -> Current | Next:
     held = parts.keeping.status() if parts.keeping.was_found else None
     server = _held_server(parts, last, held)
     if server is not None:
-        held = Held(server.run, server.run, server.pid, None)
+        held = Held(server.run, server.run)
     history = parts.folder.history(last.number)
     start = how_to_start(last, history is not None, held, server is not None and not server.has_ended)
     say("info", "resume", run=last.number, how=start.value)

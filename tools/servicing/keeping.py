@@ -31,8 +31,6 @@ class Held:
 
     run: int | None
     last: int | None  # the last run whose server it has started
-    pid: int
-    status: int | None  # of the server, once it has ended
 
 
 class Keeping:
@@ -71,7 +69,8 @@ class Keeping:
             raise Unusable(f"no keeper can be started: {fault.strerror}") from None
 
     def status(self) -> Held:
-        return Held(**self._ask("status")[0])
+        told, _ = self._ask("status")
+        return Held(told["run"], told["last"])
 
     def held(self) -> Server:
         """The server that it holds."""

@@ -30,16 +30,16 @@ class StartTest(unittest.TestCase):
     def test_each_way(self) -> None:
         going = record(7)
         for wanted, last, has_history, held, is_alive in (
-            (Start.GO_ON, going, False, Held(7, 7, 99, None), True),
-            (Start.COLLECT, going, False, Held(7, 7, 99, 0), False),
-            (Start.CONTINUE, going, True, Held(7, 7, 99, 0), False),  # killed before the keeper was told to drop it
+            (Start.GO_ON, going, False, Held(7, 7), True),
+            (Start.COLLECT, going, False, Held(7, 7), False),
+            (Start.CONTINUE, going, True, Held(7, 7), False),  # killed before the keeper was told to drop it
             (Start.CONTINUE, record(7, WELL), True, None, False),
             (Start.AGAIN, record(7, LOST), False, None, False),
-            (Start.AGAIN, going, False, Held(None, 6, 0, None), False),  # killed before the server was started
-            (Start.AGAIN, going, False, Held(None, None, 0, None), False),
-            (Start.AGAIN, going, False, Held(6, 6, 98, 0), False),
+            (Start.AGAIN, going, False, Held(None, 6), False),  # killed before the server was started
+            (Start.AGAIN, going, False, Held(None, None), False),
+            (Start.AGAIN, going, False, Held(6, 6), False),
             (Start.LOST, going, False, None, False),
-            (Start.LOST, going, False, Held(None, 7, 0, None), False),
+            (Start.LOST, going, False, Held(None, 7), False),
         ):
             with self.subTest(wanted, held=held):
                 self.assertEqual(how_to_start(last, has_history, held, is_alive), wanted)
