@@ -49,14 +49,10 @@ class HttpServer(socketserver.ThreadingMixIn, socketserver.TCPServer):
             socket.AF_INET6 if ":" in at[0] else socket.AF_INET)
         # A page of a foreign name that leads to this machine (DNS rebinding) gets nothing from a loopback address.
         self.names = {*LOCAL_NAMES, at[0]} if not isinstance(at, str) and is_loopback(at[0]) else None
-        self.answer, self._turn = answer, threading.Lock()
+        self.answer, self.turn = answer, threading.Lock()
         self._open: dict[Any, None] = {}  # connections, the oldest first
         super().__init__(at, _Handler)  # type: ignore[arg-type]
         threading.Thread(target=self.serve_forever, name="http", daemon=True).start()
-
-    def wait_for_turn(self) -> None:
-        with self._turn:
-            time.sleep(1 / MOST_A_SECOND)
 
     def process_request(self, request: Any, client_address: Any) -> None:
         self._open[request] = None
@@ -87,7 +83,8 @@ class _Handler(BaseHTTPRequestHandler):
         if host and self.server.names and host not in self.server.names:
             self.send_error(HTTPStatus.MISDIRECTED_REQUEST)
             return
-        self.server.wait_for_turn()
+        with self.server.turn:
+            time.sleep(1 / MOST_A_SECOND)
         answer = self.server.answer(self.path.partition("?")[0])
         if answer is None:
             self.send_error(HTTPStatus.NOT_FOUND)

@@ -72,11 +72,6 @@ class Runs:
         say("info", "begins-with", history=path, elements=len(left.elements))
         return Next(left, left.moment + age)
 
-    @property
-    def lost(self) -> int:
-        """How many runs were lost since the folder exists."""
-        return self.last.lost if self.last else 0
-
     def past(self) -> tuple[Run, ...]:
         """The runs that have ended, the latest first."""
         return tuple(it for _, it in sorted(self.records.items(), reverse=True) if it.end)

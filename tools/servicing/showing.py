@@ -55,7 +55,7 @@ class Showing:
 
     def show(self) -> None:
         """Puts the present state on the board, and tells systemd its line."""
-        looks, traffic, runs = self.looks, self._counted, self._history.past()
+        looks, traffic, runs, last = self.looks, self._counted, self._history.past(), self._history.last
         if looks:
             traffic = traffic._replace(offered=traffic.offered + looks.offered, left=traffic.left + looks.left)
         # No counter falls, not even if the end of a run corrects it: that would look like a reset.
@@ -64,7 +64,7 @@ class Showing:
             "queue", "clients", "calls", "sessions", "offered_a_second", "left_a_second")}
         self._state = state = replace(
             self._state, at=time.time(), waits_for=self.waits_for, run=self.run, traffic=traffic, runs=runs,
-            lost_runs=self._history.lost, alerts=(*self._raised.values(), *self._alerts(runs)),
+            lost_runs=last.lost if last else 0, alerts=(*self._raised.values(), *self._alerts(runs)),
             unwritten=self.unwritten, **seen)
         self._board.put(state)
         # An end takes as long as --stop-within says, and an opening of many elements its time.
