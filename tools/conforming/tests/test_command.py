@@ -2,7 +2,6 @@
 Each flaw is tried with one case or a few."""
 import os
 import sys
-import unittest
 from pathlib import Path
 
 from checking.testing import RoomTest, run_tool
@@ -75,8 +74,6 @@ class ProgramTest(RoomTest):
         status, lines, errors = conform("--only", "time does not go back", path)
         self.assertEqual((status, lines, len(errors.splitlines())), (2, [], 1), errors)
 
-
-class WordsTest(unittest.TestCase):
     def test_words_that_are_refused(self):
         for words, told in (
             (["/nowhere/broker", "--only", "no such case"], "there is no program /nowhere/broker"),

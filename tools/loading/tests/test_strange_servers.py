@@ -2,7 +2,6 @@
 import json
 import socket
 import threading
-import unittest
 
 from checking.testing import RoomTest, call_tool, run_tool
 
@@ -65,8 +64,6 @@ class StrangeServerTest(RoomTest):
         self.assertEqual((status, lines), (1, []))
         self.assertRegex(errors, r"^load: .*No such file or directory.*\n$")
 
-
-class WordsTest(unittest.TestCase):
     def test_words_that_are_refused(self):
         for words in ("", "--port 0", "--port 65536", "--port x", "--port 1 --clients 0", "--port 1 --rate 0",
                       "--port 1 --rate nan", "--port 1 --delay -1", f"--port 1 --delay {2**64}", "--port 1 --fail 1.5",

@@ -23,7 +23,6 @@ REFUSED = (
     ("is no folder", "package", "--program", "{program}", "--output", "none"),
     # The times of a service need a unit, and its numbers have ranges.
     ("'30' is no time", "service", "--delay", "30"),
-    ("'30000000000' is no time", "service", "--delay", "30000000000"),
     ("not allowed with", "service", "--delay", "1s", "--rate", "1s"),
     ("0 is not from 1 to 65535", "service", "--port", "0"),
     ("17 is not from 1 to 16", "service", "--workers", "17"),
@@ -31,7 +30,6 @@ REFUSED = (
     ("2d is not from 1s to 1d", "service", "--silent", "2d"),
     ("0s is not from 1s to 30d", "service", "--every", "0s"),
     ("unrecognized arguments: --history", "service", "--history", "x"),
-    ("no address", "service", "--http", "here"),
 )
 
 

@@ -21,23 +21,6 @@ def backlog() -> str:
     return text_of(*lines)
 
 
-class SpanAxisTest(unittest.TestCase):
-    def test_labels(self) -> None:
-        for high, told in (
-            (1, "0 ns 1 ns"), (38_800_000, "0 ns 10 ms 20 ms 30 ms"), (540 * SECOND, "0 ns 2 min 4 min 6 min 8 min"),
-            (2**64 - 1, "0 ns 50,000 d 100,000 d 150,000 d 200,000 d"),
-        ):
-            ticks = svg.round_ticks(Scale(0, high, svg.BOTTOM, svg.TOP), DATE_STEPS, mark)
-            self.assertEqual(" ".join(it.label for it in ticks), told)
-            self.assertTrue(all(svg.TOP <= it.place <= svg.BOTTOM for it in ticks))
-
-    def test_a_backlog_of_ten_minutes(self) -> None:
-        plot = plots_of(figures(backlog()))[-1]
-        self.assertEqual(re.findall(r'class="y">([^<]*)<', plot.drawing)[-1], "8 min")
-        # The last of 200 buckets begins at 596.005 s, and has the gifts at 597 to 599 s.
-        self.assertEqual(plot.readings[-1][1], "9.93 min\nmedian 9.97 min\ngreatest 9.98 min\nof 3 gifts")
-
-
 class TimeAxisTest(unittest.TestCase):
     def axis(self, nanoseconds: float, began: str = EIGHT, start: int = 0, most: int = 200) -> TimeAxis:
         """The axis of a run of so many nanoseconds, without dates if none is told."""
@@ -65,6 +48,21 @@ class TimeAxisTest(unittest.TestCase):
 
 
 class PlotsTest(unittest.TestCase):
+    def test_labels_of_spans(self) -> None:
+        for high, told in (
+            (1, "0 ns 1 ns"), (38_800_000, "0 ns 10 ms 20 ms 30 ms"), (540 * SECOND, "0 ns 2 min 4 min 6 min 8 min"),
+            (2**64 - 1, "0 ns 50,000 d 100,000 d 150,000 d 200,000 d"),
+        ):
+            ticks = svg.round_ticks(Scale(0, high, svg.BOTTOM, svg.TOP), DATE_STEPS, mark)
+            self.assertEqual(" ".join(it.label for it in ticks), told)
+            self.assertTrue(all(svg.TOP <= it.place <= svg.BOTTOM for it in ticks))
+
+    def test_a_backlog_of_ten_minutes(self) -> None:
+        plot = plots_of(figures(backlog()))[-1]
+        self.assertEqual(re.findall(r'class="y">([^<]*)<', plot.drawing)[-1], "8 min")
+        # The last of 200 buckets begins at 596.005 s, and has the gifts at 597 to 599 s.
+        self.assertEqual(plot.readings[-1][1], "9.93 min\nmedian 9.97 min\ngreatest 9.98 min\nof 3 gifts")
+
     def test_lateness_in_each_bucket(self) -> None:
         # In thirds of 211 nanoseconds the events at 100 to 170, 200, and 310.
         history = read(RUN)

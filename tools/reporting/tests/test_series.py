@@ -42,9 +42,19 @@ NOT_CONTINUED = [
 ]
 
 
-class RunsTest(ReportTest):
-    """Tests with the files of three runs."""
+LEFT_OUT = "The time between two runs is left out, so later dates are too early by it."
+EIGHT = 1_795_680_000 * SECOND  # 2026-11-26T08:00:00Z
 
+# Words that tell a date, and which one; and words that tell none.
+DATES = {
+    "2026-11-26T08:00:00Z": EIGHT, "2026-11-26 08:00": EIGHT, "2026-11-26T09:00:00.123456+01:00": EIGHT + 123_456_000,
+    "@1795680000": EIGHT, "@1795680000.5": EIGHT + SECOND // 2, "1970-01-01T00:00Z": 0,
+}
+NO_DATES = ["", "now", "2026-02-30T08:00Z", "2026-11-26T25:00Z", "1969-12-31T23:59Z", "1970-01-01T00:30+01:00",
+            "9999-12-31T23:59:59-05:00", "2026-11-26T08:00Zulu", "@", "@-1", "@nan", "@1e999999999"]
+
+
+class SeriesTest(ReportTest):
     def setUp(self) -> None:
         super().setUp()
         self.paths = self.files(RUNS)
@@ -52,8 +62,6 @@ class RunsTest(ReportTest):
     def files(self, texts: list[str]) -> list[str]:
         return [self.file(f"run-{place}.txt", text) for place, text in enumerate(texts, 1)]
 
-
-class SeriesTest(RunsTest):
     def test_totals(self) -> None:
         lines = self.lines(*self.paths)
         self.assertEqual(lines[:2], [
@@ -118,21 +126,6 @@ class SeriesTest(RunsTest):
         self.assertEqual(list(history.elements.roots), [0, 0, 2, 0])
         self.assertEqual(list(history.elements.left_in), [1, 5, 4, 7])
         self.assertEqual([history.run_of(event) for event in range(8)], [1, 1, 1, 1, 2, 2, 2, 3])
-
-
-LEFT_OUT = "The time between two runs is left out, so later dates are too early by it."
-EIGHT = 1_795_680_000 * SECOND  # 2026-11-26T08:00:00Z
-
-# Words that tell a date, and which one; and words that tell none.
-DATES = {
-    "2026-11-26T08:00:00Z": EIGHT, "2026-11-26 08:00": EIGHT, "2026-11-26T09:00:00.123456+01:00": EIGHT + 123_456_000,
-    "@1795680000": EIGHT, "@1795680000.5": EIGHT + SECOND // 2, "1970-01-01T00:00Z": 0,
-}
-NO_DATES = ["", "now", "2026-02-30T08:00Z", "2026-11-26T25:00Z", "1969-12-31T23:59Z", "1970-01-01T00:30+01:00",
-            "9999-12-31T23:59:59-05:00", "2026-11-26T08:00Zulu", "@", "@-1", "@nan", "@1e999999999"]
-
-
-class DatesTest(RunsTest):
     def test_dates_of_a_run(self) -> None:
         archived = self.file("archived.txt", "history 3\nopen 0 1795680000000000000 0\n"
                              "1 1795680060000000000 1795680060000000000 size 0\nend 1\n")

@@ -26,8 +26,8 @@ QUIET = Seen(age=100, every=3600, ending=60, calls=supply(0), sessions=supply(0)
              leaving=None, is_prepared=False)
 
 
-class StartTest(unittest.TestCase):
-    def test_each_way(self) -> None:
+class DecidingTest(unittest.TestCase):
+    def test_how_to_start(self) -> None:
         going = record(7)
         for wanted, last, has_history, held, is_alive in (
             (Start.GO_ON, going, False, Held(7, 7), True),
@@ -44,8 +44,6 @@ class StartTest(unittest.TestCase):
             with self.subTest(wanted, held=held):
                 self.assertEqual(how_to_start(last, has_history, held, is_alive), wanted)
 
-
-class EndTest(unittest.TestCase):
     def test_why_a_run_ends(self) -> None:
         """By what is different from a quiet run, which goes on."""
         late, soon = 10**12 + 31 * 10**9, 10**12 + 29 * 10**9
@@ -95,6 +93,13 @@ class EndTest(unittest.TestCase):
         self.assertEqual(left_until_end(replace(QUIET, sessions=supply(0, 1000, 2)))[0], 380)
         self.assertEqual(left_until_end(QUIET), (3500, Reason.TIME))
 
+    def test_which_runs_are_dropped(self) -> None:
+        """The last two never are."""
+        records = [record(it, End(1000.0 * it, Reason.TIME)) for it in range(1, 10)] + [record(10)]
+        for keep, now, last in ((Keep(4, None), 0, 6), (Keep(1, None), 0, 8), (Keep(50, None), 0, 0),
+                                (Keep(None, 3000 * 10**9), 7500, 4), (Keep(None, 1), 10**6, 8)):
+            self.assertEqual(runs_to_drop(records, keep, now), [*range(1, last + 1)], keep)
+
 
 class CrowdTest(unittest.TestCase):
     """Sessions of the service's own let clients wait, before a run's end."""
@@ -115,15 +120,6 @@ class CrowdTest(unittest.TestCase):
         self.assertEqual(sessions_to_use_up(replace(run, age=3540)), 10_000 - 1000 - 400 - 100 * 40)
         self.assertEqual(sessions_to_use_up(replace(run, age=3590)), 10_000 - 1000 - 400 - 100 * 10)
         self.assertEqual(sessions_to_use_up(replace(run, age=3540, sessions=supply(10, 400))), 0)
-
-
-class KeepTest(unittest.TestCase):
-    def test_which_are_dropped(self) -> None:
-        """The last two never are."""
-        records = [record(it, End(1000.0 * it, Reason.TIME)) for it in range(1, 10)] + [record(10)]
-        for keep, now, last in ((Keep(4, None), 0, 6), (Keep(1, None), 0, 8), (Keep(50, None), 0, 0),
-                                (Keep(None, 3000 * 10**9), 7500, 4), (Keep(None, 1), 10**6, 8)):
-            self.assertEqual(runs_to_drop(records, keep, now), [*range(1, last + 1)], keep)
 
 
 class RecordTest(unittest.TestCase):

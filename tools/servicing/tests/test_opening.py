@@ -17,7 +17,7 @@ end 3
 """
 
 
-class LeftTest(unittest.TestCase):
+class OpeningTest(unittest.TestCase):
     def test_each_way_of_leaving(self) -> None:
         offers = "".join(f"1 {at} {at} offer {at} 5 {at} 5 1 p{at}\n" for at in range(10))
         cases: list[tuple[str, list[int]]] = [
@@ -45,8 +45,6 @@ class LeftTest(unittest.TestCase):
             with self.subTest(text), self.assertRaises((ValueError, IndexError, KeyError)):
                 left_of(text)
 
-
-class OpeningTest(unittest.TestCase):
     def test_the_text_is_a_history_with_no_event(self) -> None:
         made = opening_after(left_of(HISTORY), {}, 5000)
         self.assertEqual(text_of(made), "history 3\nopen 3 5000 1\nkeep 2 1000 2 1000 1 b\nend 0\n")

@@ -35,21 +35,19 @@ class ClockTest(unittest.TestCase):
         self.assertEqual(following.at(reading(up=3712)).moment, 3617 * SECOND)
 
 
-class DurationTest(unittest.TestCase):
-    def test_words(self) -> None:
+class WordsTest(unittest.TestCase):
+    def test_times(self) -> None:
         for word, wanted in (
             ("30s", 30 * SECOND), ("5m", 300 * SECOND), ("1h", 3600 * SECOND), ("7d", 604_800 * SECOND), ("0s", 0),
             ("20ms", 20_000_000), ("3us", 3_000), ("9ns", 9), ("1.5s", 1_500_000_000), ("0.1ms", 100_000),
         ):
             self.assertEqual(nanoseconds_of(word), wanted)
 
-    def test_other_words_are_refused(self) -> None:
+    def test_other_times_are_refused(self) -> None:
         for word in ("30", "s", "", "-1s", "1 s", "1S", "1sec", "1h30m", "1e3s", "١s", "30000000000"):
             with self.subTest(word), self.assertRaisesRegex(argparse.ArgumentTypeError, "such as 30s"):
                 nanoseconds_of(word)
 
-
-class AddressTest(unittest.TestCase):
     def http(self, word: str) -> object:
         with contextlib.redirect_stderr(io.StringIO()) as said:
             try:
@@ -57,7 +55,7 @@ class AddressTest(unittest.TestCase):
             except SystemExit:
                 return said.getvalue()
 
-    def test_words(self) -> None:
+    def test_addresses(self) -> None:
         for word, address in (("7080", ("127.0.0.1", 7080)), ("127.0.0.9:0", ("127.0.0.9", 0)),
                               ("localhost:65535", ("127.0.0.1", 65535)), ("[::1]:7080", ("::1", 7080)),
                               ("0.0.0.0:7080", ("0.0.0.0", 7080))):

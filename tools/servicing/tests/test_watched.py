@@ -229,8 +229,6 @@ class SeenTest(unittest.TestCase):
             looks.count_unseen(2, 1)  # more sessions of the service's own, of which some wait until others are served
             self.assertEqual((looks.unanswered, looks.sessions.used), (0, 3))
 
-
-class PaceTest(unittest.TestCase):
     def test_the_pace_of_the_last_minute(self) -> None:
         pace = Pace()
         self.assertIsNone(pace.a_second)

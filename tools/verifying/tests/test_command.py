@@ -69,10 +69,6 @@ class CommandTest(RunTest):
                             parts[1], parts[0], self.record)
         self.expect_refused("there is no RECORD", *parts)
 
-    def test_damaged_histories(self) -> None:
-        path = self.file("damaged.txt", TEXT.replace("end 13", "end 12"))
-        self.expect_refused(f"{path}: line 16: it tells 12, and the number of events is 13", path, self.record)
-
     def test_damaged_records(self) -> None:
         good = line_of("a 5 12 SIZE = SIZE 1")
         none, early = "no request with its reply, as docs/HISTORY.md describes it", "it was sent or answered before line"
@@ -95,7 +91,8 @@ class CommandTest(RunTest):
             self.expect_refused(f"{path}: {says}", self.history, path)
 
     def test_files_that_can_not_be_read(self) -> None:
-        none = f"{self.room}/none"
+        none, path = f"{self.room}/none", self.file("damaged.txt", TEXT.replace("end 13", "end 12"))
+        self.expect_refused(f"{path}: line 16: it tells 12, and the number of events is 13", path, self.record)
         self.expect_refused(f"{none}: No such file or directory", none, self.record)
         self.expect_refused(f"{none}: No such file or directory", self.history, none)
         self.expect_refused(f"{self.room}: Is a directory", self.history, self.room)

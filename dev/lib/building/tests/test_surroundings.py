@@ -40,11 +40,7 @@ class SurroundingsTest(CheckoutTest):
         self.write("crates/rb_broker/src/main.rt", "grep SigBlk /proc/self/status\n")
         self.assertRegex(self.build()[1], r"^SigBlk:\s0+$")
 
-
-class PlaceTest(CheckoutTest):
-    """Builds of a worktree of git, whose .git is a file, and of a folder that is no repository."""
-
-    def test_in_a_worktree(self) -> None:
+    def test_in_a_worktree_whose_folder_of_git_is_a_file(self) -> None:
         folder = f"{self.stand_in}/worktree"
         os.makedirs(folder)
         os.rmdir(f"{self.top}/.git")

@@ -73,7 +73,7 @@ def counted(tries: Callable[[Tally], object], part: str = "") -> tuple[bool, lis
     return passes, said.getvalue().splitlines()
 
 
-class CountTest(unittest.TestCase):
+class SuitesTest(RoomTest):
     def test_a_tally(self) -> None:
         def tries(tally: Tally) -> None:
             tally.count("a", None)
@@ -113,8 +113,6 @@ class CountTest(unittest.TestCase):
         ):
             self.assertEqual(counted(lambda tally: add(tally, "a", said)), (passes, lines))
 
-
-class RoomTests(RoomTest):
     def test_a_module_that_cannot_be_imported(self) -> None:
         self.file("test_broken.py", "import no_such_module\n")
         with self.assertRaisesRegex(ImportError, "no_such_module"):
