@@ -1,12 +1,8 @@
 """What several tests need, also those of tools that read histories: texts from lines, and what is read from them."""
-import collections
 import io
-from typing import Iterator
 
-from histories.grammar import OFFERED_GROUPS
-from histories.history import Element, History
+from histories.history import History
 from histories.reader import read_history
-from histories.text import Text
 
 # A run behind another, in which each kind of call stands. Elements 0 and 2 are there at the start; 2 is the second
 # attempt of a job whose first one is not in the text.
@@ -41,12 +37,3 @@ def read(text: str) -> History:
 def offer(id: int, expiry: int, payload: str = "a", at: int = 0) -> str:
     """The line of a first attempt."""
     return f"1 {at} {at} offer {id} {expiry} {id} {expiry} 1 {payload}"
-
-
-def offers_in(text: Text) -> Iterator[Element]:
-    """The elements that are offered in a text of the third version."""
-    collections.deque(text.kept(), maxlen=0)
-    for _, line in text.events():
-        if line.lastgroup == "offer":
-            id, expiry, origin, first, attempt, payload = line.group(*OFFERED_GROUPS)
-            yield Element(int(id), int(expiry), int(origin), int(first), int(attempt), payload.decode())

@@ -1,14 +1,10 @@
 """Jobs through several runs, with workers in Perl that leave between two jobs, and with one whose sessions are cut."""
-import gzip
-import io
 import time
 from collections import Counter
 from pathlib import Path
 
 from examples.tests.processes import Worker
-from histories.history import Element
-from histories.tests.support import offers_in
-from histories.text import Text
+from histories.files import read_series
 from servicing.opening import PROBE
 from servicing.tests.process import ServiceTest, until
 
@@ -16,12 +12,6 @@ JOBS = 200
 
 # Runs a job: notes it in FOLDER/delivered, but fails those that end in 7 the first time. $0 is the folder.
 DELIVER = 'case $1 in *7) mkdir "$0/$1" 2> /dev/null && exit 1; esac; echo "$1" >> "$0/delivered"'
-
-
-def offered(path: Path) -> list[Element]:
-    """The elements that are offered in a history, without the service's own."""
-    text = gzip.decompress(path.read_bytes()) if path.suffix == ".gz" else path.read_bytes()
-    return [it for it in offers_in(Text(io.BytesIO(text))) if it.payload != PROBE]
 
 
 class JobsTest(ServiceTest):
@@ -43,8 +33,9 @@ class JobsTest(ServiceTest):
         self.assertGreaterEqual(len(service.all("saved")), 3)
         for report in reports:
             self.assertTrue(report.endswith("dead 0, lost 0, unheard 0"), report)
-        runs = sorted(Path(self.path("runs")).glob("run-*.txt*"))
-        told = Counter(it.payload for run in runs for it in offered(run) if it.attempt == 1)
+        elements = read_series([*map(str, Path(self.path("runs")).glob("run-*.txt*"))]).elements
+        offered = map(elements.element, range(len(elements)))
+        told = Counter(it.payload for it in offered if it.attempt == 1 and it.payload != PROBE)
         self.assertEqual(told, Counter(payloads))
         self.assertEqual(Counter(noted.read_text().splitlines()), Counter(payloads))
         self.assertEqual(service.all("lost-run"), [])
