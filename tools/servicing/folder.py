@@ -60,10 +60,9 @@ class Folder:
         self.id = self._own_id()
 
     def _own_id(self) -> str:
-        with contextlib.suppress(OSError):
-            return self.read("id").decode().strip()
         try:
-            self.write("id", [f"{secrets.token_hex(6)}\n".encode()])
+            if not os.path.exists(self.file("id")):
+                self.write("id", [f"{secrets.token_hex(6)}\n".encode()])
             return self.read("id").decode().strip()
         except OSError as fault:
             raise Unusable(f"{self.path}: {fault.strerror}") from None

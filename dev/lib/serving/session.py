@@ -56,9 +56,11 @@ class Session:
             lines += [self.line() for _ in range(int(lines[0].split(" ")[1]))]
         return lines
 
-    def heard(self) -> str:
-        """The first line of the next reply, nothing if the session has ended, or what went wrong."""
+    def heard(self, *requests: str) -> str:
+        """The first line of the next reply, behind these requests; nothing if the session ended, or what went wrong."""
         try:
+            if requests:
+                self.send(*requests)
             return self.reply()[0]
         except EOFError:
             return ""
@@ -67,11 +69,7 @@ class Session:
 
     def ask(self, request: str) -> str:
         """What is heard of a request."""
-        try:
-            self.send(request)
-        except OSError as fault:
-            return repr(fault)
-        return self.heard()
+        return self.heard(request)
 
     def quit(self) -> None:
         """Ends the session by a request, behind whose reply nothing may come."""
