@@ -19,7 +19,7 @@ def resumed(parts: Parts) -> Current | Next:
     """A server that goes on, or what the next one begins with. Raises an `Unusable`."""
     last, settings = parts.runs.last, parts.settings
     if last is None:
-        return parts.runs.first(settings.begin_with, lambda path: _why_not(settings.program, path))
+        return parts.runs.first(settings.begin_with, lambda path: _replay(settings.program, path))
     if settings.begin_with:
         raise Unusable(f"--from begins an empty folder, and {parts.folder.path} has runs")
     held = parts.keeping.status() if parts.keeping.was_found else None
@@ -57,23 +57,22 @@ def _held_server(parts: Parts, last: Run, held: Held | None) -> Server | None:
 
 def _continued(parts: Parts, last: Run, history: str) -> Next:
     """What follows a run that ended in good order, by the file of its history."""
-    why_not = _why_not(parts.settings.program, history, "--chains", *last.policy)
-    if why_not:
-        raise Unusable(f"{history} can't be continued: {why_not}")
+    _replay(parts.settings.program, history, "--chains", *last.policy)
     if last.end is None:
         write_end(parts, last, End(time.time(), Reason.UNKNOWN))
     return parts.runs.after(last, left_of(history))
 
 
-def _why_not(program: str, path: str, *words: str) -> str:
-    """Why no run can continue a history, or nothing if one can."""
+def _replay(program: str, path: str, *words: str) -> None:
+    """Has a history checked. Raises an `Unusable` if no run can continue it."""
     try:
         with open_history(path) as file:
             ran = subprocess.run([program, "replay", "/dev/stdin", *words], input=file.read(), capture_output=True,
                                  check=False)
     except OSError as fault:
-        return fault.strerror or repr(fault)
-    return "" if ran.returncode == 0 else (ran.stdout + ran.stderr).decode(errors="replace").strip()
+        raise Unusable(f"{path} can't be continued: {fault.strerror or repr(fault)}") from None
+    if ran.returncode:
+        raise Unusable(f"{path} can't be continued: {(ran.stdout + ran.stderr).decode(errors='replace').strip()}")
 
 
 def saved(parts: Parts, run: Current) -> Next:

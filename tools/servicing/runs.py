@@ -58,15 +58,13 @@ class Runs:
         is_unused = last is not None and last.end is None and not self.folder.history(last.number)
         return self._greatest if is_unused else self._greatest + 1
 
-    def first(self, begin_with: str | None, program_accepts: Callable[[str], str]) -> Next:
+    def first(self, begin_with: str | None, replay: Callable[[str], None]) -> Next:
         """What the first run begins with: nothing, what a history left, or what the last history left that a series
         of runs has left in this folder. Raises an `Unusable`."""
         path = begin_with or (self.folder.history(self._greatest) if self._greatest else None)
         if path is None:
             return Next(Left(0, 0, {}), 0)
-        why_not = program_accepts(path)
-        if why_not:
-            raise Unusable(f"{path} can't be continued: {why_not}")
+        replay(path)
         left = left_of(path)
         age = max(time.time_ns() - os.stat(path).st_mtime_ns, 0)
         say("info", "begins-with", history=path, elements=len(left.elements))
