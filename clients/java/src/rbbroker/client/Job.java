@@ -7,7 +7,6 @@ import java.util.concurrent.TimeUnit;
 import java.util.function.Predicate;
 import java.util.regex.Pattern;
 import rbbroker.client.Request.Element;
-import rbbroker.client.Request.Placed;
 
 /**
  * An element of a {@link RemoteDelayQueue}: a payload and the delay after which it may be taken.
@@ -166,11 +165,6 @@ public final class Job implements Delayed {
         Place here = place;
         return "job " + payload + (here == null ? ", not offered"
             : ", id " + Long.toUnsignedString(here.element.id()) + ", attempt " + here.element.attempt());
-    }
-
-    /** A server's queue has accepted it. */
-    void isOffered(Placed placed, Contact contact) {
-        place = new Place(contact, new Element(placed.id(), placed.expiry(), 1, payload));
     }
 
     /** When it expires by {@link System#nanoTime}. */

@@ -1,15 +1,26 @@
 package rbbroker.client;
 
+import static java.util.concurrent.TimeUnit.MILLISECONDS;
+import static java.util.concurrent.TimeUnit.NANOSECONDS;
+
+import java.lang.System.Logger.Level;
 import java.time.Duration;
 import java.util.AbstractQueue;
+import java.util.ArrayList;
 import java.util.Collection;
 import java.util.Iterator;
+import java.util.List;
 import java.util.Objects;
 import java.util.Spliterator;
 import java.util.Spliterators;
 import java.util.concurrent.BlockingQueue;
 import java.util.concurrent.TimeUnit;
+import java.util.function.Function;
+import java.util.function.Supplier;
 import javax.net.ssl.SSLSocketFactory;
+import rbbroker.client.RefusedException.Reason;
+import rbbroker.client.Request.Element;
+import rbbroker.client.Session.Use;
 
 /**
  * The queue of an {@code rb_broker serve}, as a {@link BlockingQueue} that behaves as
@@ -33,12 +44,20 @@ import javax.net.ssl.SSLSocketFactory;
  * server may throw these, and {@link IllegalStateException} once the queue is closed.
  */
 public final class RemoteDelayQueue extends AbstractQueue<Job> implements BlockingQueue<Job>, AutoCloseable {
+    private static final System.Logger LOG = System.getLogger("rbbroker.client");
+    /** The least time from one wait to the next, at a server that gives waits up. */
+    private static final long LEAST_WAIT = MILLISECONDS.toNanos(20);
+    /** What is offered for in 146 years and removed at once, to be told the server's moment. */
+    private static final String PROBE = "rbbroker.client-asks-for-the-moment";
+
     private final Options options;
-    private final Calls calls;
+    private final Runs runs;
+    private final SessionPool pool;
 
     private RemoteDelayQueue(Options options) {
         this.options = options;
-        calls = new Calls(options);
+        runs = new Runs(options.address());
+        pool = new SessionPool(options, runs);
     }
 
     /** How a queue deals with its server, and what makes it. */
@@ -139,7 +158,7 @@ public final class RemoteDelayQueue extends AbstractQueue<Job> implements Blocki
         }
 
         private static long nanos(Duration time) {
-            long nanos = TimeUnit.NANOSECONDS.convert(time);
+            long nanos = NANOSECONDS.convert(time);
             if (nanos <= 0) {
                 throw new IllegalArgumentException("a time is more than 0, not " + time);
             }
@@ -156,8 +175,18 @@ public final class RemoteDelayQueue extends AbstractQueue<Job> implements Blocki
      */
     @Override
     public boolean offer(Job job) {
-        calls.offer(Objects.requireNonNull(job));
-        return true;
+        Objects.requireNonNull(job);
+        return make(Use.CHANGE, session -> {
+            long deadline = job.deadline();
+            long delay = deadline - System.nanoTime();
+            // A job that is overdue keeps its place before those that are less so. That takes the server's clock, as
+            // this session told it: by another server's clock the job might come late.
+            boolean isPlaced = delay < 0 && session.contact.isTold;
+            job.place = new Job.Place(session.contact, isPlaced
+                ? session.ask(Request.offerAt(runs.momentOf(deadline), job.payload()))
+                : offerIn(session, Math.max(0, delay), job.payload()));
+            return true;
+        });
     }
 
     /** As {@link #offer(Job)}: it never waits for room. */
@@ -175,7 +204,7 @@ public final class RemoteDelayQueue extends AbstractQueue<Job> implements Blocki
     /** Takes the job that expired first, or returns {@code null} if none has expired, though some may be there. */
     @Override
     public Job poll() {
-        return calls.poll();
+        return unlessClosed(make(Use.TAKE, session -> taken(session, session.ask(Request.POLL))));
     }
 
     /**
@@ -185,13 +214,33 @@ public final class RemoteDelayQueue extends AbstractQueue<Job> implements Blocki
      */
     @Override
     public Job poll(long timeout, TimeUnit unit) throws InterruptedException {
-        return calls.poll(unit.toNanos(timeout));
+        long deadline = System.nanoTime() + Math.max(0, unit.toNanos(timeout));
+        var tries = new Tries(Use.WAIT, options.patience());
+        while (true) {
+            if (Thread.interrupted()) { // one that comes while the server is asked is put off to here
+                throw new InterruptedException();
+            }
+            try {
+                Session session = pool.lend(Use.WAIT, waitUntil(deadline));
+                if (session != null) {
+                    Job job = waitOnce(session, deadline);
+                    if (job != null || waitUntil(deadline) == 0) {
+                        return unlessClosed(job);
+                    }
+                    tries = new Tries(Use.WAIT, options.patience());
+                } else if (waitUntil(deadline) == 0) {
+                    return poll();
+                }
+            } catch (BrokerException fault) {
+                tries.pauseAfter(fault);
+            }
+        }
     }
 
     /** Takes the job that expired first, and waits until there is one: as {@link #poll(long, TimeUnit)} does. */
     @Override
     public Job take() throws InterruptedException {
-        return calls.poll(Long.MAX_VALUE); // 292 years
+        return poll(Long.MAX_VALUE, NANOSECONDS); // 292 years
     }
 
     /**
@@ -200,7 +249,10 @@ public final class RemoteDelayQueue extends AbstractQueue<Job> implements Blocki
      */
     @Override
     public Job peek() {
-        return calls.peek();
+        return make(Use.LOOK, session -> {
+            Element element = session.ask(Request.PEEK);
+            return element == null ? null : new Job(element, session.contact, null);
+        });
     }
 
     /**
@@ -209,7 +261,9 @@ public final class RemoteDelayQueue extends AbstractQueue<Job> implements Blocki
      */
     @Override
     public boolean remove(Object job) {
-        return job instanceof Job it && calls.remove(it);
+        Job.Place place = job instanceof Job it ? it.place : null;
+        return place != null && make(() -> pool.lend(place.contact()), Use.CHANGE,
+            session -> hasRunOf(place.contact(), session) && session.ask(Request.remove(place.element().id())));
     }
 
     /** Takes each job of a collection out of the queue, one after the other, as {@link #remove(Object)} does. */
@@ -221,13 +275,13 @@ public final class RemoteDelayQueue extends AbstractQueue<Job> implements Blocki
     /** Takes all jobs out of the queue at once, expired or not, whoever offered them. Held jobs are not in it. */
     @Override
     public void clear() {
-        calls.ask(Session.Use.CHANGE, Request.CLEAR);
+        make(Use.CHANGE, session -> session.ask(Request.CLEAR));
     }
 
     /** How many jobs are in the queue, expired or not. Held jobs are not. */
     @Override
     public int size() {
-        long size = calls.ask(Session.Use.LOOK, Request.SIZE);
+        long size = make(Use.LOOK, session -> session.ask(Request.SIZE));
         return size < 0 ? Integer.MAX_VALUE : (int) Math.min(size, Integer.MAX_VALUE);
     }
 
@@ -255,7 +309,16 @@ public final class RemoteDelayQueue extends AbstractQueue<Job> implements Blocki
         if (jobs == this) {
             throw new IllegalArgumentException("a queue can't be drained to itself");
         }
-        return most <= 0 ? 0 : calls.drainTo(jobs, most);
+        int count = 0;
+        while (count < most) {
+            int asked = Math.min(most - count, Session.MOST_HELD);
+            int drained = make(Use.TAKE, session -> drain(session, jobs, asked));
+            count += drained;
+            if (drained < asked || options.acknowledge() == Acknowledge.BY_CALL) {
+                break;
+            }
+        }
+        return count;
     }
 
     /**
@@ -264,7 +327,7 @@ public final class RemoteDelayQueue extends AbstractQueue<Job> implements Blocki
      */
     @Override
     public void close() {
-        calls.close();
+        pool.close();
     }
 
     /** The address of the server. */
@@ -286,5 +349,153 @@ public final class RemoteDelayQueue extends AbstractQueue<Job> implements Blocki
     @Override
     public Spliterator<Job> spliterator() {
         return Spliterators.spliteratorUnknownSize(iterator(), 0);
+    }
+
+    private <T> T make(Use use, Function<Session, T> exchange) {
+        return make(() -> pool.lend(use), use, exchange);
+    }
+
+    /**
+     * Makes a call on a session, and again if that is safe, while the patience lasts: if it was surely not carried out,
+     * or if it only looks or takes, as a job that was given to a session which is lost comes back by itself.
+     */
+    private <T> T make(Supplier<Session> lender, Use use, Function<Session, T> exchange) {
+        Tries tries = new Tries(use, options.patience());
+        while (true) {
+            try {
+                Session session = lender.get();
+                try {
+                    return exchange.apply(session);
+                } finally {
+                    pool.giveBack(session);
+                }
+            } catch (BrokerException fault) {
+                tries.pauseAfter(fault);
+            }
+        }
+    }
+
+    private boolean hasRunOf(Contact contact, Session session) {
+        if (session.contact == contact) {
+            return true;
+        }
+        if (!session.contact.isTold) {
+            session.ask(Request.remove(offerIn(session, Long.MAX_VALUE / 2, PROBE).id()));
+        }
+        return runs.isKnownToContinue(session.contact, contact);
+    }
+
+    /** Makes an offer, whose reply tells the server's moment. */
+    private Element offerIn(Session session, long delay, String payload) {
+        long sent = System.nanoTime();
+        Element element = session.ask(Request.offer(delay, payload));
+        Contact.Told told = new Contact.Told(element.id(), element.expiry() - delay);
+        runs.tell(session.contact, told, sent, System.nanoTime());
+        return element;
+    }
+
+    /** How long a wait at the server may last. */
+    private long waitUntil(long deadline) {
+        return Math.max(0, Math.min(deadline - System.nanoTime(), options.longestWait()));
+    }
+
+    /** Waits at the server once. Returns null if it gave no job, after a pause if it gave the wait up at once. */
+    private Job waitOnce(Session session, long deadline) throws InterruptedException {
+        long asked = System.nanoTime();
+        Job job;
+        try {
+            job = taken(session, session.ask(Request.pollFor(waitUntil(deadline))));
+        } finally {
+            pool.giveBack(session);
+        }
+        if (job == null) {
+            NANOSECONDS.sleep(Math.min(waitUntil(deadline), asked + LEAST_WAIT - System.nanoTime()));
+        }
+        return job;
+    }
+
+    /** The job that a session was given by a call that takes one, or null if it was given none. */
+    private Job taken(Session session, Element element) {
+        Job job = element == null ? null : given(session, element);
+        if (job != null && options.acknowledge() == Acknowledge.ON_TAKE) {
+            settle(session, List.of(Request.answer(element.id(), true)));
+        }
+        return job;
+    }
+
+    /** Adds the jobs of one drain. Those that the collection has are acknowledged, if that is due; others come back. */
+    private int drain(Session session, Collection<? super Job> jobs, int asked) {
+        List<Element> elements = session.ask(Request.drain(asked));
+        if (elements.isEmpty() && session.held.size() >= Session.MOST_HELD) {
+            throw new RefusedException(Reason.TOO_MANY_HELD);
+        }
+        int count = 0;
+        try {
+            for (Element element : elements) {
+                jobs.add(given(session, element));
+                count++;
+            }
+        } finally {
+            List<Request<Boolean>> answers = new ArrayList<>();
+            for (Element element : elements.subList(count, elements.size())) {
+                session.held.remove(element.id());
+                answers.add(Request.answer(element.id(), false));
+            }
+            if (options.acknowledge() == Acknowledge.ON_TAKE) {
+                elements.subList(0, count).forEach(it -> answers.add(Request.answer(it.id(), true)));
+            }
+            settle(session, answers);
+        }
+        return count;
+    }
+
+    /** Answers jobs that the caller has already, or never gets. No fault of that is the caller's. */
+    private void settle(Session session, List<Request<Boolean>> answers) {
+        try {
+            if (!answers.isEmpty()) {
+                session.askAll(answers);
+            }
+        } catch (BrokerException fault) {
+            LOG.log(Level.WARNING, "a job that was taken may be given again: {0}", fault.getMessage());
+        }
+    }
+
+    /** The job of an element that a session was given, which holds it unless it is acknowledged when it is taken. */
+    private Job given(Session session, Element element) {
+        if (options.acknowledge() == Acknowledge.ON_TAKE) {
+            return new Job(element, session.contact, isDone -> {
+                if (!isDone) {
+                    throw new RefusedException(Reason.NOT_HELD);
+                }
+                return false;
+            });
+        }
+        session.held.add(element.id());
+        return new Job(element, session.contact, isDone -> answer(session, element.id(), isDone));
+    }
+
+    /** Answers a job on the session that holds it. Returns whether it comes back. */
+    private boolean answer(Session session, long id, boolean isDone) {
+        pool.lend(session, id);
+        try {
+            boolean comesBack = session.ask(Request.answer(id, isDone));
+            session.held.remove(id);
+            return comesBack;
+        } catch (RefusedException refusal) {
+            if (refusal.reason() != Reason.MEMORY) { // else the job is gone, and its session need not be kept for it
+                session.held.remove(id);
+            }
+            throw refusal;
+        } finally {
+            pool.giveBack(session);
+        }
+    }
+
+    /** The job, unless the queue was closed meanwhile, by which a job that is held went back. */
+    private Job unlessClosed(Job job) {
+        if (job != null && options.acknowledge() == Acknowledge.BY_CALL && pool.isClosed) {
+            throw new IllegalStateException("the queue was closed, and the job that it took went back");
+        }
+        return job;
     }
 }

@@ -46,17 +46,14 @@ record Request<T>(String line, long longestWait, Pattern form, Reader<T> reader)
     /** An element as the server tells it. */
     record Element(long id, long expiry, int attempt, String payload) { }
 
-    /** What became of an element that the queue accepted: its id, and the moment at which it expires. */
-    record Placed(long id, long expiry) { }
-
     /** Adds an element that expires {@code delay} nanoseconds from now. */
-    static Request<Placed> offer(long delay, String payload) {
-        return of("OFFER " + Long.toUnsignedString(delay) + " " + payload, OFFERED, Request::placed);
+    static Request<Element> offer(long delay, String payload) {
+        return of("OFFER " + Long.toUnsignedString(delay) + " " + payload, OFFERED, it -> offered(it, payload));
     }
 
     /** Adds an element that expires at {@code expiry}. */
-    static Request<Placed> offerAt(long expiry, String payload) {
-        return of("OFFERAT " + Long.toUnsignedString(expiry) + " " + payload, OFFERED, Request::placed);
+    static Request<Element> offerAt(long expiry, String payload) {
+        return of("OFFERAT " + Long.toUnsignedString(expiry) + " " + payload, OFFERED, it -> offered(it, payload));
     }
 
     /** Takes a job, and waits for one up to {@code timeout} nanoseconds. Returns null if the server gives up before. */
@@ -79,7 +76,7 @@ record Request<T>(String line, long longestWait, Pattern form, Reader<T> reader)
     static Request<Boolean> answer(long id, boolean isDone) {
         String name = Long.toUnsignedString(id);
         return isDone ? of("DONE " + name, form("DONE " + name), it -> false)
-            : of("FAIL " + name, form("AGAIN # #|DEAD " + name), it -> it.group(1) != null && placed(it) != null);
+            : of("FAIL " + name, form("AGAIN # #|DEAD " + name), it -> it.group(1) != null && offered(it, "") != null);
     }
 
     /** Takes the element of this id out of the queue. Returns whether it was there. */
@@ -124,8 +121,9 @@ record Request<T>(String line, long longestWait, Pattern form, Reader<T> reader)
         return words.group(group) == null ? 0 : Long.parseUnsignedLong(words.group(group));
     }
 
-    private static Placed placed(MatchResult words) {
-        return new Placed(number(words, 1), number(words, 2));
+    /** The first attempt of an element that the queue accepted. */
+    private static Element offered(MatchResult words, String payload) {
+        return new Element(number(words, 1), number(words, 2), 1, payload);
     }
 
     /** What a line tells of an element, or null if it is another line. */
