@@ -1,6 +1,8 @@
 package rbbroker.client;
 
+import java.io.EOFException;
 import java.io.IOException;
+import java.io.InputStream;
 import java.net.ProtocolException;
 import java.util.ArrayList;
 import java.util.List;
@@ -18,6 +20,8 @@ import java.util.regex.Pattern;
  */
 record Request<T>(String line, long longestWait, Pattern form, Reader<T> reader) {
     static final String PAYLOAD = "[!-~]{1,64}";
+    /** Characters of the longest reply line. */
+    private static final int LONGEST_REPLY = 116;
 
     private static final Pattern OFFERED = form("OFFERED # #");
     private static final Pattern AWAITED = form("ITEM @|NONE|STOPPED");
@@ -40,7 +44,7 @@ record Request<T>(String line, long longestWait, Pattern form, Reader<T> reader)
 
     /** Reads a reply, whose first line is of the right form. Further ones can be received. */
     interface Reader<T> {
-        T read(MatchResult first, Connection rest) throws IOException;
+        T read(MatchResult first, InputStream rest) throws IOException;
     }
 
     /** An element as the server tells it. */
@@ -66,7 +70,7 @@ record Request<T>(String line, long longestWait, Pattern form, Reader<T> reader)
         return new Request<>("DRAIN " + most, 0, DRAINED, (first, rest) -> {
             List<Element> elements = new ArrayList<>();
             for (long left = number(first, 1); left > 0; left--) {
-                elements.add(element(matched(ITEM, rest.receiveLine())));
+                elements.add(element(matched(ITEM, receiveLine(rest))));
             }
             return elements;
         });
@@ -85,16 +89,31 @@ record Request<T>(String line, long longestWait, Pattern form, Reader<T> reader)
     }
 
     /** Receives the reply. Throws a {@link RefusedException}, or a {@link ProtocolException} if it is no such reply. */
-    T receive(Connection connection) throws IOException {
-        String line = connection.receiveLine();
+    T receive(InputStream input) throws IOException {
+        String line = receiveLine(input);
         if (RefusedException.BY_REPLY.containsKey(line)) {
             throw new RefusedException(RefusedException.BY_REPLY.get(line));
         }
         try {
-            return reader.read(matched(form, line), connection);
+            return reader.read(matched(form, line), input);
         } catch (IllegalArgumentException wrongNumber) {
             throw new ProtocolException("it sent '" + line + "'");
         }
+    }
+
+    /** The next line, without its line feed. Each byte is a character. */
+    private static String receiveLine(InputStream input) throws IOException {
+        var line = new StringBuilder();
+        for (int it = input.read(); it != '\n'; it = input.read()) {
+            if (it < 0) {
+                throw new EOFException("the server closed the connection");
+            }
+            if (line.length() == LONGEST_REPLY) {
+                throw new ProtocolException("it sent '" + line + "..'");
+            }
+            line.append((char) it);
+        }
+        return line.toString();
     }
 
     /** A request that does not wait, and whose reply is one line. */

@@ -1,14 +1,21 @@
 package rbbroker.client;
 
+import java.io.BufferedInputStream;
 import java.io.IOException;
+import java.io.InputStream;
+import java.net.InetAddress;
+import java.net.InetSocketAddress;
+import java.net.Socket;
 import java.net.SocketTimeoutException;
+import java.nio.charset.StandardCharsets;
 import java.util.List;
 import java.util.Set;
 import java.util.concurrent.ConcurrentHashMap;
 import java.util.concurrent.TimeUnit;
 import java.util.function.BooleanSupplier;
-import java.util.function.Predicate;
 import java.util.stream.Collectors;
+import javax.net.ssl.SSLParameters;
+import javax.net.ssl.SSLSocket;
 import rbbroker.client.RefusedException.Reason;
 
 /**
@@ -57,7 +64,10 @@ final class Session {
     volatile boolean isClosed;
 
     private final Options options;
-    private final Connection connection = new Connection();
+    private final ChannelSocket channel = new ChannelSocket();
+    /** The channel, or TLS over it. */
+    private Socket socket = channel;
+    private InputStream input = channel.getInputStream();
     private long begun;
 
     Session(Options options) {
@@ -68,14 +78,17 @@ final class Session {
     /** Connects, and waits until the session is served, or is no longer wanted. Before that nothing is asked. */
     void open(Runs runs, BooleanSupplier isWanted) throws InterruptedException {
         long sent = System.nanoTime();
-        long deadline = sent + options.patience();
-        Predicate<Boolean> goesOn = isInterrupted -> !(isInterrupted && use == Use.WAIT) && isWanted.getAsBoolean();
+        channel.limitWaits(sent + options.patience(),
+            isInterrupted -> !(isInterrupted && use == Use.WAIT) && isWanted.getAsBoolean());
         String late = "it does not accept the connection";
         try {
-            connection.open(options, deadline, goesOn);
+            channel.connect(new InetSocketAddress(InetAddress.getByName(options.host()), options.port()));
+            if (options.tls() != null) {
+                encrypt();
+            }
             late = "all its workers are busy";
-            connection.send(Request.GREETING.line() + "\n", deadline, goesOn);
-            Request.GREETING.receive(connection);
+            send(Request.GREETING.line() + "\n");
+            Request.GREETING.receive(input);
             begun = System.nanoTime();
             if (begun - sent >= WAIT) {
                 longest = Math.min(longest, LONGEST_TURN);
@@ -92,6 +105,20 @@ final class Session {
                 close();
             }
         }
+    }
+
+    private void encrypt() throws IOException {
+        var tls = (SSLSocket) options.tls().createSocket(channel, options.host(), options.port(), true);
+        socket = tls;
+        SSLParameters parameters = tls.getSSLParameters();
+        parameters.setEndpointIdentificationAlgorithm("HTTPS"); // the other side must be whom this one looks for
+        tls.setSSLParameters(parameters);
+        tls.startHandshake();
+        input = new BufferedInputStream(tls.getInputStream());
+    }
+
+    private void send(String text) throws IOException {
+        socket.getOutputStream().write(text.getBytes(StandardCharsets.US_ASCII));
     }
 
     boolean isServed() {
@@ -111,10 +138,11 @@ final class Session {
         T answer = null;
         RefusedException refusal = null;
         try {
-            connection.send(text, sent + options.patience() + wait, null);
+            channel.limitWaits(sent + options.patience() + wait, null);
+            send(text);
             for (Request<T> it : requests) {
                 try {
-                    answer = it.receive(connection);
+                    answer = it.receive(input);
                 } catch (RefusedException refused) {
                     refusal = refusal == null ? refused : refusal;
                 }
@@ -147,7 +175,11 @@ final class Session {
 
     /** Looks whether it is lost, and if so closes it. */
     boolean isLost() {
-        if (isServed() && !isClosed && connection.isLost()) {
+        try {
+            if (isServed() && !isClosed && channel.receive() < 0) {
+                close();
+            }
+        } catch (IOException ended) {
             close();
         }
         return isClosed;
@@ -170,6 +202,10 @@ final class Session {
     /** Hangs up. */
     private void close() {
         isClosed = true;
-        connection.close();
+        try {
+            socket.close();
+        } catch (IOException ignored) {
+            // there is nothing left that could be lost
+        }
     }
 }
