@@ -12,7 +12,6 @@ class Crew:
 
     def __init__(self, port, count, is_done, **options):
         self._is_done = is_done
-        self._lock = threading.Lock()
         self.handled: list[Job] = []
         options = {"pauses": Pauses(first=0.05, longest=0.2), **options}
         self.workers = [AsyncWorker(self._handle_async, port, **options) if it % 2 else
@@ -31,12 +30,10 @@ class Crew:
 
     def done(self):
         """The payloads of the jobs whose handler returned."""
-        with self._lock:
-            return [it.payload for it in self.handled if self._is_done(it)]
+        return [it.payload for it in [*self.handled] if self._is_done(it)]
 
     def _handle(self, job):
-        with self._lock:
-            self.handled.append(job)
+        self.handled.append(job)
         if not self._is_done(job):
             raise ValueError(f"{job.payload} is to fail")
 

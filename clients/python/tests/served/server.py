@@ -1,4 +1,5 @@
 """What tests have that run clients against servers: the program, or the one that RB_BROKER_PROGRAM names."""
+import asyncio
 import atexit
 import logging
 import subprocess
@@ -9,7 +10,7 @@ import time
 from common.program import TOP, tested_program
 from crew import Crew, run_in_thread
 from history import History
-from rb_broker_client import Broker, Request
+from rb_broker_client import AsyncProducer, Broker, Producer, Request
 from serving import PATIENCE
 from serving.testing import ServingTest
 
@@ -66,6 +67,22 @@ class ServedTest(ServingTest):
                 ids = [it.id for it in broker.ask_all([Request.offer(str(it), delay=delay) for it in piece])]
                 self.assertEqual(ids, sorted(set(ids)))
             broker.quit()
+
+    def produce(self, port, count, **options):
+        """Offers so many jobs, half by a producer, and half by tasks that share another, at the same time."""
+        async def produce_async():
+            async with AsyncProducer(port, **options) as producer:
+                async def offer(first):
+                    for number in range(first, count, 8):
+                        await producer.offer(str(number))
+
+                await asyncio.gather(*(offer(it) for it in (1, 3, 5, 7)))
+
+        other = self.begin(lambda: asyncio.run(produce_async()))
+        with Producer(port, **options) as producer:
+            for number in range(0, count, 2):
+                producer.offer(str(number))
+        other.join(PATIENCE)
 
     def assert_ends(self, server, sessions, history=None, policy=(), faults="0", lost="0"):
         """The server ends well after so many sessions. By the program's own replay the history is legal, its retries

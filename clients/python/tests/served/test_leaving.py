@@ -1,13 +1,13 @@
 """Workers and producers that nobody stops, while servers end, are full or are killed, and are followed by the next."""
-import asyncio
 import logging
 
 from history import History
-from rb_broker_client import AsyncProducer, Broker, FullError, Pauses, Producer, Report, Request
+from rb_broker_client import Broker, FullError, Pauses, Producer, Report, Request
 from server import PATIENCE, ServedTest
 
 POLICY = ("--delay", 1_000_000, "--attempts", 5)
 JOBS, SERVERS, SESSIONS = 1_500, 3, 1_000
+OFFERING = {"patience": 2 * PATIENCE, "session": 0.2, "pauses": Pauses(0.05, 0.2)}
 
 
 def is_done(job):
@@ -31,28 +31,11 @@ class LeavingTest(ServedTest):
         """The server ends once its sessions are used up, though no client is told to leave."""
         return self.assert_cut(server, SESSIONS, self.histories[-1], POLICY, **counts)
 
-    def produce(self, port):
-        """Half of the jobs by a producer, and half by tasks that share another, at the same time."""
-        options = {"patience": 2 * PATIENCE, "session": 0.2, "pauses": Pauses(0.05, 0.2)}
-
-        async def produce_async():
-            async with AsyncProducer(port, **options) as producer:
-                async def offer(first):
-                    for number in range(first, JOBS, 8):
-                        await producer.offer(str(number))
-
-                await asyncio.gather(*(offer(it) for it in (1, 3, 5, 7)))
-
-        other = self.begin(lambda: asyncio.run(produce_async()))
-        with Producer(port, **options) as producer:
-            for number in range(0, JOBS, 2):
-                producer.offer(str(number))
-        other.join(PATIENCE)
-
     def test_jobs_are_done_through_servers_in_a_row(self):
         server = self.serve_run()
         crew = self.gather(server, 3, is_done, session=0.2)
-        producing = self.begin(lambda: self.produce(server.port))
+        port = server.port
+        producing = self.begin(lambda: self.produce(port, JOBS, **OFFERING))
         for number in range(1, SERVERS):
             self.wait_until(lambda: len(crew.done()) >= number * JOBS // (SERVERS + 1), 2 * PATIENCE)
             self.assert_ends_well(server)
@@ -66,7 +49,7 @@ class LeavingTest(ServedTest):
     def test_what_a_full_run_left_is_worked_off_in_the_next(self):
         first = self.serve_run(calls=JOBS)
         crew = self.gather(first, 3, is_done)
-        producing = self.begin(lambda: self.produce(first.port))
+        producing = self.begin(lambda: self.produce(first.port, JOBS, **OFFERING))
         with Broker(first.port, patience=PATIENCE) as broker:
             self.wait_until(lambda: isinstance(broker.ask_all([Request.size()])[0], FullError))
         told = self.assert_ends_well(first, lost="[0-9]+")[0]

@@ -3,7 +3,7 @@ import asyncio
 import threading
 import time
 
-from rb_broker_client import AsyncProducer, AsyncWorker, Broker, Producer, Report, Worker
+from rb_broker_client import AsyncWorker, Broker, Report, Worker
 from rb_broker_client.job import MOST_HELD
 from server import LONGEST, PATIENCE, ServedTest
 
@@ -42,17 +42,7 @@ class ManyJobsTest(ServedTest):
             options = {"session": 0.5, "record": record}
             crews = [self.gather(server, count, lambda job: job.attempt > 1 or int(job.payload) % 5, concurrency=most,
                                  **options) for count, most in ((1, 1), (2, 8))]
-
-            async def offer():
-                async with AsyncProducer(server.port, **options) as producer:
-                    for number in range(1, jobs, 2):
-                        await producer.offer(str(number))
-
-            other = self.begin(lambda: asyncio.run(offer()))
-            with Producer(server.port, **options) as producer:
-                for number in range(0, jobs, 2):
-                    producer.offer(str(number))
-            other.join(PATIENCE)
+            self.produce(server.port, jobs, **options)
             self.wait_until(lambda: sum(len(it.done()) for it in crews) >= jobs)
             counts = [vars(it.stop()) for it in crews]
         self.assert_cut(server, 300)

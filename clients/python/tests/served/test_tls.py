@@ -15,9 +15,7 @@ from pathlib import Path
 
 from encryption import Certificates, Proxy
 from scripted import free_port
-from rb_broker_client import (
-    AsyncBroker, AsyncProducer, Broker, NotOfferedError, Offered, Producer, Report, Request, Worker,
-)
+from rb_broker_client import AsyncBroker, Broker, NotOfferedError, Offered, Producer, Report, Request, Worker
 from server import PATIENCE, TOP, ServedTest, start
 
 JOBS = 200
@@ -53,16 +51,7 @@ class TlsTest(ServedTest):
     def test_jobs_from_their_offers_to_their_ends(self):
         proxy, tls = self.protect(), self.certificates.client()
         crew = self.gather(proxy, 2, lambda job: True, concurrency=8, session=0.3, tls=tls)
-
-        async def offer():
-            async with AsyncProducer(proxy.port, session=0.3, tls=tls) as producer:
-                for number in range(1, JOBS, 2):
-                    await producer.offer(str(number))
-
-        asyncio.run(offer())
-        with Producer(proxy.port, session=0.3, tls=tls) as producer:
-            for number in range(0, JOBS, 2):
-                producer.offer(str(number))
+        self.produce(proxy.port, JOBS, session=0.3, tls=tls)
         self.wait_until(lambda: len(crew.done()) == JOBS)
         self.assertEqual(crew.stop(), Report(done=JOBS))
         self.assertEqual(sorted(crew.done()), sorted(map(str, range(JOBS))))
