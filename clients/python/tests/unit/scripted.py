@@ -7,6 +7,7 @@ import socket
 import tempfile
 import threading
 import unittest
+from pathlib import Path
 
 PATIENCE = 10  # seconds after which a client that does not go on is given up
 
@@ -126,6 +127,11 @@ class ScriptedTest(unittest.TestCase):
         for it in threads:
             it.join(PATIENCE)
             self.assertFalse(it.is_alive())
+
+
+def table(name):
+    """The text of a table of rows or cases, behind what is said about it."""
+    return Path(__file__).with_name(name).read_text("ascii").partition("\n\n")[2]
 
 
 def free_port():

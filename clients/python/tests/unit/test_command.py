@@ -2,12 +2,11 @@
 import contextlib
 import io
 import json
-import os
 import shlex
 import unittest.mock
 
 import rb_broker_client
-from scripted import ScriptedTest, free_port
+from scripted import ScriptedTest, free_port, table
 from rb_broker_client.__main__ import _delay, main
 from rb_broker_client.durations import nanoseconds
 
@@ -83,9 +82,8 @@ class CommandTest(ScriptedTest):
             self.assertRegex(errors, f"^rb_broker_client: 127.0.0.1:{port}: {told}\n$")
 
     def test_words_that_are_wrong(self):
-        with open(os.path.join(os.path.dirname(os.path.realpath(__file__)), "command.txt"), encoding="ascii") as file:
-            rows = [shlex.split(it) for it in file.read().split("\n\n")[1].splitlines()]
-        for words in ([], ["offer", "0", "a\nCLEAR", "--port", "1"], *rows):
+        rows = table("command.txt").splitlines()
+        for words in ([], ["offer", "0", "a\nCLEAR", "--port", "1"], *map(shlex.split, rows)):
             with self.subTest(words=words):
                 status, said, errors = run(*words)
                 self.assertEqual((status, said), (2, ""))

@@ -1,9 +1,9 @@
 """The lines of requests, and the readers of their replies. docs/PROTOCOL.md says what they must send and read."""
-import os
 import unittest
 from datetime import timedelta
 from fractions import Fraction
 
+from scripted import table
 from rb_broker_client import BrokerError, Job, Request
 
 GREATEST = 18_446_744_073_709_551_615
@@ -35,9 +35,7 @@ class ReplyTest(unittest.TestCase):
     """What is sent, or refused before it is, and what is read."""
 
     def test_each_request_and_its_replies(self):
-        with open(os.path.join(os.path.dirname(os.path.realpath(__file__)), "replies.txt"), encoding="ascii") as file:
-            rows = [it.rstrip("\n").split(" | ") for it in file if " | " in it]
-        for line, reply, told in rows:
+        for line, reply, told in (it.split(" | ") for it in table("replies.txt").splitlines()):
             with self.subTest(line=line, reply=reply):
                 request = request_of(line)
                 self.assertEqual(str(request), line)

@@ -1,5 +1,4 @@
 """A server that has lost its run, as its clients notice; and one that goes on, of which nothing is logged."""
-import os
 import threading
 import unittest
 from unittest.mock import Mock
@@ -7,16 +6,14 @@ from unittest.mock import Mock
 from from_threads import for_both_kinds
 from scripted import PATIENCE
 from test_producer import ProducerCase, offer
-from worker_case import A, LAST, WorkerCase
+from worker_case import A, LAST, WorkerCase, paragraphs
 from rb_broker_client import NotOfferedError, Report
 from rb_broker_client.run import Run
 
 
 class RunTest(unittest.TestCase):
     def test_which_sights_tell(self):
-        with open(os.path.join(os.path.dirname(os.path.realpath(__file__)), "sights.txt"), encoding="ascii") as file:
-            cases = [it.splitlines() for it in file.read().strip().split("\n\n")[1:]]
-        for why, *sights in cases:
+        for why, _, sights in paragraphs("sights.txt"):
             run = Run(log := Mock(), "a place")
             for number, sight in enumerate(sights):
                 method, *ids = sight.removesuffix(" lost").split()

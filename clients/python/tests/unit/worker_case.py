@@ -1,10 +1,9 @@
 """Workers of scripted servers, and the handlers that they have."""
-import os
 import threading
 import time
 import unittest.mock
 
-from scripted import PATIENCE, ScriptedTest
+from scripted import PATIENCE, ScriptedTest, table
 from rb_broker_client import Pauses, Report, Worker
 
 AGE = 0.5  # seconds beyond which a session is left: long enough for what is to happen before, on a busy machine too
@@ -21,9 +20,7 @@ def values(words):
 
 def paragraphs(name):
     """The cases of a text table: the name of each, its options, and its lines."""
-    with open(os.path.join(os.path.dirname(os.path.realpath(__file__)), name), encoding="ascii") as file:
-        cases = file.read().split("\n\n")[1:]  # behind what is said about the table
-    for it in cases:
+    for it in table(name).split("\n\n"):
         name, *lines = it.strip().splitlines()
         yield name, values(lines.pop(0)[5:]) if lines[0].startswith("with ") else {}, lines
 
