@@ -32,22 +32,31 @@ class CancelTest(ScriptedTest):
         server = self.play("AT 0; OFFER 5 a > nothing", "AT 0; OFFER 5 b > OFFERED 1 5")
         self.assertEqual(asyncio.run(run(server.port)), Offered(1, 5))
 
-    def test_a_worker_ends_its_session_and_its_jobs(self):
-        ended = []
-
+    def make_hanging(self, port, **options):
+        """A worker whose handler ends once it is cancelled."""
         async def handle(job):
             try:
                 await asyncio.sleep(10 * PATIENCE)
             finally:
-                ended.append(job.payload)
+                self.ended.append(job.payload)
+                self.worker.stop()
 
+        self.ended, self.worker = [], AsyncWorker(handle, port, **options)
+        return self.worker
+
+    def test_the_task_of_a_job_that_takes_longer(self):
+        port = self.play(f"AT 0; {GIVES_A}; FAIL 0 > AGAIN 1 5; QUIT").port
+        self.assertEqual(asyncio.run(self.make_hanging(port, timeout=0.5).run()), Report(again=1))
+        self.assertEqual(self.ended, ["a"])
+
+    def test_a_worker_ends_its_session_and_its_jobs(self):
         async def run(port):
-            working = asyncio.ensure_future(AsyncWorker(handle, port, concurrency=2).run())
+            working = asyncio.ensure_future(self.make_hanging(port, concurrency=2).run())
             await asyncio.get_running_loop().run_in_executor(None, is_waiting.wait, PATIENCE)
             working.cancel()
             with self.assertRaises(asyncio.CancelledError):
                 await working
-            return [*ended]
+            return [*self.ended]
 
         is_waiting = threading.Event()
         self.waits = lambda _: is_waiting.set()

@@ -8,8 +8,8 @@ import time
 import unittest.mock
 
 from from_threads import for_both_kinds
-from scripted import PATIENCE, ScriptedTest
-from worker_case import A, GIVES_A, GIVES_B, LAST, ConcurrencyCase, WorkerCase
+from scripted import PATIENCE
+from worker_case import A, GIVES_B, LAST, ConcurrencyCase, WorkerCase
 from rb_broker_client import AsyncWorker, Job, Report
 
 LATE_A = "WAIT > late: ITEM 0 0 1 a"
@@ -84,22 +84,6 @@ class TimeoutTest(ConcurrencyCase):
 
     def test_one_that_ends_in_time_is_done(self):
         self.assert_reports(Report(done=1), f"{A}; {LAST}", handler=self.handle, concurrency=1, timeout=PATIENCE)
-
-
-class CancelledTest(ScriptedTest):
-    def test_the_task_of_a_job_that_takes_longer_is_cancelled(self):
-        ended = []
-
-        async def handle(job):
-            try:
-                await asyncio.sleep(10 * PATIENCE)
-            finally:
-                ended.append(job.payload)
-                worker.stop()
-
-        worker = AsyncWorker(handle, self.play(f"AT 0; {GIVES_A}; FAIL 0 > AGAIN 1 5; QUIT").port, timeout=LIMIT)
-        self.assertEqual(asyncio.run(worker.run()), Report(again=1))
-        self.assertEqual(ended, ["a"])
 
 
 @for_both_kinds
