@@ -21,8 +21,8 @@ def start_java(name, *words):
     return start(words, stdin=subprocess.PIPE, encoding="ascii")
 
 
-class JavaWorker:
-    """A HostileWorker, with notes of its own."""
+class JavaWorker(test_hostile_day.WorkerProcess):
+    """A HostileWorker, with notes of its own, which begin with a job that it has taken."""
 
     handler = "work"
     may_end = True  # it ends with its standard input, whether it has taken a job or not
@@ -31,15 +31,6 @@ class JavaWorker:
         self.record = notes
         open(notes, "ab").close()
         self._process = start_java("HostileWorker", port, notes)
-
-    @property
-    def has_begun(self):
-        """Whether it has taken a job."""
-        return os.path.getsize(self.record) > 0
-
-    def kill(self):
-        self._process.kill()
-        self._process.communicate()
 
     def stop(self):
         """Ends it in good order. Returns its status."""

@@ -53,8 +53,7 @@ class WorkerProcess:
 
     def kill(self):
         self._process.kill()
-        self._process.wait()
-        self._process.stdout.close()
+        self._process.communicate()
 
     def stop(self):
         """Ends it in good order. Gives its status."""
