@@ -125,22 +125,6 @@ public class ServedTest extends QueueTest {
     }
 
     @Test
-    public void aJobThatWasTakenCanBeOfferedAgain() throws Exception {
-        RemoteDelayQueue queue = serve(2, 1);
-        queue.offer(due("a"));
-        Job job = queue.take();
-        long id = job.id();
-        queue.offer(job);
-        assertTrue(job.id() != id);
-        assertEquals(1, queue.size());
-        job.done();
-        Job other = queue.take();
-        assertEquals(job, other);
-        assertEquals(1, other.attempt());
-        other.done();
-    }
-
-    @Test
     public void aSessionHolds64Jobs() throws Exception {
         serve(2, 2);
         offerBefore(70);

@@ -69,8 +69,33 @@ final class Steps {
     }
 
     private Object result(String[] words) throws InterruptedException {
+        boolean isAlone = words.length == 1;
         try {
-            return call(words);
+            return switch (words[0]) {
+                case "offer" -> queue.offer(made(words));
+                case "offer-again" -> queue.offer(last);
+                case "offer-timed" -> queue.offer(made(words), 0, MILLISECONDS);
+                case "add" -> queue.add(made(words));
+                case "put" -> did(() -> queue.put(made(words)));
+                case "id" -> (isAlone ? last : jobs.get(words[1])).id();
+                case "poll" -> taken(isAlone ? queue.poll() : queue.poll(Long.parseLong(words[1]), MILLISECONDS));
+                case "take" -> taken(queue.take());
+                case "drain" -> drained(isAlone ? Integer.MAX_VALUE : Integer.parseInt(words[1]));
+                case "done" -> did(isAlone ? last::done : named(words[1])::done);
+                case "fail" -> last.fail();
+                case "attempt" -> last.attempt();
+                case "peek" -> shown(queue.peek());
+                case "element" -> shown(queue.element());
+                case "remove" -> isAlone ? taken(queue.remove()) : queue.remove(named(words[1]));
+                case "remove-text" -> queue.remove((Object) words[1]);
+                case "size" -> queue.size();
+                case "empty" -> queue.isEmpty();
+                case "capacity" -> queue.remainingCapacity();
+                case "expires-after" -> last.getDelay(SECONDS) >= Long.parseLong(words[1]);
+                case "clear" -> did(queue::clear);
+                case "sleep" -> did(() -> sleep(Long.parseLong(words[1])));
+                default -> throw new IllegalArgumentException(words[0]);
+            };
         } catch (ServerLostException fault) {
             return fault.getCause() instanceof ProtocolException ? "wrong" : fault.isInDoubt() ? "in doubt" : "lost";
         } catch (RefusedException refusal) {
@@ -78,34 +103,6 @@ final class Steps {
         } catch (NullPointerException | NoSuchElementException fault) {
             return fault.getClass().getSimpleName();
         }
-    }
-
-    private Object call(String[] words) throws InterruptedException {
-        boolean isAlone = words.length == 1;
-        return switch (words[0]) {
-            case "offer" -> queue.offer(made(words));
-            case "offer-timed" -> queue.offer(made(words), 0, MILLISECONDS);
-            case "add" -> queue.add(made(words));
-            case "put" -> did(() -> queue.put(made(words)));
-            case "id" -> jobs.get(words[1]).id();
-            case "poll" -> taken(isAlone ? queue.poll() : queue.poll(Long.parseLong(words[1]), MILLISECONDS));
-            case "take" -> taken(queue.take());
-            case "drain" -> drained(isAlone ? Integer.MAX_VALUE : Integer.parseInt(words[1]));
-            case "done" -> did(isAlone ? last::done : named(words[1])::done);
-            case "fail" -> last.fail();
-            case "attempt" -> last.attempt();
-            case "peek" -> shown(queue.peek());
-            case "element" -> shown(queue.element());
-            case "remove" -> isAlone ? taken(queue.remove()) : queue.remove(named(words[1]));
-            case "remove-text" -> queue.remove((Object) words[1]);
-            case "size" -> queue.size();
-            case "empty" -> queue.isEmpty();
-            case "capacity" -> queue.remainingCapacity();
-            case "expires-after" -> last.getDelay(SECONDS) >= Long.parseLong(words[1]);
-            case "clear" -> did(queue::clear);
-            case "sleep" -> did(() -> sleep(Long.parseLong(words[1])));
-            default -> throw new IllegalArgumentException(words[0]);
-        };
     }
 
     /** A call that may wait, and gives nothing. */
