@@ -9,7 +9,6 @@ import java.net.Socket;
 import java.nio.charset.StandardCharsets;
 import java.util.List;
 import java.util.concurrent.CopyOnWriteArrayList;
-import java.util.concurrent.TimeUnit;
 import java.util.stream.Stream;
 import javax.net.ServerSocketFactory;
 import javax.net.ssl.SSLSocket;
@@ -58,10 +57,8 @@ final class FakeServer implements AutoCloseable {
 
     /** Waits until all scripts were played to their ends, and throws what went wrong in them. */
     void finish() throws Exception {
-        playing.get(Server.PATIENCE, TimeUnit.SECONDS);
-        for (QueueTest.Work<Void> it : plays) {
-            it.get(Server.PATIENCE, TimeUnit.SECONDS);
-        }
+        QueueTest.allOf(List.of(playing), Server.PATIENCE);
+        QueueTest.allOf(plays, Server.PATIENCE);
     }
 
     @Override

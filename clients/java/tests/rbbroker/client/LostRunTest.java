@@ -32,12 +32,14 @@ public class LostRunTest extends QueueTest {
 
     /**
      * Whether the job is removed at a second server, whose clock is behind the first one's, and which gives this id to
-     * what is offered to learn of that.
+     * what is offered to learn of that. If it is asked for the job then, it replies this.
      */
-    private boolean removed(long id, LongSupplier behind, FakeServer.Script rest) throws Exception {
+    private boolean removed(long id, LongSupplier behind, String reply) throws Exception {
         FakeServer.Script second = talk -> {
             talk.greet().accept(id, AHEAD - behind.getAsLong()).hear("REMOVE " + id).say("REMOVED yes");
-            rest.play(talk);
+            if (reply != null) {
+                talk.hear("REMOVE 5").say(reply);
+            }
             talk.hear("QUIT").say("BYE").hearNothing();
         };
         try (FakeServer server = new FakeServer(this::playFirst, second)) {
@@ -56,39 +58,22 @@ public class LostRunTest extends QueueTest {
         }
     }
 
-    private boolean isAsked(long id, LongSupplier behind) throws Exception {
-        FakeServer.Script asked = talk -> talk.hear("REMOVE 5").say("REMOVED yes");
-        return removed(id, behind, asked);
-    }
-
-    private boolean isNotAsked(long id, LongSupplier behind) throws Exception {
-        return !removed(id, behind, talk -> { });
-    }
-
     @Test
-    public void theSameServerIsAskedForTheJob() throws Exception {
-        assertTrue(isAsked(6, () -> 0));
-        assertFalse(removed(6, () -> 0, talk -> talk.hear("REMOVE 5").say("REMOVED no")));
-    }
-
-    @Test
-    public void aServerThatContinuesTheRunIsAskedForTheJob() throws Exception {
-        assertTrue(isAsked(6, () -> lasted / 4));
+    public void theSameServerOrOneThatContinuesTheRunIsAskedForTheJob() throws Exception {
+        assertTrue(removed(6, () -> 0, "REMOVED yes"));
+        assertFalse(removed(6, () -> 0, "REMOVED no"));
+        assertTrue(removed(6, () -> lasted / 4, "REMOVED yes"));
     }
 
     @Test
     public void aServerThatMayHaveLostTheRunIsNotAsked() throws Exception {
         // Neither its ids nor its moments have gone back, but it may have begun where the first one did.
         try (Log log = new Log()) {
-            assertTrue(isNotAsked(50, () -> lasted + MILLISECONDS.toNanos(400)));
+            assertFalse(removed(50, () -> lasted + MILLISECONDS.toNanos(400), null));
             assertEquals(List.of(), log.lines(Level.SEVERE));
             assertEquals(1, log.lines(Level.WARNING).size());
         }
-    }
-
-    @Test
-    public void aServerOfAnotherSeriesIsNotAsked() throws Exception {
-        assertTrue(isNotAsked(50, () -> -MINUTES.toNanos(10)));
+        assertFalse(removed(50, () -> -MINUTES.toNanos(10), null)); // of another series
     }
 
     @Test
@@ -96,7 +81,7 @@ public class LostRunTest extends QueueTest {
         Map<Long, Long> signs = Map.of(5L, 0L, 3L, 0L, 50L, MINUTES.toNanos(30));
         for (Map.Entry<Long, Long> sign : signs.entrySet()) {
             try (Log log = new Log()) {
-                assertTrue(isNotAsked(sign.getKey(), sign::getValue));
+                assertFalse(removed(sign.getKey(), sign::getValue, null));
                 assertEquals(1, log.lines(Level.SEVERE).size());
                 String line = log.lines(Level.SEVERE).get(0);
                 assertTrue(line, line.matches("the server at 127.0.0.1:\\d+ has lost a run: it gave the id \\d+ at the "

@@ -38,24 +38,6 @@ public class TurnsTest extends QueueTest {
         });
     }
 
-    /** Queues that have as many threads at work as they have waiters. */
-    private void startWorkers(int queues, int waiters) {
-        for (int it = 0; it < queues; it++) {
-            RemoteDelayQueue queue = queue(server.port(), waiters, LONG);
-            for (int thread = 0; thread < waiters; thread++) {
-                startWorking(queue, 5, new CountDownLatch(0));
-            }
-        }
-    }
-
-    /** Offers a job, and expects that this takes less than these seconds. */
-    private static void assertOffered(RemoteDelayQueue queue, long seconds) {
-        long begun = System.nanoTime();
-        queue.offer(due("a"));
-        long waited = System.nanoTime() - begun;
-        assertTrue("waited " + waited, waited < SECONDS.toNanos(seconds));
-    }
-
     @Test
     public void aSessionEndsThoughItHoldsOneJobAfterTheOther() throws Exception {
         serve(4);
@@ -107,11 +89,18 @@ public class TurnsTest extends QueueTest {
     @Test
     public void whoeverWaitsForAWorkerOfTheServerHasATurn() throws Exception {
         serve(2);
-        startWorkers(4, 2);
+        for (int it = 0; it < 4; it++) {
+            RemoteDelayQueue queue = queue(server.port(), 2, LONG);
+            startWorking(queue, 5, new CountDownLatch(0));
+            startWorking(queue, 5, new CountDownLatch(0));
+        }
         Thread.sleep(1_000);
         RemoteDelayQueue producer = queue(server.port(), 1, LONG);
         producer.offer(due("a")); // once the first sessions have ended
         Thread.sleep(7_000);
-        assertOffered(producer, 20); // for turns of three seconds each
+        long begun = System.nanoTime();
+        producer.offer(due("a"));
+        long waited = System.nanoTime() - begun;
+        assertTrue("waited " + waited, waited < SECONDS.toNanos(20)); // for turns of three seconds each
     }
 }
