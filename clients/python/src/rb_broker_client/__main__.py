@@ -58,9 +58,7 @@ def main(words: list[str] | None = None) -> int:
     return status
 
 
-def _words_of_each(is_port_needed: bool) -> argparse.ArgumentParser:
-    words = argparse.ArgumentParser(add_help=False)
-    add = words.add_argument
+def _add_words_of_each(add: Callable[..., Any], is_port_needed: bool) -> None:
     add("--port", type=_whole(1, 65_535), required=is_port_needed, metavar="P", help="the server's port")
     add("--host", default="127.0.0.1", metavar="H", help="where it is (default: 127.0.0.1)")
     add("--patience", type=_seconds, default=5.0, metavar="SECONDS",
@@ -70,7 +68,6 @@ def _words_of_each(is_port_needed: bool) -> argparse.ArgumentParser:
     add("--ca", metavar="FILE", help="the certificates whose owners are trusted (default: those of the system)")
     add("--cert", metavar="FILE", help="the certificate that is shown to the server")
     add("--key", metavar="FILE", help="its key, if it is not in the same file")
-    return words
 
 
 def _parser() -> argparse.ArgumentParser:
@@ -81,10 +78,10 @@ def _parser() -> argparse.ArgumentParser:
     commands = parser.add_subparsers(metavar="COMMAND", required=True)
 
     def command(name: str, help: str, run: Callable[..., Iterator[str]], example: str = "") -> Callable[..., Any]:
-        added = commands.add_parser(name, help=help, description=help, parents=[_words_of_each(name != "dead")],
-                                    epilog=f"example: python3 -m {NAME} {name} {example}--port 7011",
-                                    allow_abbrev=False, formatter_class=FORM)
+        added = commands.add_parser(name, help=help, description=help, allow_abbrev=False, formatter_class=FORM,
+                                    epilog=f"example: python3 -m {NAME} {name} {example}--port 7011")
         added.set_defaults(run=run)
+        _add_words_of_each(added.add_argument, name != "dead")
         return added.add_argument
 
     add = command("worker", "calls a function with each job", _work, "letters:deliver --concurrency 8 ")
