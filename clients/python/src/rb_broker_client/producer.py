@@ -44,7 +44,7 @@ class BaseProducer:
         self.waited = 0.0
         """For how many seconds the last session waited until the server had a worker for it."""
         # What follows is changed in turn alone: what leaves an old session changes it too.
-        self._turn: Any = None if self._kind.is_async else threading.Lock()
+        self._turn: Any = asyncio.Lock() if self._kind.is_async else threading.Lock()
         self._session: Session | None = None
         self._process = 0  # the one whose session it is
         self._end = math.inf  # when it is old
@@ -76,7 +76,6 @@ class BaseProducer:
 
     @asynccontextmanager
     async def _in_turn(self, seconds: float = FOR_EVER, what: object = "") -> AsyncIterator[None]:
-        self._turn = self._turn or asyncio.Lock()  # made in the loop that uses it
         if not await self._kind.acquire(self._turn, seconds):
             raise NotOfferedError(f"{what}: other offers took too long")
         try:

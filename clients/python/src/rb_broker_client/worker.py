@@ -161,7 +161,7 @@ class BaseWorker:
 
     def _pause(self) -> float:
         now = time.monotonic()
-        pause = min(self._next_timeout() - now, FOR_EVER)
+        pause = min([FOR_EVER, *(it.began + self._timeout - now for it in self._limited())])
         if self._next_visit > now:
             pause = min(self._next_visit - now, pause)
         if len(self._visits) == 2:
@@ -248,23 +248,17 @@ class BaseWorker:
             self._calls.discard(call)
             if call.work is not None and not call.is_told:
                 call.work.ended(call.job, is_done)
-        if self._next_timeout() <= time.monotonic():
-            self._fail_what_takes_too_long()
-
-    def _next_timeout(self) -> float:
-        if self._timeout == math.inf:
-            return math.inf
-        return min((it.began for it in self._calls if it.work and not it.is_told), default=math.inf) + self._timeout
-
-    def _fail_what_takes_too_long(self) -> None:
-        latest = time.monotonic() - self._timeout
-        for it in self._calls:
-            if it.work is not None and not it.is_told and it.began <= latest:
+        for it in self._limited():
+            if it.work and it.began <= time.monotonic() - self._timeout:
                 log.error("the handler of job %s, attempt %d, takes longer than %g seconds: the job fails",
                           it.job.payload, it.job.attempt, self._timeout)
                 it.is_told = True
                 it.work.ended(it.job, False)
                 it.cancel()
+
+    def _limited(self) -> list[_Call]:
+        # What runs and has a timeout.
+        return [it for it in self._calls if it.work and not it.is_told] if self._timeout < math.inf else []
 
 
 class AsyncWorker(BaseWorker):
