@@ -118,10 +118,10 @@ class Session:
         if self.dialogue.unanswered:
             raise RuntimeError("the wait for a reply was broken off, so that the session can only be closed")
         self.post(*requests)
-        await self._wait_until(lambda: self.is_sent)
         answers = []
         while self.dialogue.unanswered:
-            await self._wait_until(lambda: bool(self.dialogue.answers))
+            while not self.dialogue.answers:
+                await self._wait()
             answer = self._take()
             for it in answer if isinstance(answer, list) else [answer]:
                 if isinstance(it, Job):
@@ -150,16 +150,15 @@ class Session:
         if self._fault is not None:
             raise self._fault
 
-    async def _wait_until(self, is_so: Callable[[], bool]) -> None:
-        # A server reads no further while its replies are not read, so they are kept whatever is waited for.
-        while not is_so():
-            self._demand()
-            events = EVENT_READ if self.is_sent else EVENT_READ | EVENT_WRITE
-            if not await self._kind.ready(self._socket, events, self.patience):
-                raise TimeoutError(f"the server did not answer within {self.patience} seconds")
-            self.is_lost()
-            if not self.is_sent:
-                self.post()
+    async def _wait(self) -> None:
+        # A server reads no further while its replies are not read, so they are read while there is more to send.
+        self._demand()
+        events = EVENT_READ if self.is_sent else EVENT_READ | EVENT_WRITE
+        if not await self._kind.ready(self._socket, events, self.patience):
+            raise TimeoutError(f"the server did not answer within {self.patience} seconds")
+        self.is_lost()
+        if not self.is_sent:
+            self.post()
 
 
 def _asks(make: Callable[Words, Request[Answer]]) -> Callable[
