@@ -1,22 +1,32 @@
 """Sessions with a server: `Broker` blocks, and `AsyncBroker` is for asyncio."""
 from __future__ import annotations
 
+import json
+import logging
+import math
 import socket
 import ssl
+import threading
+import time
+import uuid
+from collections import deque
 from collections.abc import Callable, Coroutine, Iterable
 from contextlib import ExitStack
 from functools import wraps
+from operator import length_hint
 from selectors import EVENT_READ, EVENT_WRITE
 from typing import Any, ClassVar, Concatenate, Self, TextIO
 
-from .dialogue import Dialogue
 from .durations import Duration, seconds
 from .errors import BrokerError, DisconnectedError, UnknownReplyError
-from .job import Job
+from .job import LONGEST_REPLY, Job
 from .request import Answer, Request
 from .waiting import Blocking, Kind, Looping, Words, blocking, run
 
+log = logging.getLogger(__name__)
+
 _NOT_NOW = (BlockingIOError, ssl.SSLWantReadError, ssl.SSLWantWriteError)
+_RECORDING = threading.Lock()  # clients of several threads may write to one file
 
 
 class Session:
@@ -28,14 +38,20 @@ class Session:
     def __init__(self, port: int, host: str = "127.0.0.1", patience: Duration | None = None, *,
                  tls: ssl.SSLContext | None = None, record: TextIO | None = None) -> None:
         """A reply that does not come within `patience` raises `TimeoutError`. With `tls` the connection is encrypted,
-        and the certificates are those of this context. To `record`, a text file, a line is added for each request and
-        its reply."""
+        and the certificates are those of this context. To `record`, a text file, a line is added for each request once
+        it has its answer, or at the end: when it was sent, when its reply had come (null if that never came), its line,
+        and the reply's lines."""
         self._port, self._host, self._tls = port, host, tls
         self.patience = None if patience is None else seconds(patience)
         self._fault: Exception | None = RuntimeError("the broker is not connected")
+        self._record, self._name = record, uuid.uuid4().hex
         self._unsent = bytearray()
-        self.dialogue, self.at_end = Dialogue(record), ExitStack()
-        self.at_end.callback(self.dialogue.end)
+        self._due: deque[tuple[Request[Any], int]] = deque()  # requests without an answer, with when each was sent
+        self._lines: deque[bytes] = deque()  # that came, and are not taken for a reply
+        self._rest, self._came = b"", 0  # of a line of which more is to come, and when that came
+        self._is_unclear = False  # which line answers which request, after an unknown reply
+        self._answers: deque[Any] = deque()  # that nobody has taken yet, each refusal in its place
+        self.at_end = ExitStack()
         if not self._kind.is_async:
             run(self._connect())
 
@@ -43,6 +59,16 @@ class Session:
     def is_sent(self) -> bool:
         """Whether all of the requests are on their way."""
         return not self._unsent
+
+    @property
+    def unanswered(self) -> int:
+        """How many requests have no answer that was taken."""
+        return len(self._due) + len(self._answers)
+
+    @property
+    def due_since(self) -> float:
+        """Since when a reply is due and nothing came, by the monotonic clock, or infinity."""
+        return max(self._due[0][1], self._came) / 1e9 if self._due else math.inf
 
     def fileno(self) -> int:
         """The descriptor of the connection, for a selector that waits until something comes."""
@@ -55,7 +81,12 @@ class Session:
                 piece = self._socket.recv(65_536)
                 if not piece:
                     raise DisconnectedError("the server closed the connection")
-                self.dialogue.feed(piece)
+                self._came = time.monotonic_ns()
+                *lines, self._rest = (self._rest + piece).split(b"\n")
+                if len(self._rest) >= LONGEST_REPLY:
+                    lines.append(self._rest)  # which is no reply, however it goes on
+                self._lines.extend(lines)
+                self._read()
                 if self._tls is None:
                     break  # a selector tells of what is left, as it can't of what is decrypted
         except _NOT_NOW:
@@ -68,10 +99,18 @@ class Session:
         """Hangs up. After that the session is of no more use."""
         self._fault = self._fault or DisconnectedError("this side hung up")
         self.at_end.close()
+        for request, sent in self._due:  # what has no answer never gets one
+            self._note(sent, None, request, [*self._lines])
+            self._lines.clear()
+        self._due.clear()
+        self._answers.clear()
 
     def post(self, *requests: Request[Any]) -> None:
         """Sends requests in one piece, as far as the connection takes it now. The rest is sent with what follows."""
-        self._unsent += self.dialogue.ask(*requests)
+        sent = time.monotonic_ns()
+        self._due.extend([(it, sent) for it in requests])
+        self._read()
+        self._unsent += b"".join([it.line + b"\n" for it in requests])
         self._demand()
         try:
             while self._unsent:
@@ -81,9 +120,9 @@ class Session:
 
     def received(self) -> list[Any]:
         """The answers to what has come, each refusal in its place."""
-        if not self.dialogue.answers:
+        if not self._answers:
             self._demand()
-        return [self._take() for _ in range(len(self.dialogue.answers))]
+        return [self._take() for _ in range(len(self._answers))]
 
     async def _connect(self) -> None:
         if isinstance(self._fault, RuntimeError):
@@ -115,12 +154,12 @@ class Session:
         """Sends any number of requests in one piece, and gives the answer to each. For a request that was refused, or
         whose wait was given up, the answer is that exception."""
         self._demand()
-        if self.dialogue.unanswered:
+        if self.unanswered:
             raise RuntimeError("the wait for a reply was broken off, so that the session can only be closed")
         self.post(*requests)
         answers = []
-        while self.dialogue.unanswered:
-            while not self.dialogue.answers:
+        while self.unanswered:
+            while not self._answers:
                 await self._wait()
             answer = self._take()
             for it in answer if isinstance(answer, list) else [answer]:
@@ -139,8 +178,37 @@ class Session:
         only served when one of them is free. This is no call and changes nothing."""
         await self._ask(Request.greeting())
 
+    def _read(self) -> None:
+        while self._lines and self._due and not self._is_unclear:
+            request, sent = self._due[0]
+            lines = iter(self._lines)
+            try:
+                answer = request.read(lines)
+            except StopIteration:
+                return  # lines of this reply are to come
+            except BrokerError as instead:
+                answer = instead
+                self._is_unclear = isinstance(instead, UnknownReplyError)
+            self._due.popleft()
+            reply = [self._lines.popleft() for _ in range(len(self._lines) - length_hint(lines))]
+            self._note(sent, self._came, request, reply)
+            self._answers.append(answer)
+
+    def _note(self, sent: int, came: int | None, request: Request[Any], reply: list[bytes]) -> None:
+        if self._record is None:
+            return
+        told = [it.decode("utf-8", "backslashreplace") for it in reply]
+        line = {"session": self._name, "sent": sent, "received": came, "request": str(request), "reply": told}
+        try:
+            with _RECORDING:
+                self._record.write(json.dumps(line) + "\n")
+                self._record.flush()  # in one piece: other processes may add to the file
+        except (OSError, ValueError) as fault:  # a file that was closed is a ValueError
+            log.error("the record can't be written, and ends here: %s", fault)
+            self._record = None
+
     def _take(self) -> Any:
-        answer = self.dialogue.answers.popleft()
+        answer = self._answers.popleft()
         if isinstance(answer, UnknownReplyError):
             self.close()  # which line answers which request is no longer known
             raise answer

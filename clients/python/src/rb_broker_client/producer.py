@@ -100,7 +100,7 @@ class BaseProducer:
     async def _served(self) -> Session:
         # One that is served already, so that an offer is in doubt only while it is answered.
         if self._session is not None:
-            if self._process != os.getpid() or self._session.dialogue.unanswered or self._session.is_lost():
+            if self._process != os.getpid() or self._session.unanswered or self._session.is_lost():
                 self._hang_up()  # this process may have been forked, and the session is that of the other one then
             elif time.monotonic() >= self._end:
                 await self._leave(self._session)
@@ -135,7 +135,7 @@ class BaseProducer:
 
     async def _leave(self, session: Session) -> None:
         with suppress(OSError, BrokerError):  # each offer has had its answer all the same
-            if not session.dialogue.unanswered:
+            if not session.unanswered:
                 await session._quit()
         self._hang_up()
 

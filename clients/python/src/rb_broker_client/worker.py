@@ -172,7 +172,7 @@ class BaseWorker:
 
     def _late(self, work: Work, session: Session) -> float:
         # Even a reply to a wait.
-        return session.dialogue.due_since + self._patience + self._wait if work.is_served else math.inf
+        return session.due_since + self._patience + self._wait if work.is_served else math.inf
 
     def _receive(self, work: Work, session: Session) -> None:
         answers = session.received()
