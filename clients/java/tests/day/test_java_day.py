@@ -50,8 +50,8 @@ class JavaDayTest(test_hostile_day.HostileDayTest):
     def port(self):
         return self.proxy.port
 
-    def begin(self, calls):
-        super().begin(calls)
+    def serve_next(self, calls):
+        super().serve_next(calls)
         if self.proxy is None:
             self.proxy = RecordingProxy(self.server.port, self.record("proxy"))
             self.addCleanup(self.proxy.close)

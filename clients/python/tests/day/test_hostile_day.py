@@ -70,18 +70,18 @@ class HostileDayTest(ServedTest):
     def setUp(self):
         super().setUp()
         self.histories, self.began, self.records, self.killed = [], [], [], []
-        self.offered, self.doubted, self.lost, self.faults = [], [], 0, []
+        self.offered, self.doubted, self.lost = [], [], 0
         self.is_over = threading.Event()
 
     def test_each_job_is_done_once_or_named(self):
         began = time.monotonic()
-        self.begin(1_000_000)
+        self.serve_next(1_000_000)
         nuisances = [Nuisance(self.port, is_silent) for is_silent in (True, True, False, False)]
         self.workers = [self.start_worker(it) for it in self.handlers]
         self.addCleanup(lambda: [it.kill() for it in self.workers])
+        producers = [self.begin(self.produce), self.begin(lambda: asyncio.run(self.produce_async()))]
+        killer = self.begin(self.kill_now_and_then)
         self.addCleanup(self.is_over.set)
-        producers = [self.start(self.produce), self.start(lambda: asyncio.run(self.produce_async()))]
-        killer = self.start(self.kill_now_and_then)
         self.wait_until(lambda: len(self.offered) >= JOBS // 3, LONGEST)
         self.replace(JOBS // 2)  # calls, which are soon made
         self.wait_until(lambda: self.size() is None, LONGEST)
@@ -109,18 +109,7 @@ class HostileDayTest(ServedTest):
         """Where the clients connect."""
         return self.server.port
 
-    def start(self, work):
-        def run():
-            try:
-                work()
-            except Exception as fault:
-                self.faults.append(fault)
-
-        thread = threading.Thread(target=run, daemon=True)
-        thread.start()
-        return thread
-
-    def begin(self, calls):
+    def serve_next(self, calls):
         """Starts the first server or the next, with room for this many calls."""
         self.began.append(time.monotonic_ns())
         opening = ["--from", self.histories[-1]] if self.histories else []
@@ -137,7 +126,7 @@ class HostileDayTest(ServedTest):
 
     def replace(self, calls):
         self.end()
-        self.begin(calls)
+        self.serve_next(calls)
 
     def record(self, kind):
         self.records.append(f"{self.room}/{kind}-{len(self.records)}.jsonl")

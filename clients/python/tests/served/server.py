@@ -32,6 +32,8 @@ class ServedTest(ServingTest):
         super().setUp()
         logging.disable(logging.CRITICAL)  # workers tell of each job that fails and each server that goes away
         self.addCleanup(logging.disable, logging.NOTSET)
+        self.faults = []  # of threads
+        self.addCleanup(lambda: self.assertEqual(self.faults, []))
 
     def gather(self, server, count, is_done, **options):
         """This many workers of the server's port."""
@@ -40,8 +42,14 @@ class ServedTest(ServingTest):
         return crew
 
     def begin(self, run):
-        """Runs this in a thread of its own, for whose end the test waits."""
-        thread = threading.Thread(target=run, daemon=True)
+        """Runs this in a thread of its own, for whose end the test waits, and which must raise nothing."""
+        def run_it():
+            try:
+                run()
+            except Exception as fault:
+                self.faults.append(fault)
+
+        thread = threading.Thread(target=run_it, daemon=True)
         thread.start()
         self.addCleanup(thread.join, PATIENCE)
         return thread
