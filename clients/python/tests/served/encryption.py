@@ -43,13 +43,11 @@ class Certificates:
         return context
 
     def _sign(self, name, authority, days):
-        names = os.path.join(self.room, "names")
-        with open(names, "w", encoding="ascii") as file:
-            file.write("subjectAltName=IP:127.0.0.1\n")
         asked = os.path.join(self.room, f"{name}.csr")
-        self._run("req", *KEY, "-keyout", self.key(name), "-out", asked, "-subj", f"/CN={name}")
+        self._run("req", *KEY, "-keyout", self.key(name), "-out", asked, "-subj", f"/CN={name}",
+                  "-addext", "subjectAltName=IP:127.0.0.1")
         self._run("x509", "-req", "-in", asked, "-CA", self.path(authority), "-CAkey", self.key(authority),
-                  "-CAcreateserial", "-days", str(days), "-extfile", names, "-out", self.path(name))
+                  "-CAcreateserial", "-days", str(days), "-copy_extensions", "copy", "-out", self.path(name))
 
     def _run(self, *words):
         subprocess.run(["openssl", *words], check=True, stdout=subprocess.DEVNULL, stderr=subprocess.DEVNULL)
