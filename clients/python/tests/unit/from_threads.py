@@ -39,10 +39,6 @@ def broker(run, *words, **options):
     return FromThreads(run, AsyncBroker(*words, **options)).__enter__()
 
 
-def producer(run, *words, **options):
-    return FromThreads(run, AsyncProducer(*words, **options))
-
-
 def worker(run, handler, *words, on_dead=None, **options):
     """A worker whose handlers are functions, which run in threads of their own."""
     on_dead = on_dead and in_thread(on_dead)
@@ -70,6 +66,7 @@ class LoopCase:
 
 def for_both_kinds(case):
     """Adds to the module of this test case one of the same tests, whose client is that of asyncio."""
+    producer = lambda run, *words, **options: FromThreads(run, AsyncProducer(*words, **options))
     made = {Broker: broker, Producer: producer, Worker: worker}[case.kind]
     twin = type(f"Async{case.__name__}", (LoopCase, case), {"__module__": case.__module__, "made": staticmethod(made)})
     setattr(sys.modules[case.__module__], twin.__name__, twin)

@@ -111,8 +111,6 @@ class TaskTest(ScriptedTest):
 class UseTest(ScriptedTest):
     """What is no use of a client."""
 
-    def test_a_broker_before_it_is_connected(self):
+    def test_a_broker_before_it_is_connected_and_without_a_server(self):
         self.assertRaises(RuntimeError, asyncio.run, AsyncBroker(7011).size())
-
-    def test_no_server(self):
         self.assertRaises(ConnectionRefusedError, asyncio.run, AsyncBroker(free_port()).__aenter__())

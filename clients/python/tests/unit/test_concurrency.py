@@ -82,9 +82,6 @@ class TimeoutTest(ConcurrencyCase):
         self.assert_reports(Report(again=1), f"{LATE_A}; FAIL 0 > stops: AGAIN 1 5; QUIT", concurrency=1, timeout=LIMIT)
         self.assertEqual(self.jobs.running, 1)
 
-    def test_one_that_ends_in_time_is_done(self):
-        self.assert_reports(Report(done=1), f"{A}; {LAST}", handler=self.handle, concurrency=1, timeout=PATIENCE)
-
 
 @for_both_kinds
 @unittest.mock.patch("rb_broker_client.worker.LONG", LIMIT)

@@ -1,4 +1,5 @@
 """What a worker asks in one session, by a clock that the tests move on. No socket and no thread is here."""
+import functools
 import logging
 import unittest
 import unittest.mock
@@ -69,13 +70,11 @@ class WorkTest(unittest.TestCase):
     def runs(self, count):
         self.running = int(count)
 
-    def ends(self, payload):
+    def ends(self, payload, is_done=True):
         self.running -= 1
-        self.work.ended(self.jobs[payload], True)
+        self.work.ended(self.jobs[payload], is_done)
 
-    def fails(self, payload):
-        self.running -= 1
-        self.work.ended(self.jobs[payload], False)
+    fails = functools.partialmethod(ends, is_done=False)
 
     def stops(self, _):
         self.is_stopping = True
