@@ -125,14 +125,13 @@ final class FakeServer implements AutoCloseable {
 
         /** Expects that the client hangs up and says nothing more. */
         void hearNothing() {
-            String line;
             try {
-                line = lines.readLine();
+                String line = lines.readLine();
+                if (line != null) {
+                    throw new AssertionError("heard " + line + " in place of the end");
+                }
             } catch (IOException reset) {
-                return;
-            }
-            if (line != null) {
-                throw new AssertionError("heard " + line + " in place of the end");
+                return; // it hung up
             }
         }
 

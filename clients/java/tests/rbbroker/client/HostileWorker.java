@@ -25,11 +25,6 @@ public final class HostileWorker {
         this.log = new FileOutputStream(log, true);
     }
 
-    /** Whether an attempt of a job is to fail. */
-    static boolean isToFail(String payload, int attempt) {
-        return attempt == 1 && Integer.parseInt(payload) % 10 == 0;
-    }
-
     /**
      * Works until standard input ends.
      *
@@ -62,10 +57,10 @@ public final class HostileWorker {
         }
     }
 
-    /** Does a job or fails it. Returns what became of that. */
+    /** Does a job, or fails each tenth in its first attempt. Returns what became of that. */
     private static String answer(Job job) {
         try {
-            if (isToFail(job.payload(), job.attempt())) {
+            if (job.attempt() == 1 && Integer.parseInt(job.payload()) % 10 == 0) {
                 job.fail();
                 return "failed";
             }

@@ -72,6 +72,18 @@ public abstract class QueueTest extends Assert {
         return new Work<>(work);
     }
 
+    /** Interrupts a thread that waits, which is thrown out without its mark. */
+    static void assertInterruptible(Callable<Job> wait) throws Exception {
+        Work<Boolean> work = start(() -> {
+            assertThrows(InterruptedException.class, wait::call);
+            return Thread.currentThread().isInterrupted();
+        });
+        Thread.sleep(200);
+        assertFalse(work.isDone());
+        work.thread.interrupt();
+        assertFalse(work.get(5, SECONDS));
+    }
+
     /** The results of all of this, each of which comes within these seconds. */
     static <T> List<T> allOf(List<Work<T>> all, int seconds) throws Exception {
         List<T> results = new ArrayList<>();

@@ -5,6 +5,7 @@ import static java.util.concurrent.TimeUnit.SECONDS;
 
 import java.time.Duration;
 import java.util.List;
+import java.util.function.IntFunction;
 import org.junit.Test;
 import org.junit.function.ThrowingRunnable;
 import rbbroker.client.FakeServer.Script;
@@ -24,11 +25,7 @@ public class ScriptedTest extends QueueTest {
         void with(RemoteDelayQueue queue) throws Exception;
     }
 
-    private interface Settings {
-        RemoteDelayQueue.Builder of(int port);
-    }
-
-    private static Settings byCall(Duration patience) {
+    private static IntFunction<RemoteDelayQueue.Builder> byCall(Duration patience) {
         return port -> new RemoteDelayQueue.Builder(port, Acknowledge.BY_CALL).patience(patience);
     }
 
@@ -41,9 +38,9 @@ public class ScriptedTest extends QueueTest {
         playTo(byCall(PATIENCE), play, scripts);
     }
 
-    private void playTo(Settings settings, Play play, Script... scripts) throws Exception {
+    private void playTo(IntFunction<RemoteDelayQueue.Builder> settings, Play play, Script... scripts) throws Exception {
         caller = Thread.currentThread();
-        try (FakeServer server = new FakeServer(scripts); RemoteDelayQueue it = settings.of(server.port()).build()) {
+        try (FakeServer server = new FakeServer(scripts); RemoteDelayQueue it = settings.apply(server.port()).build()) {
             queue = it;
             play.with(it);
             server.finish();
@@ -71,7 +68,7 @@ public class ScriptedTest extends QueueTest {
             List<String> columns = List.of(row.split(" \\| "));
             Script[] sessions = columns.stream().skip(1).map(ScriptedTest::session).toArray(Script[]::new);
             Duration patience = row.matches(".*(lost|in doubt) \\|.* > silence") ? SHORT : PATIENCE;
-            playTo(byCall(patience), it -> new Steps(it).play(columns.get(0)), sessions);
+            playTo(byCall(patience), it -> new Steps(it, job -> { }).play(columns.get(0)), sessions);
         }
     }
 
@@ -111,7 +108,7 @@ public class ScriptedTest extends QueueTest {
     public void nobodyListens() throws Exception {
         FakeServer gone = new FakeServer();
         gone.close();
-        try (RemoteDelayQueue it = byCall(SHORT).of(gone.port()).build()) {
+        try (RemoteDelayQueue it = byCall(SHORT).apply(gone.port()).build()) {
             for (ThrowingRunnable call : List.<ThrowingRunnable>of(() -> it.offer(due("a")), it::size, it::take)) {
                 assertLost("no server at 127.0.0.1:" + gone.port(), call);
             }
@@ -177,7 +174,7 @@ public class ScriptedTest extends QueueTest {
 
     @Test
     public void anOldSessionTakesJobsAgainWhereNoOtherIsServed() throws Exception {
-        playTo(port -> byCall(PATIENCE).of(port).longestSession(Duration.ofMillis(200)), it -> {
+        playTo(port -> byCall(PATIENCE).apply(port).longestSession(Duration.ofMillis(200)), it -> {
             assertEquals("a", it.poll().payload());
             Thread.sleep(300); // since then the session is to end with the job that it holds
             assertNull(it.poll());
@@ -201,7 +198,7 @@ public class ScriptedTest extends QueueTest {
 
     @Test
     public void aTimedPollAsksForWhatIsLeft() throws Exception {
-        playTo(port -> byCall(PATIENCE).of(port).longestWait(Duration.ofSeconds(3)), it -> {
+        playTo(port -> byCall(PATIENCE).apply(port).longestWait(Duration.ofSeconds(3)), it -> {
             long begun = System.nanoTime();
             assertNull(it.poll(5, SECONDS));
             assertTrue(System.nanoTime() - begun >= SECONDS.toNanos(5));

@@ -67,16 +67,10 @@ public class ServedTest extends QueueTest {
         })).toList();
     }
 
-    private static void offer(RemoteDelayQueue queue, int times) {
-        for (int it = 0; it < times; it++) {
-            queue.offer(due("a"));
-        }
-    }
-
     /** Offers jobs in a session before: the next one has to do what it is to show within three seconds. */
     private void offerBefore(int times) {
         try (RemoteDelayQueue queue = builder().build()) {
-            offer(queue, times);
+            queue.addAll(Collections.nCopies(times, due("a")));
         }
     }
 
@@ -88,7 +82,7 @@ public class ServedTest extends QueueTest {
             String[] columns = row.split(" \\| ");
             serve(1, 30, "--calls", columns[0]);
             try (RemoteDelayQueue queue = builder().patience(Duration.ofSeconds(1)).build()) {
-                new Steps(queue).play(columns[2]);
+                new Steps(queue, job -> { }).play(columns[2]);
             }
             assertEnds(Integer.parseInt(columns[1]));
         }
@@ -204,7 +198,7 @@ public class ServedTest extends QueueTest {
         RemoteDelayQueue queue = opened(builder().waiters(2).build());
         List<Work<String>> taken = startTaking(queue, 8);
         assertNull(start(() -> queue.poll(300, MILLISECONDS)).get(30, SECONDS));
-        offer(queue, 8);
+        queue.addAll(Collections.nCopies(8, due("a")));
         assertEquals(Collections.nCopies(8, "a"), allOf(taken, 30));
     }
 

@@ -58,18 +58,6 @@ public class SharedQueueTest extends EveryQueueTest {
 
     // Interrupts.
 
-    /** Interrupts a thread that waits, which is thrown out without its mark. */
-    private static void assertInterruptible(Callable<Job> wait) throws Exception {
-        Work<Boolean> work = start(() -> {
-            assertThrows(InterruptedException.class, wait::call);
-            return Thread.currentThread().isInterrupted();
-        });
-        Thread.sleep(200);
-        assertFalse(work.isDone());
-        work.thread.interrupt();
-        assertFalse(work.get(5, SECONDS));
-    }
-
     @Test
     public void anInterruptEndsAWait() throws Exception {
         assertInterruptible(queue::take);

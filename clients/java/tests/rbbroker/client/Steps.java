@@ -35,15 +35,10 @@ final class Steps {
     /** The job that was shown or taken last. */
     private Job last;
 
-    /** Steps of this queue, which settle each job that it gives. */
+    /** Steps of this queue, of which each job that it gives is settled so. */
     Steps(BlockingQueue<Job> queue, Consumer<Job> settle) {
         this.queue = queue;
         this.settle = settle;
-    }
-
-    /** Steps that settle no job by themselves. */
-    Steps(BlockingQueue<Job> queue) {
-        this(queue, job -> { });
     }
 
     /** The rows of a file beside this one. */

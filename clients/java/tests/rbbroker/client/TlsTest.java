@@ -1,7 +1,5 @@
 package rbbroker.client;
 
-import static java.util.concurrent.TimeUnit.SECONDS;
-
 import java.time.Duration;
 import javax.net.ssl.SSLException;
 import javax.net.ssl.SSLSocketFactory;
@@ -57,8 +55,8 @@ public class TlsTest extends QueueTest {
     @Test
     public void certificatesThatAreRight() throws Exception {
         RemoteDelayQueue queue = queue(proxy("server", serve(50).port()));
-        new Steps(queue).play("add a 0, add late 600000, take = a, fail, take = a, attempt = 2, done, remove late, "
-            + "size = 0, poll = null");
+        new Steps(queue, job -> { }).play("add a 0, add late 600000, take = a, fail, take = a, attempt = 2, done, "
+            + "remove late, size = 0, poll = null");
     }
 
     @Test
@@ -66,10 +64,7 @@ public class TlsTest extends QueueTest {
         RemoteDelayQueue queue = queue(proxy("server", serve(1).port()));
         queue.offer(due("a"));
         Job job = queue.take();
-        Work<Throwable> wait = start(() -> assertThrows(Throwable.class, queue::take));
-        Thread.sleep(300);
-        wait.thread.interrupt();
-        assertSame(InterruptedException.class, wait.get(10, SECONDS).getClass());
+        assertInterruptible(queue::take);
         job.done();
     }
 
