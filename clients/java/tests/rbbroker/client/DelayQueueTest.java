@@ -55,7 +55,7 @@ public class DelayQueueTest extends EveryQueueTest {
             assertTrue(late.compareTo(later) < 0);
             assertTrue(later.compareTo(late) > 0);
             assertEquals(0, late.compareTo(late));
-            offerAll(later, late);
+            queue.addAll(List.of(later, late));
         }
     }
 
@@ -124,7 +124,7 @@ public class DelayQueueTest extends EveryQueueTest {
     @Test
     public void anObjectOfferedTwiceIsRemovedTwiceInTheJdkAndByItsLastIdAtAServer() {
         Job twice = in(FAR, "late");
-        offerAll(twice, twice);
+        queue.addAll(List.of(twice, twice));
         assertEquals(2, queue.size());
         assertTrue(queue.remove(twice));
         assertEquals(!isRemote(), queue.remove(twice));

@@ -85,12 +85,6 @@ public abstract class EveryQueueTest extends QueueTest {
         return jobs.stream().map(this::payload).toList();
     }
 
-    final void offerAll(Job... jobs) {
-        for (Job it : jobs) {
-            assertTrue(queue.offer(it));
-        }
-    }
-
     static List<String> numbers(int count) {
         return IntStream.range(0, count).mapToObj(it -> String.format("%04d", it)).toList();
     }

@@ -3,6 +3,7 @@ package rbbroker.client;
 import static java.util.concurrent.TimeUnit.SECONDS;
 
 import java.time.Duration;
+import java.util.Collections;
 import java.util.concurrent.CountDownLatch;
 import javax.net.ServerSocketFactory;
 import org.junit.Test;
@@ -43,9 +44,7 @@ public class TurnsTest extends QueueTest {
         serve(4);
         FakeServer proxy = opened(FakeServer.before(server.port(), ServerSocketFactory.getDefault()));
         RemoteDelayQueue queue = queue(proxy.port(), 1, Duration.ofMillis(300));
-        for (int it = 0; it < 100; it++) {
-            queue.offer(due("a"));
-        }
+        queue.addAll(Collections.nCopies(100, due("a")));
         Job held = queue.take();
         for (int it = 0; it < 99; it++) {
             Job next = queue.take();
