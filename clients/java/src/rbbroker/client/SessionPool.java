@@ -114,12 +114,8 @@ final class SessionPool {
             sessions.remove(it);
         }
         long deadline = System.nanoTime() + options.patience() + options.longestWait();
-        try {
-            while (!sessions.isEmpty() && deadline - System.nanoTime() > 0) {
-                NANOSECONDS.timedWait(this, deadline - System.nanoTime());
-            }
-        } catch (InterruptedException interrupt) {
-            Thread.currentThread().interrupt();
+        while (!sessions.isEmpty() && deadline - System.nanoTime() > 0 && !Thread.currentThread().isInterrupted()) {
+            awaitChange();
         }
     }
 

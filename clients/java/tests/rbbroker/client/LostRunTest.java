@@ -22,19 +22,18 @@ public class LostRunTest extends QueueTest {
     /** For how long the first server was there, as far as its client knows. */
     private volatile long lasted;
 
-    /** A server that accepts a job as element 5, counts once, and is lost. */
-    private void playFirst(FakeServer.Talk talk) throws Exception {
-        long begun = System.nanoTime();
-        talk.greet().accept(5, AHEAD).hear("SIZE");
-        lasted = System.nanoTime() - begun;
-        talk.say("SIZE 1");
-    }
-
     /**
      * Whether the job is removed at a second server, whose clock is behind the first one's, and which gives this id to
-     * what is offered to learn of that. If it is asked for the job then, it replies this.
+     * what is offered to learn of that. If it is asked for the job then, it replies this. The first one accepts the job
+     * as element 5, counts once, and is lost.
      */
     private boolean removed(long id, LongSupplier behind, String reply) throws Exception {
+        FakeServer.Script first = talk -> {
+            long begun = System.nanoTime();
+            talk.greet().accept(5, AHEAD).hear("SIZE");
+            lasted = System.nanoTime() - begun;
+            talk.say("SIZE 1");
+        };
         FakeServer.Script second = talk -> {
             talk.greet().accept(id, AHEAD - behind.getAsLong()).hear("REMOVE " + id).say("REMOVED yes");
             if (reply != null) {
@@ -42,7 +41,7 @@ public class LostRunTest extends QueueTest {
             }
             talk.hear("QUIT").say("BYE").hearNothing();
         };
-        try (FakeServer server = new FakeServer(this::playFirst, second)) {
+        try (FakeServer server = new FakeServer(first, second)) {
             boolean isRemoved;
             try (RemoteDelayQueue queue = new RemoteDelayQueue.Builder(server.port(), Acknowledge.BY_CALL).build()) {
                 Job job = in(600_000, "a");
