@@ -87,12 +87,9 @@ class TlsTest(ServedTest):
             async with AsyncBroker(port, patience=PATIENCE, tls=tls) as broker:
                 await broker.size()
 
-        def ask_now():
-            with Broker(port, patience=PATIENCE, tls=tls) as broker:
-                broker.size()
-
-        for client in (ask_now, lambda: asyncio.run(ask())):
-            self.assertRaisesRegex(OSError, text, client)
+        self.assertRaisesRegex(OSError, text, lambda: asyncio.run(ask()))
+        with self.assertRaisesRegex(OSError, text), Broker(port, patience=PATIENCE, tls=tls) as broker:
+            broker.size()
         with Producer(port, patience=0.5, tls=tls) as producer:
             with self.assertRaisesRegex(NotOfferedError, text):
                 producer.offer("letter")
