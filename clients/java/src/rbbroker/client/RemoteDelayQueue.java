@@ -215,25 +215,18 @@ public final class RemoteDelayQueue extends AbstractQueue<Job> implements Blocki
     @Override
     public Job poll(long timeout, TimeUnit unit) throws InterruptedException {
         long deadline = System.nanoTime() + Math.max(0, unit.toNanos(timeout));
-        var tries = new Tries(Use.WAIT, options.patience());
         while (true) {
             if (Thread.interrupted()) { // one that comes while the server is asked is put off to here
                 throw new InterruptedException();
             }
-            try {
-                Session session = pool.lend(Use.WAIT, waitUntil(deadline));
-                if (session != null) {
-                    Job job = waitOnce(session, deadline);
-                    if (job != null || waitUntil(deadline) == 0) {
-                        return unlessClosed(job);
-                    }
-                    tries = new Tries(Use.WAIT, options.patience());
-                } else if (waitUntil(deadline) == 0) {
-                    return poll();
-                }
-            } catch (BrokerException fault) {
-                tries.pauseAfter(fault);
+            long asked = System.nanoTime();
+            Job job = make(() -> lendToWait(deadline), Use.WAIT,
+                session -> taken(session, session.ask(Request.pollFor(waitUntil(deadline)))));
+            long left = waitUntil(deadline);
+            if (job != null || left == 0) {
+                return unlessClosed(job);
             }
+            NANOSECONDS.sleep(Math.min(left, asked + LEAST_WAIT - System.nanoTime())); // if the wait was given up
         }
     }
 
@@ -357,13 +350,17 @@ public final class RemoteDelayQueue extends AbstractQueue<Job> implements Blocki
 
     /**
      * Makes a call on a session, and again if that is safe, while the patience lasts: if it was surely not carried out,
-     * or if it only looks or takes, as a job that was given to a session which is lost comes back by itself.
+     * or if it only looks or takes, as a job that was given to a session which is lost comes back by itself. Returns
+     * null if it is lent none.
      */
     private <T> T make(Supplier<Session> lender, Use use, Function<Session, T> exchange) {
         Tries tries = new Tries(use, options.patience());
         while (true) {
             try {
                 Session session = lender.get();
+                if (session == null) {
+                    return null;
+                }
                 try {
                     return exchange.apply(session);
                 } finally {
@@ -399,19 +396,10 @@ public final class RemoteDelayQueue extends AbstractQueue<Job> implements Blocki
         return Math.max(0, Math.min(deadline - System.nanoTime(), options.longestWait()));
     }
 
-    /** Waits at the server once. Returns null if it gave no job, after a pause if it gave the wait up at once. */
-    private Job waitOnce(Session session, long deadline) throws InterruptedException {
-        long asked = System.nanoTime();
-        Job job;
-        try {
-            job = taken(session, session.ask(Request.pollFor(waitUntil(deadline))));
-        } finally {
-            pool.giveBack(session);
-        }
-        if (job == null) {
-            NANOSECONDS.sleep(Math.min(waitUntil(deadline), asked + LEAST_WAIT - System.nanoTime()));
-        }
-        return job;
+    /** A session for a wait, or null if none can be had now. When the time is over it is one that does not wait. */
+    private Session lendToWait(long deadline) {
+        Session session = pool.lend(Use.WAIT, waitUntil(deadline));
+        return session == null && waitUntil(deadline) == 0 ? pool.lend(Use.TAKE) : session;
     }
 
     /** The job that a session was given by a call that takes one, or null if it was given none. */

@@ -76,7 +76,7 @@ final class Session {
     }
 
     /** Connects, and waits until the session is served, or is no longer wanted. Before that nothing is asked. */
-    void open(Runs runs, BooleanSupplier isWanted) throws InterruptedException {
+    void open(Runs runs, BooleanSupplier isWanted) {
         long sent = System.nanoTime();
         channel.limitWaits(sent + options.patience(),
             isInterrupted -> !(isInterrupted && use == Use.WAIT) && isWanted.getAsBoolean());
@@ -95,9 +95,6 @@ final class Session {
             }
             contact = runs.begin();
         } catch (IOException fault) {
-            if (use == Use.WAIT && Thread.interrupted()) {
-                throw new InterruptedException();
-            }
             throw new ServerLostException("no server at " + options.address(), false,
                 fault instanceof SocketTimeoutException ? new SocketTimeoutException(late) : fault);
         } finally {

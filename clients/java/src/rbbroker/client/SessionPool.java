@@ -8,6 +8,7 @@ import java.util.Comparator;
 import java.util.List;
 import java.util.Optional;
 import java.util.concurrent.CompletableFuture;
+import java.util.concurrent.TimeUnit;
 import rbbroker.client.RefusedException.Reason;
 import rbbroker.client.Session.Use;
 
@@ -24,8 +25,8 @@ import rbbroker.client.Session.Use;
  * then whether other clients wait for a worker of the server.
  */
 final class SessionPool {
-    /** Milliseconds after which a thread looks again, as a session may take jobs again, or a server serve another. */
-    private static final long LOOK_AGAIN = 500;
+    /** After so long a thread looks again, as a session may take jobs again, or a server serve another. */
+    private static final long LOOK_AGAIN = TimeUnit.MILLISECONDS.toNanos(500);
 
     private final Options options;
     private final Runs runs;
@@ -46,15 +47,11 @@ final class SessionPool {
 
     /** Lends a session for a call that does not wait, and that no interrupt ends. */
     Session lend(Use use) {
-        try {
-            return lend(use, Long.MAX_VALUE);
-        } catch (InterruptedException never) {
-            throw new AssertionError(never);
-        }
+        return lend(use, Long.MAX_VALUE);
     }
 
-    /** Lends a session for a use, or gives null if none can be had for so long. An interrupt ends a call that waits. */
-    Session lend(Use use, long nanos) throws InterruptedException {
+    /** Lends a session for a use, or gives null if none can be had for so long, or if an interrupt ends a wait. */
+    Session lend(Use use, long nanos) {
         long deadline = System.nanoTime() + nanos;
         Session session;
         do {
@@ -115,15 +112,18 @@ final class SessionPool {
         }
         long deadline = System.nanoTime() + options.patience() + options.longestWait();
         while (!sessions.isEmpty() && deadline - System.nanoTime() > 0 && !Thread.currentThread().isInterrupted()) {
-            awaitChange();
+            awaitChange(LOOK_AGAIN);
         }
     }
 
     /** Lends a session that is served or to be opened, or gives null if there is none until then. */
-    private synchronized Session find(Use use, long deadline) throws InterruptedException {
+    private synchronized Session find(Use use, long deadline) {
         while (true) {
             if (isClosed) {
                 throw new IllegalStateException("the queue is closed");
+            }
+            if (isInterrupted(use)) {
+                return null;
             }
             Session session = choose(use);
             long left = deadline - System.nanoTime();
@@ -134,20 +134,24 @@ final class SessionPool {
             } else if (left <= 0) {
                 return null;
             } else if (use == Use.WAIT) {
-                NANOSECONDS.timedWait(this, left);
+                awaitChange(left);
             } else {
                 calling++;
-                awaitChange();
+                awaitChange(left);
                 calling--;
             }
         }
     }
 
+    private static boolean isInterrupted(Use use) {
+        return use == Use.WAIT && Thread.currentThread().isInterrupted();
+    }
+
     /** Waits for a change, but not for long. An interrupt is put off. */
-    private void awaitChange() {
+    private void awaitChange(long most) {
         boolean wasInterrupted = Thread.interrupted();
         try {
-            wait(LOOK_AGAIN);
+            NANOSECONDS.timedWait(this, Math.min(most, LOOK_AGAIN));
         } catch (InterruptedException interrupt) {
             wasInterrupted = true;
         }
@@ -160,7 +164,7 @@ final class SessionPool {
     private boolean await(Session session) {
         session.answering++;
         while (session.use != null && !session.isClosed) {
-            awaitChange();
+            awaitChange(LOOK_AGAIN);
         }
         session.answering--;
         return !session.isClosed && !forgetIfLost(session);
@@ -227,12 +231,12 @@ final class SessionPool {
     }
 
     /** Opens a session. Gives whether it is served: if not, others are, or the queue was closed meanwhile. */
-    private boolean open(Session session) throws InterruptedException {
+    private boolean open(Session session) {
         long begun = System.nanoTime();
         try {
             session.open(runs, () -> isWanted(begun));
         } catch (ServerLostException fault) {
-            if (!fault.mayPass || !makesDo()) {
+            if (!isInterrupted(session.use) && !(fault.mayPass && makesDo())) {
                 throw fault;
             }
         } finally {
