@@ -70,6 +70,9 @@ class BaseWorker:
         """
         if not 1 <= concurrency <= MOST_HELD:
             raise ValueError(f"from 1 to {MOST_HELD} jobs can run at the same time")
+        for it in (handler, on_dead):
+            if inspect.iscoroutinefunction(it) and not self._session_of._kind.is_async:
+                raise TypeError(f"only an AsyncWorker awaits a coroutine function: {it!r}")
         self._handler, self._on_dead, self._concurrency = handler, on_dead, concurrency
         self._session_at = partial(self._session_of, port, host, tls=tls, record=record)
         self._wait, self._patience = seconds(wait), seconds(patience)
@@ -224,7 +227,9 @@ class BaseWorker:
         job, is_done = call.job, False
         try:
             called = call.function(job)
-            if self._session_of._kind.is_async and inspect.isawaitable(called):
+            if inspect.isawaitable(called):
+                if not self._session_of._kind.is_async:
+                    raise TypeError("only an AsyncWorker awaits what a handler gives")
                 await called
             is_done = True
         except Exception:

@@ -6,8 +6,8 @@ import time
 
 from from_threads import for_both_kinds
 from scripted import PATIENCE, free_port
-from worker_case import A, AGE, GIVES_B, LAST, WorkerCase, clock, pass_on
-from rb_broker_client import Job, Pauses, Report, UnknownReplyError
+from worker_case import A, AGE, GIVES_A, GIVES_B, LAST, WorkerCase, clock, pass_on
+from rb_broker_client import Job, Pauses, Report, UnknownReplyError, Worker
 
 FULL = "WAIT > ERR 6 full; QUIT"
 ENDS = f"{A}; {GIVES_B}; FAIL 1 > AGAIN 2 1000; WAIT > NONE; WAIT > ITEM 2 1000 3 b; FAIL 2 > DEAD 2; {LAST}"
@@ -77,6 +77,24 @@ class JobTest(WorkerCase):
 
         self.work(FULL, FULL, f"WAIT > STOPPED; WAIT > NONE; {LAST}", pauses=NotedPauses()).run()
         self.assertEqual(noted[:5], ["longer", "longer", "longer", "short again", "short again"])
+
+
+class AwaitableTest(WorkerCase):
+    """A worker without a loop awaits nothing, so no job may count as done whose handler has not run."""
+
+    def test_a_coroutine_function_is_refused(self):
+        async def deliver(job):
+            pass
+
+        self.assertRaisesRegex(TypeError, "deliver", Worker, deliver, 7011)
+        self.assertRaisesRegex(TypeError, "deliver", Worker, self.handle, 7011, on_dead=deliver)
+
+    def test_a_job_fails_whose_handler_gives_an_awaitable(self):
+        class Awaitable:
+            def __await__(self):
+                yield
+
+        self.assert_reports(Report(dead=1), f"{GIVES_A}; FAIL 0 > DEAD 0; {LAST}", handler=lambda job: Awaitable())
 
 
 class BreakTest(WorkerCase):
