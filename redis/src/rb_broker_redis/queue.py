@@ -17,19 +17,21 @@ COMMANDS_SEAT = 0
 
 CHUNK = 1_000  # elements that are loaded in one step
 
+PATIENCE = 60.0  # seconds that an answer may take: a queue may be large
+
 Client = Union["redis.Redis[bytes]", RedisCluster]
 
 
-def connect(address: Address, timeout: float = 5.0) -> Client:
+def connect(address: Address) -> Client:
     """A client for the Redis at this address. It connects when it is used."""
-    login: dict[str, Any] = {"username": address.username, "password": address.password, "socket_timeout": timeout}
+    login: dict[str, Any] = {"username": address.username, "password": address.password, "socket_timeout": PATIENCE}
     if address.is_tls:
         login["ssl"] = True
         login.update((name, value) for name, value in address.options.items() if name.startswith("ssl_"))
     if address.kind is Kind.CLUSTER:
         return RedisCluster(startup_nodes=[ClusterNode(*host) for host in address.hosts], **login)
     if address.kind is Kind.SENTINEL:
-        sentinels = Sentinel(list(address.hosts), socket_timeout=timeout)
+        sentinels = Sentinel(list(address.hosts), socket_timeout=PATIENCE)
         client: redis.Redis[bytes] = sentinels.master_for(address.master, db=address.database, **login)
         return client
     host, port = address.hosts[0]

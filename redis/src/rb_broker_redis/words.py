@@ -83,7 +83,7 @@ def add_queue_words(parser: argparse.ArgumentParser) -> None:
 
 def queues_in(asked: argparse.Namespace) -> list[Queue]:
     """The queue, or its shards, with the functions that they need."""
-    client = connect(address_in(asked), timeout=60.0)  # a queue may be large
+    client = connect(address_in(asked))
     queues = [Queue(client, name) for name in shard_names(asked.queue, asked.shards)]
     for it in queues:
         it.load_functions()
