@@ -103,7 +103,7 @@ class Calls:
         self.faults.add(kind, self.where(call), what)
 
     def tell_missing(self, call: int) -> None:
-        self.tell("missing", call, f"{self.expectation(call).act} stands nowhere at its place")
+        self.tell("missing", call, f"{self.expectation(call).act} is not at its place in the history")
 
     def may_be(self, call: int, event: int) -> bool:
         """Whether an event is nobody's, and what a call's reply says."""

@@ -51,9 +51,9 @@ class Ending:
                 if event >= first or self._history.seats[first] != self._session.seat:
                     break
                 if not self._is_unrecorded(event):  # and before the first return that is still to come
-                    self._tell("gap", event, "stands before the return of a job that it held at its end")
+                    self._tell("gap", event, "comes before the return of a job that it held at its end")
         for event in self._returns:
-            self._tell("return", event, "returns a job of its end, and is not right behind its last call")
+            self._tell("return", event, "returns a job that it held at its end, and is not directly after its last call")
 
     def _tell(self, kind: str, event: int, what: str) -> None:
         self._calls.faults.add(kind, str(self._session), f"{self._history.told(event)} {what}")

@@ -7,14 +7,14 @@ from verifying.record import Exchange
 # The kinds of faults, each with the sentence that it breaks.
 KINDS: dict[str, str] = {
     "strange": "each reply is one that its request may get, with what the session holds",
-    "changed": "a reply says what the event of its call says",
+    "changed": "a reply says what the event of its call says, and about an element what its offer says",
     "missing": "each call has an event",
     "twice": "no event is the call of two replies",
     "gap": "a session's calls follow one another at their seat, with nothing between them",
-    "order": "a session's calls stand in the order of its requests",
-    "seat": "a session's calls stand at one seat",
-    "return": "the jobs that a session holds at its end come back right behind its last call",
-    "time": "a call whose reply had come before another was sent stands before it",
+    "order": "a session's calls are in the order of its requests",
+    "seat": "a session's calls are all at one seat",
+    "return": "the jobs that a session holds at its end come back directly after its last call",
+    "time": "a call whose reply had come before another was sent comes before it in the history",
     "unrecorded": "each event is a call of a record",
 }
 

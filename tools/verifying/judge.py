@@ -67,17 +67,16 @@ class Verdict:
             *self.faults.lines(),
             f"{counted(events, 'event')} at {counted(seats, 'seat')}; "
             f"{counted(counts['requests'], 'request')} of {counted(len(self._sessions), 'session')}",
-            f"{counted(counts['calls'], 'reply', 'replies')} that speak of an event; "
-            f"{counted(counts['without reply'], 'request')} without a reply, of which "
-            f"{counts['unheard']:,} were carried out",
-            f"{counted(counts['returned'], 'job')} came back at the end of a session; {counts['gone']:,} did not, in "
-            f"the last attempt or a full run; {counted(counts['unrecorded'], 'event')} of no record",
+            f"{counted(counts['calls'], 'reply', 'replies')} to calls; "
+            f"{counted(counts['without reply'], 'request')} without a reply, {counts['unheard']:,} of them carried out",
+            f"{counted(counts['returned'], 'job')} came back at the end of a session; {counts['gone']:,} did not, "
+            f"after the last attempt or in a full run; {counted(counts['unrecorded'], 'event')} in no record",
             *self.faults.sentences(self._is_whole),
         ]
 
 
 def check_real_time(calls: Calls) -> None:
-    """Adds a fault for each call that was sent after the reply of another had come, and stands before it.
+    """Adds a fault for each call that was sent after the reply of another had come, and comes before it.
 
     From the last event to the first: none of those behind may have been answered before this one was sent, so it is
     compared with the one among them that was answered first.
@@ -91,6 +90,6 @@ def check_real_time(calls: Calls) -> None:
             before, behind = calls.history.told(event), calls.history.told(answered)
             calls.tell("time", call, (
                 f"{before} was asked for {calls.sent[call] - earliest} ns after the reply of {behind} had come, "
-                f"to {calls.where(calls.claims[answered])}, and stands before it"))
+                f"to {calls.where(calls.claims[answered])}, and comes before it"))
         if calls.received[call] < earliest:
             earliest, answered = calls.received[call], event

@@ -55,7 +55,7 @@ def _place(calls: Calls, session: Session) -> bool:
         told = history.told(event)
         if history.seats[event] != seat:
             name = history.seat_names[seat]
-            calls.tell("seat", call, f"{told}, and the session's other calls stand at seat {name}")
+            calls.tell("seat", call, f"{told}, and the session's other calls are at seat {name}")
         else:
             before = "" if last == NONE else f", event {last}"
             calls.tell("order", call, f"{told} does not follow that of the request before{before}")
@@ -145,19 +145,19 @@ class Alignment:
                 self._strangers.remove(event)
             else:
                 self._session.end += 1
-            calls.tell("order", call, f"{told(event)} does not stand where its request does")
+            calls.tell("order", call, f"{told(event)} is not at the place of its request")
             calls.settle(call, event)
         for event in self._strangers:
             owner = calls.claims[event]
             of = f", of {calls.where(owner)}," if owner != NONE else ""
-            calls.faults.add("gap", str(self._session), f"{told(event)}{of} stands between two of its calls")
+            calls.faults.add("gap", str(self._session), f"{told(event)}{of} is between two of its calls")
 
     def _tell_missing(self, call: int) -> None:
         calls, made = self._calls, self._session.calls
         place = bisect_left(made, call)
         times = [(calls.sent[it], calls.received[it]) for it in made[max(place - 1, 0):place + 2]]
         if times.count((calls.sent[call], calls.received[call])) > 1:
-            calls.tell("twice", call, f"{calls.expectation(call).act} stands once, and has two replies")
+            calls.tell("twice", call, f"{calls.expectation(call).act} is in the history once, but has two replies")
         else:
             calls.tell_missing(call)
 

@@ -27,9 +27,9 @@ class CommandTest(RunTest):
     def test_what_was_compared(self) -> None:
         self.assertEqual(self.verify(self.history, self.record).stdout.splitlines()[:3], [
             "13 events at 2 seats; 14 requests of 3 sessions",
-            "10 replies that speak of an event; 1 request without a reply, of which 1 were carried out",
-            "2 jobs came back at the end of a session; 0 did not, in the last attempt or a full run; "
-            "0 events of no record",
+            "10 replies to calls; 1 request without a reply, 1 of them carried out",
+            "2 jobs came back at the end of a session; 0 did not, after the last attempt or in a full run; "
+            "0 events in no record",
         ])
 
     def test_records_in_several_files(self) -> None:

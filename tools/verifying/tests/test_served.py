@@ -54,5 +54,5 @@ class ServedTest(RunTest, ServingTest):
         ran = self.verify(self.path("heap"), path)
         self.assertEqual((ran.returncode, ran.stdout.splitlines()[-1]), (0, "0 faults"), ran.stdout)
         self.assertIn("4 jobs came back at the end of a session; 0 did not", ran.stdout)
-        self.assertIn("1 event of no record", ran.stdout)
+        self.assertIn("1 event in no record", ran.stdout)
         self.assertEqual(self.verify(self.path("heap"), path, "--all").stdout.splitlines()[-1], "1 fault")
