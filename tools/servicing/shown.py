@@ -13,9 +13,9 @@ LATE = 1.0  # seconds from which on lateness is told
 RUN = ("run", "began", "lasted", "at the start", "calls", "left")  # the columns of each run
 
 WHY = {
-    Reason.ASKED: "asked to end", Reason.TIME: "its time was over", Reason.CALLS: "few calls were left",
+    Reason.ASKED: "asked to end", Reason.TIME: "its time was up", Reason.CALLS: "few calls were left",
     Reason.SESSIONS: "few sessions were left", Reason.ELEMENTS: "elements that were set aside had room",
-    Reason.KILLED: "lost: its server was killed", Reason.UNKNOWN: "ended while no service was there",
+    Reason.KILLED: "lost: its server was killed", Reason.UNKNOWN: "ended while no service was running",
 }
 
 
@@ -68,7 +68,7 @@ def _client(it: Connection) -> list[str]:
 
 def _present(state: State, run: Run) -> list[str]:
     used, left = state.calls.used if state.calls else None, state.queue.elements if state.queue else None
-    return _told(run, state.at - run.date, used, left, "it goes on" if state.is_up else f"it is {state.phase.value}")
+    return _told(run, state.at - run.date, used, left, "still running" if state.is_up else f"it is {state.phase.value}")
 
 
 def _run(run: Run) -> list[str]:
@@ -87,7 +87,7 @@ def _says(run: Run) -> Iterator[str]:
     assert end
     yield WHY[end.why]
     if run.is_lost:
-        yield f"the next run began again with the {counted(run.opening, 'element')} of its opening"
+        yield f"the next run began with the same {counted(run.opening, 'element')}"
     if end.closed is not None:
         most, more = end.held_by[:MOST_HELD_BY], len(end.held_by) - MOST_HELD_BY
         held = f", held up by {', '.join(most)}" + (f" and {more} more" if more > 0 else "") if most else ""
@@ -95,7 +95,7 @@ def _says(run: Run) -> Iterator[str]:
     if end.cut:
         yield f"{counted(end.cut, 'session')} cut"
     if end.lost_jobs:
-        yield f"{counted(end.lost_jobs, 'job')} lost that failed and could not come back, since the run was full"
+        yield f"{counted(end.lost_jobs, 'job')} lost, which failed and could not come back, since the run was full"
 
 
 def text(state: State) -> str:

@@ -170,7 +170,7 @@ class State:
     offered_a_second: float | None = None  # over the last minute of the run
     left_a_second: float | None = None
     runs: tuple[Run, ...] = ()  # those that have ended and are kept, the latest first
-    lost_runs: int = 0  # since the folder exists
+    lost_runs: int = 0  # in this folder
     alerts: tuple[Alert, ...] = ()
     unwritten: int = 0  # bytes of a file that can't be written, and that are in memory only
 

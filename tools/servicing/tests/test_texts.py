@@ -14,35 +14,35 @@ Numbers
   Elements in the queue, expired or not                                        1,204
   Time since the first element expired, below 0 before it does, 0 without one  3.25 s
   When the server last answered about its queue                                2026-11-26 07:59:59
-  Offers a second, in the last minute                                          1,234.50
-  Gives a second, in the last minute                                           0.25
-  Failures a second, in the last run that has ended in good order              1.11
+  Elements offered a second, in the last minute                                1,234.50
+  Elements given, removed or cleared a second, in the last minute              0.25
+  Failures a second, in the last run that ended in good order                  1.11
   Clients that have a worker                                                   3
   Clients that wait for a worker                                               1
-  Clients that said nothing for 10 seconds                                     1
+  Clients that have sent nothing for 10 seconds                                1
   The longest of these silences, or 0                                          12.1 min
   Clients that do not read their replies                                       1
   Clients that can be served at once                                           8
-  Elements that were offered, jobs that came back among them                   600,000
+  Elements that were offered, including jobs that came back                    600,000
   Elements that were given, removed or cleared                                 590,000
-  Jobs that failed and came back, in runs that have ended in good order        16,345
-  Runs since the folder exists, this one included                              12
+  Jobs that failed and came back, in runs that ended in good order             16,345
+  Runs in this folder, including this one                                      12
   When the run began                                                           2026-11-26 06:53:20
   Elements with which the run began                                            1,200
   Elements beyond those that an opening may have, which wait in a file         7
-  Calls of the run that were used, as far as was seen                          400,000
+  Calls that the run had used when last seen                                   400,000
   Calls for which the run has room                                             1,000,000
-  Time until none of them is left, at the pace of the last minute              13.3 h
-  Sessions of the run that were used, as far as was seen                       57
+  Time until no call is left, at the rate of the last minute                   13.3 h
+  Sessions that the run had used when last seen                                57
   Sessions for which the run has room                                          10,000
-  Time until none of them is left, at that pace                                5.52 h
+  Time until no session is left, at the rate of the last minute                5.52 h
   Time between the last two runs without a server for new clients              310 ms
   Sessions that were cut at the end of the last run                            0
   Jobs of the last run that failed and could not come back                     0
-  Runs that were lost since the folder exists                                  1
+  Runs in this folder that were lost                                           1
   When the last run that was lost ended                                        2026-11-26 05:53:20
   How long that run had lasted                                                 23.3 min
-  Elements that it had at its beginning                                        900
+  Elements with which that run began                                           900
   Bytes of files that could not be written yet                                 0
 
 Clients
@@ -54,16 +54,16 @@ Clients
 
 This run
   run  began                lasted    at the start  calls    left
-  12   2026-11-26 06:53:20  66.7 min  1,200         400,000  1,204  it goes on
+  12   2026-11-26 06:53:20  66.7 min  1,200         400,000  1,204  still running
 
 Runs that have ended
   run  began                lasted    at the start  calls      left   how it ended
-  11   2026-11-26 05:53:20  60.0 min  900           250,000    1,200  its time was over; new clients waited 310 ms
+  11   2026-11-26 05:53:20  60.0 min  900           250,000    1,200  its time was up; new clients waited 310 ms
   10   2026-11-26 05:30:00  23.3 min  900           ?          ?      lost: its server was killed; the next run began \
-again with the 900 elements of its opening; new clients waited 1.25 s
+with the same 900 elements; new clients waited 1.25 s
   9    2026-11-25 07:00:00  22.5 h    0             1,000,000  900    few calls were left; new clients waited 61.5 s, \
-held up by client 41007 (python3 4711): 60s, client 41008 (python3 4712): 2s and 1 more; 1 session cut; 3 jobs lost \
-that failed and could not come back, since the run was full
+held up by client 41007 (python3 4711): 60s, client 41008 (python3 4712): 2s and 1 more; 1 session cut; 3 jobs lost, \
+which failed and could not come back, since the run was full
 """
 
 
