@@ -119,7 +119,8 @@ class Folder:
         except FileNotFoundError:
             return None
         except (ValueError, KeyError, TypeError) as fault:
-            raise Unusable(f"{self.file(name)} is no record of a run: {fault!r}") from None
+            why = f"it has no {fault}" if isinstance(fault, KeyError) else fault
+            raise Unusable(f"{self.file(name)} is no record of a run: {why}") from None
 
     def history(self, number: int) -> str | None:
         """The path of the history of a run, if there is one."""

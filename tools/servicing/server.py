@@ -45,8 +45,8 @@ class Server:
 
     @property
     def last_line(self) -> str:
-        """The last line that it printed, or nothing."""
-        return (self.says.splitlines() or [""])[-1]
+        """The last line that it printed, apart from the one by which it listens, or nothing."""
+        return ([it for it in self.says.splitlines() if not it.startswith("listening ")] or [""])[-1]
 
     @property
     def lost_jobs(self) -> int | None:

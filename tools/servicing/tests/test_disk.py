@@ -56,8 +56,10 @@ class FolderTest(ServiceTest):
         """The service ends at once and says why in its last line, which is the only one if nothing was begun."""
         self.file("plain", "")
         self.file("unread/run-1.json", "{")
+        self.file("bare/run-1.json", "{}")
         for folder, program, says, lines in (
-            ("plain/runs", "", "Not a directory", 1), ("unread", "", "run-1.json is no record of a run", 1),
+            ("plain/runs", "", "Not a directory", 1), ("unread", "", "run-1.json is no record of a run: Expecting", 1),
+            ("bare", "", "run-1.json is no record of a run: it has no 'end'", 1),
             ("runs", "/bin/false", f"no server at port {self.port}: its process has ended", 2),
         ):
             service = self.start(folder=self.path(folder), program=program)

@@ -141,7 +141,8 @@ class KilledTest(ServiceTest):
             service.wait("ending")
             os.kill(service.server, signal.SIGKILL)
             self.assertEqual(service.end(), 0)
-        self.assertEqual(service.all("lost-run")[0]["run"], "1")
+        lost = service.all("lost-run")[0]
+        self.assertEqual((lost["run"], lost["why"]), ("1", "the server left no history: it was killed"))
 
     def test_what_is_taken(self) -> None:
         """A second service says who has the folder, and a second folder is refused at the port."""
