@@ -11,7 +11,7 @@
 #   WORKER_PATIENCE=60   seconds for which it looks for a server that serves it; then it ends with status 1
 #
 # Printed is a line for each job that it ran, and one at the end. Standard error says what went wrong. Status: 0
-# after a signal; 1 if there was no server for that long; 2 if a word is wrong.
+# after a signal; 1 if there was no server for that long; 2 if an argument is wrong.
 use strict;
 use warnings;
 use IO::Handle;

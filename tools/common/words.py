@@ -1,6 +1,7 @@
 """The words of a tool's command line, its exit status, and its end where nobody takes its output."""
 import argparse
 import os
+import re
 import sys
 from typing import Callable
 
@@ -8,10 +9,19 @@ Number = int | float
 
 
 def parser_of(name: str, doc: str | None, usage: str | None = None) -> argparse.ArgumentParser:
-    """The parser of a tool of this name, whose --help is the text of its file as it stands."""
-    about, _, rest = (doc or "").partition("\n\n")
+    """The parser of a tool of this name, whose --help is the text of its file as it stands. An installed tool says
+    rb_broker_NAME for tools/NAME, and where its documents are."""
+    name, doc = (_as_called(it) for it in (name, doc or ""))
+    about, _, rest = doc.partition("\n\n")
     form = argparse.RawDescriptionHelpFormatter
     return argparse.ArgumentParser(name, usage, about, rest, formatter_class=form, allow_abbrev=False)
+
+
+def _as_called(text: str) -> str:
+    """A text for whoever called this tool: from a checkout, or as a command of the package."""
+    if not os.path.basename(sys.argv[0]).startswith("rb_broker_"):
+        return text
+    return re.sub(r"\bdocs/(?=\w+\.md)", "/usr/share/doc/rb-broker/docs/", re.sub(r"\btools/", "rb_broker_", text))
 
 
 def number(kind: Callable[[str], Number], least: Number, most: Number) -> Callable[[str], Number]:

@@ -98,7 +98,7 @@ class Settings:
         "how long a run's end waits for clients to leave, before it cuts their sessions, %(type)s", _span("1s", "1h"),
         "60s")
     silent: int | None = _option(
-        "cuts sessions over which nothing came and nothing went for so long, %(type)s (never)", _span("1s", "1d"))
+        "cuts sessions over which nothing came or went for so long, %(type)s (never)", _span("1s", "1d"))
     keep: Keep = _option("how many old runs are kept, or for how long", _keep, "7d", "N|TIME")
     http: tuple[str, int] | None = _option(
         "serves a page, /metrics and /health there (nowhere)", _address, None, "HOST:PORT")
@@ -122,15 +122,15 @@ class Settings:
 
 
 def parser(doc: str | None) -> argparse.ArgumentParser:
-    """The parser of all words."""
-    made = parser_of("service", doc, "service [--port P] [--folder DIR] [OPTION ..]")
+    """The parser of all arguments."""
+    made = parser_of("tools/service", doc, "%(prog)s [--port P] [--folder DIR] [OPTION ..]")
     made.error = lambda message: made.exit(2, f"service: {message}\n")  # type: ignore[assignment,misc]
     retry = made.add_mutually_exclusive_group()
     for it in fields(Settings):
         told = {**it.metadata}
         add = retry.add_argument if it.name in ("delay", "rate") else made.add_argument
         add(told.pop("flag", f"--{it.name.replace('_', '-')}"), **told)
-    made.add_argument("--status", action="store_true", help="prints how the service of the folder is")
+    made.add_argument("--status", action="store_true", help="prints the status of the service of the folder")
     return made
 
 

@@ -14,7 +14,7 @@ from common.words import exit_status, number, parser_of
 
 DOC = """Does something: tools/it [--n N]
 
-    more of it
+    more of it, in docs/IT.md
 """
 
 # What work raises, the status, and what is said.
@@ -39,7 +39,14 @@ class WordsTest(unittest.TestCase):
         self.assertEqual(status, 0)
         self.assertIn("usage: tools/it [-h]", said)
         self.assertIn("Does something: tools/it [--n N]\n", said)
-        self.assertTrue(said.endswith("\n    more of it\n"))
+        self.assertTrue(said.endswith("\n    more of it, in docs/IT.md\n"))
+
+    def test_an_installed_tool_has_the_names_of_the_package(self) -> None:
+        with mock.patch.object(sys, "argv", ["/usr/bin/rb_broker_it"]):
+            said = self.ended("--help")[1]
+        self.assertIn("usage: rb_broker_it [-h]", said)
+        self.assertIn("Does something: rb_broker_it [--n N]\n", said)
+        self.assertTrue(said.endswith("\n    more of it, in /usr/share/doc/rb-broker/docs/IT.md\n"))
 
     def test_options_are_not_shortened(self) -> None:
         self.assertEqual(self.ended("--num", "1")[0], 2)

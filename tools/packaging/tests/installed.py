@@ -26,7 +26,8 @@ def check_commands(tally: Tally, root: str) -> None:
     expect(tally, "the tools that the pages name", wanted == {*COMMANDS}, wanted, COMMANDS)
     for name in COMMANDS:
         told = run(f"{root}/usr/bin/rb_broker_{name}", "--help")
-        expect(tally, f"rb_broker_{name} --help", told.status == 0, told)
+        names = told.said.startswith(f"usage: rb_broker_{name} ") and "tools/" not in told.said
+        expect(tally, f"rb_broker_{name} --help", told.status == 0 and names, told)
 
 
 def check_changelog(tally: Tally, root: str, folder: str) -> None:
