@@ -33,7 +33,7 @@ class ReportedQueue:
         """Adds an element of the opening. The ids rise, and are below the next one."""
         ids, id = self._elements.ids, int(line[1])
         if id >= self._history.next_id or (ids and id <= ids[-1]):
-            raise Wrong("the id of a `keep` line is above the one before, and below the next")
+            raise Wrong("the id of a `keep` line has to be above the one before, and below that of the `open` line")
         self._history.kept += 1
         self._add(id, line.groups(), NONE)
 

@@ -44,7 +44,7 @@ class Text:
                 self._read_end(_whole(line, number), number, number - first)
                 return
             if number - first == MOST_EVENTS:
-                raise Damaged(number, f"an event behind {MOST_EVENTS:,} others")
+                raise Damaged(number, f"an event after {MOST_EVENTS:,} others")
             yield number, match
         raise Damaged(number + 1, TOO_SHORT)
 
@@ -54,9 +54,9 @@ class Text:
         if match is None or int(match[1]) > GREATEST:
             raise Damaged(number, "neither an event nor the last line")
         if int(match[1]) != count:
-            raise Damaged(number, f"it tells {int(match[1])}, and the number of events is {count}")
+            raise Damaged(number, f"it says {int(match[1])}, and the number of events is {count}")
         if next(self._lines, b""):
-            raise Damaged(number + 1, "it stands behind the last line")
+            raise Damaged(number + 1, "it follows the last line")
 
 
 def _read_head(file: BinaryIO) -> Head:

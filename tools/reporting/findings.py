@@ -37,7 +37,7 @@ def findings_of(history: History, depth: Depth) -> Iterator[Finding]:
     yield from _calls(history)
     at_end, deepest = depth.standing[-1], max(depth.standing)
     if at_end >= max(DEEP_END, DEEP_SHARE * deepest):
-        yield Finding(f"the queue was about as deep at the end ({at_end:,}) as ever ({deepest:,}): more came than left")
+        yield Finding(f"the queue was about as deep at the end ({at_end:,}) as ever ({deepest:,}): more came in than left")
 
 
 def _broken_chains(history: History) -> dict[str, list[int]]:

@@ -58,7 +58,7 @@ FINDINGS: list[tuple[list[str], list[str]]] = [
     (["1 0 0 poll none"] * 99, []),
     ([offer(id, 5) for id in range(100)],
      ["100 elements never left the queue; 0 of them had expired at the end",
-      "the queue was about as deep at the end (100) as ever (100): more came than left"]),
+      "the queue was about as deep at the end (100) as ever (100): more came in than left"]),
     ([offer(id, 5) for id in range(99)], ["99 elements never left the queue; 0 of them had expired at the end"]),
 ]
 

@@ -98,7 +98,7 @@ class PageTest(unittest.TestCase):
         self.assertIn("40", lives)
         self.assertLessEqual(sum(len(job[2]) for job in lives.values()), 10)
         self.assertIn(f"the lives of {len(lives)} of 50 jobs", text)
-        self.assertIn("tools/report --job", text)
+        self.assertIn("The command with --job prints any other.", text)
 
     def test_a_job_of_too_many_elements_leaves_room_for_others(self) -> None:
         lines = [f"1 0 0 offer {id} 0 0 0 1 a" for id in range(11)] + [offer(11, 0)]

@@ -92,7 +92,7 @@ class CommandTest(RunTest):
 
     def test_files_that_can_not_be_read(self) -> None:
         none, path = f"{self.room}/none", self.file("damaged.txt", TEXT.replace("end 13", "end 12"))
-        self.expect_refused(f"{path}: line 16: it tells 12, and the number of events is 13", path, self.record)
+        self.expect_refused(f"{path}: line 16: it says 12, and the number of events is 13", path, self.record)
         self.expect_refused(f"{none}: No such file or directory", none, self.record)
         self.expect_refused(f"{none}: No such file or directory", self.history, none)
         self.expect_refused(f"{self.room}: Is a directory", self.history, self.room)
