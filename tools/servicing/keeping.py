@@ -1,5 +1,6 @@
 """The service's side of the keeper: how it is found or begun, and asked."""
 import contextlib
+import errno
 import json
 import os
 import socket
@@ -61,12 +62,14 @@ class Keeping:
             with socket.socket(socket.AF_UNIX, socket.SOCK_SEQPACKET) as door:
                 door.bind(self._name)
                 door.listen(8)
-                words = [sys.executable, "-I", "-S", KEEPER, str(door.fileno()), self._folder]
+                words = [sys.executable, "-I", "-S", "-B", KEEPER, str(door.fileno()), self._folder]
                 subprocess.Popen(words, pass_fds=[door.fileno()], stdin=none, stdout=none, stderr=none,
                                  start_new_session=True, cwd="/")
                 self._has_found()
         except OSError as fault:
-            raise Unusable(f"no keeper can be started: {fault.strerror}") from None
+            is_there = fault.errno == errno.EADDRINUSE
+            why = f"the one that is there did not answer in {PATIENCE:g} seconds" if is_there else fault.strerror
+            raise Unusable(f"no keeper can be started: {why}") from None
 
     def status(self) -> Held:
         told, _ = self._ask("status")
