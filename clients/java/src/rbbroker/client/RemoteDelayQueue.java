@@ -108,7 +108,8 @@ public final class RemoteDelayQueue extends AbstractQueue<Job> implements Blocki
 
         /**
          * How many threads may wait at the server at the same time. Further ones wait here until one of these has its
-         * job or looks anew. The queue keeps at most this many sessions and one more.
+         * job or looks anew. The queue keeps at most this many sessions and one more, or twice as many if old ones
+         * still hold jobs.
          *
          * @param count 1 or more; 4 if it is not set
          * @return this builder

@@ -1,5 +1,6 @@
 package rbbroker.client;
 
+import static java.util.concurrent.TimeUnit.MILLISECONDS;
 import static java.util.concurrent.TimeUnit.SECONDS;
 
 import java.time.Duration;
@@ -73,6 +74,19 @@ public class TurnsTest extends QueueTest {
         assertTrue(done.await(5, SECONDS));
         assertEquals(1, hanging.attempt());
         hanging.done();
+    }
+
+    @Test
+    public void whileOldSessionsHoldJobsThereAreTwiceAsMany() throws Exception {
+        serve(8);
+        queue(server.port(), 1, LONG).addAll(Collections.nCopies(6, due("a")));
+        FakeServer proxy = opened(FakeServer.before(server.port(), ServerSocketFactory.getDefault()));
+        RemoteDelayQueue queue = queue(proxy.port(), 1, Duration.ofMillis(300));
+        for (int it = 0; it < 6; it++) {
+            queue.poll(100, MILLISECONDS); // nobody answers what it gives
+            Thread.sleep(350);
+        }
+        assertEquals(4, proxy.sessions());
     }
 
     @Test
