@@ -1,10 +1,10 @@
 """The package as a command: python3 -m rb_broker_client COMMAND .. --port P
 
-A worker calls the function with each job, until SIGTERM or Ctrl-C, and a second one ends it at
-once. It logs to standard error, goes on looking for a server until it is stopped, and prints
-finally what became of its jobs. The module is looked for in the current folder too. A coroutine
-function runs in an event loop. The others print the server's replies as docs/PROTOCOL.md has them,
-such as `SIZE 3`. COMMAND --help has an example.
+A worker calls the function with each job, until SIGTERM or Ctrl-C; a second signal ends it at
+once. It logs to standard error, looks for a server until it is stopped, and at the end prints what
+became of its jobs. The module is looked for in the current folder too. A coroutine function runs in
+an event loop. `dead` is about the file that DeadLetters wrote. The others print the server's
+replies as docs/PROTOCOL.md has them, such as `SIZE 3`. COMMAND --help has an example.
 
 Exit status: 0; 1 if there is no server, or it refuses, or something else fails; 2 if a word is
 wrong, or an option names a file that can't be used. Standard error says why.
