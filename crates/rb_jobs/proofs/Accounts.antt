@@ -1,5 +1,5 @@
 -- The sums of a history and those of the sessions that made it.
-use Rattle.std.proofs.Common.{◌≡◌, ℕ, suc, ◌+◌, ◌<◌, ◌≤◌, ◌⊎◌, inl, inr, List, [], ◌∷◌, ◌++◌, length, map, Bool, cond, true, false, Option, Some, None, Result, Ok, Err, refl, sym, ap, subst, ◌∙◌, arith}
+use Rattle.std.proofs.Common.{◌≡◌, ℕ, suc, ◌+◌, ◌<◌, ◌≤◌, ◌⊎◌, inl, inr, List, [], ◌∷◌, ◌++◌, length, map, Bool, cond, true, false, Option, Some, None, Result, Ok, refl, sym, ap, subst, ◌∙◌, arith}
 use Rattle.std.proofs.lemmas.Bool.Decides.{nat_tests}
 use Rattle.std.proofs.lemmas.List.Sums.{sum_by-append, sum_by-cons}
 use Rattle.std.specs.Prelude.{IsSome, nat_le, sum_by}
@@ -32,13 +32,13 @@ use Rattle.rb_protocol.specs.declared.line_reply.LineReply.{LineReply}
 use Rattle.rb_protocol.specs.declared.line_reply.LineReply.TheVariants as lines
 use Rattle.rb_protocol.specs.declared.request.Request.{Request}
 use Rattle.rb_protocol.specs.declared.request.Request.TheVariants as requests
-use Rattle.rb_session.specs.Events.{AreOfClosing, AreOfLine, AreOfLines, BeginsOne, TellsOf, TellsOfNone}
-use Rattle.rb_session.specs.JobEnds.{handed_by, lost_in, spent_of}
-use Rattle.rb_session.specs.RunEvents.{MadeByRun}
+use Rattle.rb_jobs.specs.Events.{AreOfClosing, AreOfLine, AreOfLines, BeginsOne, TellsOf, TellsOfNone}
+use Rattle.rb_jobs.specs.JobEnds.{handed_by, spent_of}
+use Rattle.rb_jobs.specs.RunEvents.{MadeByRun}
 use Rattle.rb_session.specs.Served.{Served}
 use Rattle.rb_session.specs.Session.{Turn}
 use Rattle.rb_session.specs.Turn.{lines_for}
-use Rattle.rb_session.proofs.Events.{tells_answer}
+use Rattle.rb_jobs.proofs.Events.{tells_answer}
 use Rattle.rb_jobs.specs.Among.{IsAmong}
 use Rattle.rb_jobs.specs.Hands.{reply_elements}
 use Rattle.rb_jobs.specs.JobSums.{IsAccount, JobSums, begun_by, begun_in, jobs_of, only}

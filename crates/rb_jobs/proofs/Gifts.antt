@@ -1,5 +1,5 @@
 -- What an event that offers nothing takes out of the queue, and what it hands out.
-use Rattle.std.proofs.Common.{◌≡◌, ◌≢◌, ℕ, ◌<◌, ◌≤◌, ◌⊎◌, inl, inr, List, [], ◌∷◌, ◌++◌, refl, sym, ap, ap₂, subst, ◌∙◌, arith, length, Bool, true, false, Option, Some, None}
+use Rattle.std.proofs.Common.{◌≡◌, ◌≢◌, ℕ, ◌<◌, ◌≤◌, ◌⊎◌, inl, inr, List, [], ◌∷◌, ◌++◌, refl, sym, ap, ap₂, subst, ◌∙◌, arith, Bool, true, false, Option, Some, None}
 use Rattle.std.proofs.lemmas.Bool.Decides.{nat_tests}
 use Rattle.std.proofs.lemmas.Option.{same_Some}
 use Rattle.std.specs.Prelude.{IsSome, is_some, nat_eq, option_map, option_and_then}
@@ -25,7 +25,7 @@ use Rattle.rb_queue.proofs.Effects.{AreTaken, bit, permitted_fits, times_cons}
 use Rattle.rb_queue.proofs.OfferedElements.{IsWithin}
 use Rattle.rb_queue.proofs.Options.{same_or_not, value_and}
 use Rattle.rb_retry.specs.declared.policy.Policy.{Policy}
-use Rattle.rb_session.specs.Held.{AreHeldOnce}
+use Rattle.rb_jobs.specs.HeldIds.{AreHeldOnce}
 use Rattle.rb_jobs.specs.Among.{IsAmong}
 use Rattle.rb_jobs.specs.Hands.{Handles, reply_elements}
 use Rattle.rb_jobs.proofs.Lists.{among_times, among_has, has_id}

@@ -35,9 +35,9 @@ use Rattle.rb_replay.specs.Links.{IsLinked, is_attempt}
 use Rattle.rb_replay.specs.Chaining.{past_of}
 use Rattle.rb_replay.proofs.AttemptIndexes.{of_attempt}
 use Rattle.rb_replay.proofs.ChainedHistories.{right_retry}
-use Rattle.rb_session.specs.Held.{AreHeldOnce}
-use Rattle.rb_session.specs.RunEvents.{AreSomeOf}
-use Rattle.rb_session.proofs.HandedOut.{some_all}
+use Rattle.rb_jobs.specs.HeldIds.{AreHeldOnce}
+use Rattle.rb_jobs.specs.RunEvents.{AreSomeOf}
+use Rattle.rb_jobs.proofs.HandedOut.{some_all}
 use Rattle.rb_jobs.specs.Among.{IsAmong}
 use Rattle.rb_jobs.specs.Attempts.{HasNext, IsLatestAttempt, came_in}
 use Rattle.rb_jobs.specs.Hands.{RetriesJob, Handles, HandlesAll, AreHands}

@@ -32,8 +32,8 @@ use Rattle.rb_session.specs.Served.{Served}
 use Rattle.rb_session.specs.Turn.{Point, point}
 use Rattle.rb_session.specs.declared.delivery.Delivery.{Delivery}
 use Rattle.rb_session.specs.declared.delivery.Delivery.TheVariants.{AtOnce}
-use Rattle.rb_session.proofs.Ways.{Way, did_nothing, did_end, did_call, did_retry, did_set}
-use Rattle.rb_session.proofs.KeptEvents.{whole_mine, makes_whole, refuses_whole, stays_whole}
+use Rattle.rb_jobs.proofs.Ways.{Way, did_nothing, did_end, did_call, did_retry, did_set}
+use Rattle.rb_jobs.proofs.KeptEvents.{whole_mine, makes_whole, refuses_whole, stays_whole}
 use Rattle.rb_runs.specs.Script.{IsNew, RanSession, script_terms}
 use Rattle.rb_jobs.specs.Hands.{HandlesAll, AreHands}
 use Rattle.rb_jobs.specs.SessionHands.{LeadsOn}

@@ -8,8 +8,8 @@ use Rattle.rb_delayed.specs.declared.element.Element.{Element}
 use Rattle.rb_queue.specs.Leaving.{times}
 use Rattle.rb_queue.specs.Opening.{ids_of}
 use Rattle.rb_queue.proofs.Effects.{bit, times_cons}
-use Rattle.rb_session.specs.Held.{AreHeldOnce}
-use Rattle.rb_session.specs.RunEvents.{AreSomeOf}
+use Rattle.rb_jobs.specs.HeldIds.{AreHeldOnce}
+use Rattle.rb_jobs.specs.RunEvents.{AreSomeOf}
 use Rattle.rb_jobs.specs.Among.{IsAmong}
 
 -- what is among one list is among both

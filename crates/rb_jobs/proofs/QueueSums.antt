@@ -1,5 +1,5 @@
 -- What stood in a queue or came in was handed out, removed or cleared away, or stands: by what each job counts for.
-use Rattle.std.proofs.Common.{◌≡◌, ◌≢◌, ℕ, zero, suc, ◌+◌, ◌<◌, ◌⊎◌, inl, inr, List, [], ◌∷◌, Option, Some, None, refl, sym, ap, subst, ◌∙◌, arith}
+use Rattle.std.proofs.Common.{◌≡◌, ◌≢◌, ℕ, zero, suc, ◌+◌, ◌<◌, ◌⊎◌, inl, inr, List, [], ◌∷◌, None, refl, sym, ap, ◌∙◌, arith}
 use Rattle.std.proofs.lemmas.List.Sums.{sum_by-cons}
 use Rattle.std.specs.Prelude.{IsSome, is_some, sum_by}
 use Rattle.std.specs.FinMap as map
@@ -15,7 +15,6 @@ use Rattle.rb_queue.specs.declared.event.Event.{Event}
 use Rattle.rb_queue.proofs.Bags.{get_inserted_same, get_inserted_other, get_removed_same, get_removed_other}
 use Rattle.rb_queue.proofs.Effects.{AreTaken, FitsIn, below_after, permitted_fits}
 use Rattle.rb_queue.proofs.Options.{same_or_not}
-use Rattle.rb_queue.proofs.Queues.{next_absent}
 use Rattle.rb_jobs.specs.QueueSums.{amount_at, amount_of, cleared_sum_from, origins_sum, removed_sum_from, sum_below, waiting_sum}
 
 -- sums of what is the same everywhere below, or but for one place

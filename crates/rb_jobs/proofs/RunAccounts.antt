@@ -12,13 +12,12 @@ use Rattle.rb_lock.specs.Records.{times_in}
 use Rattle.rb_lock.proofs.Sums.{bit_same, bit_apart}
 use Rattle.rb_retry.specs.Made.{Made, made_after, made_by}
 use Rattle.rb_retry.specs.declared.policy.Policy.{Policy}
-use Rattle.rb_session.specs.RunEvents.{MadeByRun}
 use Rattle.rb_session.specs.Served.{Served}
-use Rattle.rb_runs.proofs.ScriptEvents.{records_by_script}
-use Rattle.rb_serving.specs.ServerEvents.{GrowsByVisits, IsOfSessions}
+use Rattle.rb_jobs.proofs.ScriptEvents.{records_by_script}
+use Rattle.rb_jobs.specs.ServerEvents.{GrowsByVisits, IsOfSessions}
 use Rattle.rb_serving.specs.Terms.{Terms}
-use Rattle.rb_serving.proofs.GatheredNames.{of_history}
-use Rattle.rb_serving.proofs.ServerEvents.{gathers_sessions}
+use Rattle.rb_jobs.proofs.GatheredNames.{of_history}
+use Rattle.rb_jobs.proofs.ServerEvents.{gathers_sessions}
 use Rattle.rb_jobs.specs.JobSums.{JobSums, ScriptAccounts, ServerAccounts, jobs_of, jobs_of_visits, jobs_of_workers}
 use Rattle.rb_jobs.proofs.Accounts.{Balance, accounts, gifts_in, gifts_of, named_in, named_of, offers_in, offers_of, run_told}
 use Rattle.rb_jobs.proofs.KeptHands.{legal_script}

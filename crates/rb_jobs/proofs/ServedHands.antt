@@ -24,11 +24,11 @@ use Rattle.rb_session.specs.Served.{Served}
 use Rattle.rb_session.specs.Turn.{point}
 use Rattle.rb_session.specs.declared.delivery.Delivery.{Delivery}
 use Rattle.rb_serving.specs.Terms.{Terms}
-use Rattle.rb_serving.specs.ServerEvents.{made_of}
+use Rattle.rb_jobs.specs.ServerEvents.{made_of}
 use Rattle.rb_serving.specs.Visits.{AreVisits, AreWorkers, IsWorker, RanVisit, shared_rules, visit_waits}
-use Rattle.rb_serving.proofs.GatheredNames.{named_behind}
-use Rattle.rb_serving.proofs.ServerEvents.{made_none, seen_all}
-use Rattle.rb_serving.proofs.SharedRuns.{whole_mine, makes_whole, refuses_whole, stays_whole}
+use Rattle.rb_jobs.proofs.GatheredNames.{named_behind}
+use Rattle.rb_jobs.proofs.ServerEvents.{made_none, seen_all}
+use Rattle.rb_jobs.proofs.SharedRuns.{whole_mine, makes_whole, refuses_whole, stays_whole}
 use Rattle.rb_jobs.specs.Hands.{HandlesAll, AreHands}
 use Rattle.rb_jobs.specs.RunJobs.{ServerKeepsJobs, empty_hands}
 use Rattle.rb_jobs.specs.SessionHands.{LeadsOn}

@@ -1,5 +1,5 @@
 -- What a line, and the end of a held job, do with what is held.
-use Rattle.std.proofs.Common.{◌≡◌, ℕ, ◌+◌, List, [], ◌∷◌, ◌++◌, inl, inr, Option, Some, Result, Ok, Err, refl, sym, ap, subst, ◌∙◌, append-nil, append_assoc, remove}
+use Rattle.std.proofs.Common.{◌≡◌, ℕ, List, [], ◌∷◌, ◌++◌, inl, inr, Option, Some, Result, Ok, Err, refl, sym, ap, subst, ◌∙◌, append-nil, append_assoc, remove}
 use Rattle.std.specs.Prelude.{unwrap_or, slice_get}
 use Rattle.rb_delayed.specs.declared.element.Element.{Element}
 use Rattle.rb_queue.specs.Draft.{IsDrafted}
@@ -22,12 +22,12 @@ use Rattle.rb_retry.specs.declared.verdict.Verdict.TheVariants.{Again, Dead}
 use Rattle.rb_protocol.specs.declared.request.Request.{Request}
 use Rattle.rb_protocol.specs.declared.line_fault.LineFault.{LineFault}
 use Rattle.rb_protocol.specs.declared.line_reply.LineReply.{LineReply}
-use Rattle.rb_session.specs.Events.{BeginsOne}
-use Rattle.rb_session.specs.RunEvents.{AreSomeOf}
+use Rattle.rb_jobs.specs.Events.{BeginsOne}
+use Rattle.rb_jobs.specs.RunEvents.{AreSomeOf}
 use Rattle.rb_session.specs.Turn.{Point, point, fetched_by}
-use Rattle.rb_session.proofs.HandedOut.{some_all, some_removed, some_trans}
-use Rattle.rb_session.proofs.Ways.{Begins, Retried, Way, did_nothing, did_end, did_call, did_retry, did_set}
-use Rattle.rb_jobs.specs.Hands.{BeginsJob, RetriesJob, Handles, HandlesAll}
+use Rattle.rb_jobs.proofs.HandedOut.{some_all, some_removed, some_trans}
+use Rattle.rb_jobs.proofs.Ways.{Begins, Retried, Way, did_nothing, did_end, did_call, did_retry, did_set}
+use Rattle.rb_jobs.specs.Hands.{RetriesJob, Handles, HandlesAll}
 use Rattle.rb_jobs.specs.SessionHands.{LeadsOn}
 
 -- who holds more handles as much, and one handles what follows behind what came before

@@ -13,8 +13,8 @@ use Rattle.rb_session.specs.Rules.{SessionRules}
 use Rattle.rb_session.specs.Served.{Served}
 use Rattle.rb_session.specs.Session.{Turn, Serves}
 use Rattle.rb_session.specs.Turn.{Point, point}
-use Rattle.rb_session.proofs.RunEvents.{ends_of}
-use Rattle.rb_session.proofs.Ways.{Way, WaysAlong, ways_of}
+use Rattle.rb_jobs.proofs.RunEvents.{ends_of}
+use Rattle.rb_jobs.proofs.Ways.{Way, WaysAlong, ways_of}
 
 module _ {S : Type 0} (rules : SessionRules S) (Along : Point S → Point S → Type 0)
     (stays : (from to : Point S) → to ≡ from → Along from to)

@@ -7,7 +7,7 @@ use Rattle.rb_queue.specs.declared.reply.Reply.{Reply}
 use Rattle.rb_queue.specs.declared.reply.Reply.TheVariants.{Offered, Item, Drained}
 use Rattle.rb_retry.specs.Made.{Made, made_by}
 use Rattle.rb_retry.specs.declared.policy.Policy.{Policy}
-use Rattle.rb_session.specs.RunEvents.{AreSomeOf}
+use Rattle.rb_jobs.specs.RunEvents.{AreSomeOf}
 use Rattle.rb_replay.specs.Links.{Begins, Follows}
 
 -- the element is the first of a job

@@ -11,15 +11,15 @@ use Rattle.rb_retry.specs.Made.{Made, made_by}
 use Rattle.rb_retry.specs.declared.policy.Policy.{Policy}
 use Rattle.rb_protocol.specs.declared.line_reply.LineReply.{LineReply}
 use Rattle.rb_protocol.specs.declared.line_reply.LineReply.TheVariants as lines
-use Rattle.rb_session.specs.Events.{made_in}
-use Rattle.rb_session.specs.JobEnds.{spent_of}
-use Rattle.rb_session.specs.RunEvents.{MadeByRun}
+use Rattle.rb_jobs.specs.Events.{made_in}
+use Rattle.rb_jobs.specs.JobEnds.{spent_of}
+use Rattle.rb_jobs.specs.RunEvents.{MadeByRun}
 use Rattle.rb_session.specs.Served.{Served}
 use Rattle.rb_session.specs.Session.{Turn}
 use Rattle.rb_session.specs.declared.delivery.Delivery.{Delivery}
 use Rattle.rb_options.specs.declared.server_run_options.ServerRunOptions.{ServerRunOptions}
 use Rattle.rb_runs.specs.Script.{RanSession, script_terms}
-use Rattle.rb_serving.specs.ServerEvents.{GrowsByVisits, IsOfSessions}
+use Rattle.rb_jobs.specs.ServerEvents.{GrowsByVisits, IsOfSessions}
 use Rattle.rb_serving.specs.Serving.{IsServersRun}
 use Rattle.rb_serving.specs.Terms.{Terms}
 use Rattle.rb_serving.specs.declared.serve_report.ServeReport.{ServeReport}

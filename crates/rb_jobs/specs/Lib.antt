@@ -1,6 +1,14 @@
 pub use Rattle.rb_replay.specs.Chaining
-pub use Rattle.rb_session.specs.RunEvents
+pub use Rattle.rb_retry.specs.Made
+pub use Rattle.rb_retry.specs.KeptSteps
 pub use Rattle.rb_runs.specs.Script
+pub use Rattle.rb_serving.specs.Serving
+pub mod HeldIds
+pub mod JobEnds
+pub mod Events
+pub mod RunEvents
+pub mod ScriptEvents
+pub mod ServerEvents
 pub mod Among
 pub mod Attempts
 pub mod Hands

@@ -17,4 +17,3 @@ pub mod Beginning
 pub mod FileText
 pub mod Script
 pub mod WrittenRuns
-pub mod ScriptEvents

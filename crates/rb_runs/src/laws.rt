@@ -1,4 +1,3 @@
-ghost use Rattle.rb_runs.specs.ScriptEvents.{RecordsByScript};
 ghost use Rattle.rb_runs.specs.WrittenRuns.{RecordedIsRead, ScriptIsRead};
 
 use std::io::Write;
@@ -14,11 +13,4 @@ pub fn recorded_is_read()
 /// read again as that of just this session.
 pub fn script_is_read<W: Write, H: Write>()
     ensures { ScriptIsRead W.contents H.contents }
-{}
-
-/// The history of a script begins with its opening. Its events are those of the lines that were served,
-/// and then those of the jobs that the session still held; it has no other. The desk's moment is then the
-/// latest of the opening's last event and those that the served `AT` lines named.
-pub fn history_of_script<W: Write>()
-    ensures { RecordsByScript W.contents }
 {}

@@ -13,7 +13,7 @@ mod script_report;
 mod script_run;
 mod text_verdict;
 
-pub use laws::{history_of_script, recorded_is_read, script_is_read};
+pub use laws::{recorded_is_read, script_is_read};
 pub use opening::opening_in;
 pub use reading::{read_all, read_all_limited};
 pub use recording::Recording;

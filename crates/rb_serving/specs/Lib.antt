@@ -9,4 +9,3 @@ pub mod Terms
 pub mod VisitCounts
 pub mod Visits
 pub mod Serving
-pub mod ServerEvents

@@ -1,7 +1,7 @@
 -- What visits come to.
 use Rattle.std.specs.Prelude.{ℕ, Result, Ok, Err}
 use Rattle.rb_ledger.specs.Totals.{capped_sum}
-use Rattle.rb_session.specs.JobEnds.{lost_in}
+use Rattle.rb_session.specs.Served.{lost_in}
 use Rattle.rb_session.specs.declared.ended.Ended.{Ended}
 use Rattle.rb_session.specs.declared.session_fault.SessionFault.{SessionFault}
 use Rattle.rb_serving.specs.declared.serve_report.ServeReport.{ServeReport}

@@ -5,7 +5,6 @@
 #![tactic(auto)]
 
 mod door;
-mod event_laws;
 mod laws;
 mod serve_clock;
 mod serve_end;
@@ -21,7 +20,6 @@ mod worker;
 mod workers;
 
 pub use door::{Door, DoorFault};
-pub use event_laws::{calls_of_visit, history_of_server};
 pub use laws::pause_has_its_value;
 pub use serve_clock::ServeClock;
 pub use serve_end::{ServerEnd, end_server};

@@ -1,6 +1,6 @@
 ghost use Rattle.std.specs.Prelude.{◌≡◌};
 ghost use Rattle.rb_serving.specs.VisitCounts.{no_visit, refused_visit, ended_visit, both_counts};
-ghost use Rattle.rb_session.specs.JobEnds.{lost_in};
+ghost use Rattle.rb_session.specs.Served.{lost_in};
 
 use rb_session::{Ended, SessionFault};
 

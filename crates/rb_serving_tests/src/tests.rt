@@ -4,5 +4,6 @@ mod endings;
 mod machine_clock;
 mod memory_refusals;
 mod retries;
+mod session_events;
 mod tcp;
 mod visits;

@@ -1,5 +1,5 @@
 -- The lemmas of this crate, by subject: how lines are read and served, how replies are sent, devices that tell their
--- bytes, and the jobs that are held.
+-- bytes, and what of a desk stays.
 pub mod LongerExchanges
 pub mod Buffers
 pub mod LineFeeds
@@ -9,9 +9,4 @@ pub mod Turns
 pub mod Outlets
 pub mod Gatherings
 pub mod KnownDevices
-pub mod Ways
-pub mod Events
-pub mod KeptEvents
-pub mod GivenJobs
-pub mod HandedOut
-pub mod RunEvents
+pub mod DeskParts

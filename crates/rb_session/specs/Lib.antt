@@ -4,7 +4,6 @@ pub use Rattle.rb_protocol.specs.ReplyText
 pub use Rattle.rb_retry.specs.Retry
 pub use Rattle.rb_retry.specs.Asked
 pub use Rattle.rb_retry.specs.Jobs
-pub use Rattle.rb_retry.specs.Made
 pub mod Lines
 pub mod Rules
 pub mod Served
@@ -12,13 +11,10 @@ pub mod Held
 pub mod Turn
 pub mod Session
 pub mod Exchange
-pub mod JobEnds
 pub mod Closing
-pub mod Events
 pub mod Ran
 pub mod Reasons
 pub mod Outlet
 pub mod Buffer
 pub mod Progress
 pub mod Growth
-pub mod RunEvents

@@ -3,7 +3,7 @@ use Rattle.std.specs.Prelude.{◌≡◌, ℕ, ◌-◌, ◌<◌, ◌⊎◌, Optio
 use Rattle.std.specs.Prelude.{List, [], ◌∷◌, ◌++◌, length, map, drop}
 use Rattle.rb_delayed.specs.declared.element.Element.{Element}
 use Rattle.rb_queue.specs.declared.ask.Ask.{Ask}
-use Rattle.rb_queue.specs.declared.ask.Ask.TheVariants.{Offer}
+use Rattle.rb_queue.specs.declared.ask.Ask.TheVariants.{Offer, Poll, Take, PollFor}
 use Rattle.rb_queue.specs.declared.draft.Draft.{Draft}
 use Rattle.rb_queue.specs.declared.reply.Reply.{Reply}
 use Rattle.rb_kept.specs.declared.fault.CallFault.{CallFault}
@@ -14,7 +14,7 @@ use Rattle.rb_protocol.specs.declared.line_reply.LineReply.TheVariants as lines
 use Rattle.rb_protocol.specs.declared.streams.writing.WriteFault.{WriteFault}
 use Rattle.rb_session.specs.Buffer.{IsUnserved}
 use Rattle.rb_session.specs.Rules.{SessionRules, IsGathered}
-use Rattle.rb_session.specs.Turn.{Point, IsFirstDraft, fault_line, refusal_word, reply_line, lines_for, fetched_by}
+use Rattle.rb_session.specs.Turn.{Point, IsFirstDraft, fault_line, reply_line, lines_for, fetched_by}
 use Rattle.rb_session.specs.Session.{ServesToEnd, ServesToQuit, rest_text}
 use Rattle.rb_session.specs.Ran.{BreaksOff, FailsToSend}
 use Rattle.rb_session.specs.declared.delivery.Delivery.{Delivery}
@@ -31,11 +31,6 @@ abbrev pub answer_line : Result Reply DeskFault → LineReply
 answer_line (Ok reply) = reply_line reply
 answer_line (Err fault) = fault_line fault
 
--- the line for an offer
-abbrev pub offered_line : Result Element CallFault → LineReply
-offered_line (Ok element) = lines.Offered element.id element.expiry
-offered_line (Err fault) = lines.Err (refusal_word fault)
-
 -- an element is offered for the first time, and this is the line for what the desk answers
 pub record OffersAt {S : Type 0} (Steps : S → ℕ → Ask → Result Reply DeskFault → S → Type 0) (old : S)
     (now expires : ℕ) (bytes : List ℕ) (reply : LineReply) (new : S) : Type 0 where
@@ -43,12 +38,19 @@ pub record OffersAt {S : Type 0} (Steps : S → ℕ → Ask → Result Reply Des
   pub is_first : IsFirstDraft draft expires bytes
   pub offered : Result Element CallFault
   pub steps : Steps old now (Offer draft) (offer_answer offered) new
-  pub line : reply ≡ offered_line offered
+  pub line : reply ≡ answer_line (offer_answer offered)
 
 -- all lines of a reply: behind a drain's come the last elements that are held
 abbrev pub replies_of : LineReply → List Element → List LineReply
 replies_of (lines.Drained count) held = lines.Drained count ∷ map lines.Item (drop (length held - count) held)
 replies_of reply held = reply ∷ []
+
+-- the ask is one by which a session fetches one job, at the moment that it names, or at none if it waits by the clock
+abbrev pub FetchesOne : ℕ → Ask → Type 0
+FetchesOne asked Poll = Unit {0}
+FetchesOne asked Take = asked ≡ 0
+FetchesOne asked (PollFor start timeout) = asked ≡ start
+FetchesOne asked _ = ⊥
 
 -- what an answer hands out is held, and this is its line
 pub record IsHolding (old : List Element) (answer : Result Reply DeskFault) (reply : LineReply)

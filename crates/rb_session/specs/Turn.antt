@@ -10,9 +10,9 @@ use Rattle.rb_queue.specs.declared.reply.Reply.{Reply}
 use Rattle.rb_queue.specs.declared.reply.Reply.TheVariants.{Offered, Item, Nothing, Head}
 use Rattle.rb_queue.specs.declared.reply.Reply.TheVariants.{Removed, Drained, Cleared, Size}
 use Rattle.rb_kept.specs.declared.fault.CallFault.{CallFault}
-use Rattle.rb_kept.specs.declared.fault.CallFault.TheVariants as refusals
 use Rattle.rb_retry.specs.DeskRules.{DeskRules}
 use Rattle.rb_retry.specs.Jobs.{FailsTo}
+use Rattle.rb_retry.specs.KeptSteps.{fault_of}
 use Rattle.rb_retry.specs.declared.desk_fault.DeskFault.{DeskFault}
 use Rattle.rb_retry.specs.declared.desk_fault.DeskFault.TheVariants.{Full, Memory, Stopped}
 use Rattle.rb_retry.specs.declared.verdict.Verdict.{Verdict}
@@ -69,16 +69,11 @@ abbrev pub moment_line : Option ℕ → LineReply
 moment_line (Some moment) = lines.Now moment
 moment_line None = lines.Err words.Syntax
 
--- the word for an offer that was refused
-abbrev pub refusal_word : CallFault → ErrWord
-refusal_word refusals.Full = words.Full
-refusal_word refusals.Memory = words.Memory
-
 -- the line for a job that failed
 abbrev pub verdict_line : Result Verdict (Element × CallFault) → LineReply
 verdict_line (Ok (Again again)) = lines.Again again.id again.expiry
 verdict_line (Ok (Dead dead)) = lines.Dead dead.id
-verdict_line (Err (back, fault)) = lines.Err (refusal_word fault)
+verdict_line (Err (back, fault)) = fault_line (fault_of fault)
 
 -- what is held after the element at this place failed: not that one, unless its next attempt was refused
 abbrev pub held_after : Result Verdict (Element × CallFault) → List Element → ℕ → List Element

@@ -4,11 +4,10 @@ ghost use Rattle.rb_queue.specs.declared.reply.Reply.{Reply};
 ghost use Rattle.rb_retry.specs.declared.desk_fault.DeskFault.{DeskFault};
 ghost use Rattle.rb_protocol.specs.declared.line_reply.LineReply.TheVariants as lines;
 ghost use Rattle.rb_protocol.specs.declared.err_word.ErrWord.TheVariants as words;
-ghost use Rattle.rb_session.specs.Turn.{fault_line, refusal_word, reply_line};
+ghost use Rattle.rb_session.specs.Turn.{fault_line, reply_line};
 ghost use Rattle.rb_session.specs.Progress.{answer_line, OffersAt};
 
 use rb_delayed::{Payload, add_delay};
-use rb_kept::CallFault;
 use rb_protocol::{ErrWord, LineReply};
 use rb_queue::{Ask, Draft, Reply};
 use rb_retry::{Desk, DeskFault};
@@ -45,17 +44,7 @@ pub(crate) fn offer_at<D: Desk>(desk: &mut D, now: u64, expiry: u64, payload: Pa
             id: element.id,
             expiry: element.expiry,
         },
-        Err(fault) => LineReply::Err(refusal_word(fault)),
-    }
-}
-
-/// The word for an offer that was refused.
-pub(crate) fn refusal_word(fault: CallFault) -> ErrWord
-    ensures { result ≡ refusal_word fault }
-{
-    match fault {
-        CallFault::Full => ErrWord::Full,
-        CallFault::Memory => ErrWord::Memory,
+        Err(fault) => fault_line(DeskFault::from(fault)),
     }
 }
 

@@ -7,10 +7,10 @@ ghost use Rattle.rb_session.specs.Turn.{point, AnswersAlone, IsFailure};
 ghost use Rattle.rb_session.specs.Closing.{Closes};
 ghost use Rattle.rb_session.specs.Progress.{replies_of};
 
-use crate::calls::refusal_word;
+use crate::calls::fault_line;
 use crate::held_jobs::HeldJobs;
 use rb_protocol::{ErrWord, LineReply};
-use rb_retry::{Desk, Policy, Verdict, done, fail};
+use rb_retry::{Desk, DeskFault, Policy, Verdict, done, fail};
 
 /// The job of this id is done, if it is held.
 pub(crate) fn finish_job(held: &mut HeldJobs, id: u64) -> LineReply
@@ -51,7 +51,7 @@ pub(crate) fn fail_job<D: Desk>(
         Ok(Verdict::Dead(dead)) => LineReply::Dead(dead.id),
         Err((job, fault)) => {
             held.put_back(place, job);
-            LineReply::Err(refusal_word(fault))
+            fault_line(DeskFault::from(fault))
         }
     }
 }

@@ -17,7 +17,6 @@ mod line_buffer;
 mod outlet;
 mod replies;
 mod run;
-mod run_laws;
 mod session;
 mod session_fault;
 mod stop;
@@ -26,10 +25,6 @@ pub use delivery::Delivery;
 pub use ended::Ended;
 pub use hands_on::HandsOn;
 pub use held_jobs::MOST_HELD;
-pub use laws::{
-    came_first, each_id_held_once, events_of_session, history_of_session, sent_last,
-    session_limits_have_their_values,
-};
+pub use laws::{came_first, sent_last, session_limits_have_their_values};
 pub use run::{run_limited, run_session};
-pub use run_laws::{events_of_run, history_of_run};
 pub use session_fault::SessionFault;

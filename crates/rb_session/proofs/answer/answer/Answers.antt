@@ -14,11 +14,11 @@ use Rattle.rb_protocol.specs.declared.line_reply.LineReply.{LineReply}
 use Rattle.rb_retry.specs.Asked.{offer_answer}
 use Rattle.rb_retry.specs.declared.desk_fault.DeskFault.{DeskFault}
 use Rattle.rb_session.specs.Turn.{point, IsCall, IsFirstDraft, fetched_by, lines_for}
-use Rattle.rb_session.specs.Progress.{OffersAt, offered_line, replies_of}
+use Rattle.rb_session.specs.Progress.{OffersAt, answer_line, replies_of}
 use Rattle.rb_session.proofs.answer.answer.Goals as goal
 
 one_line : (offered : Result Element CallFault) (held : List Element)
-    → replies_of (offered_line offered) held ≡ lines_for (offer_answer offered)
+    → replies_of (answer_line (offer_answer offered)) held ≡ lines_for (offer_answer offered)
 one_line (Ok element) held = refl
 one_line (Err Full) held = refl
 one_line (Err Memory) held = refl

@@ -4,13 +4,15 @@ use Rattle.std.proofs.Common.{insert, remove, slice_get}
 use Rattle.std.specs.Prelude.{MatchOption}
 use Rattle.rb_delayed.specs.declared.element.Element.{Element}
 use Rattle.rb_kept.specs.declared.fault.CallFault.{CallFault}
-use Rattle.rb_protocol.specs.declared.err_word.ErrWord.{ErrWord}
-use Rattle.rb_protocol.specs.declared.line_reply.LineReply.TheVariants as lines
+use Rattle.rb_protocol.specs.declared.line_reply.LineReply.{LineReply}
 use Rattle.rb_retry.specs.DeskRules.{desk_rules}
 use Rattle.rb_retry.specs.Jobs.{FailsTo}
+use Rattle.rb_retry.specs.declared.desk_fault.DeskFault.{DeskFault}
+use Rattle.rb_retry.specs.declared.desk_fault.DeskFault.TheVariants.{Full, Memory, Stopped}
 use Rattle.rb_retry.specs.declared.verdict.Verdict.{Verdict}
 use Rattle.rb_retry.specs.declared.verdict.Verdict.TheVariants.{Again, Dead}
 use Rattle.rb_session.specs.Progress.{replies_of}
+use Rattle.rb_session.specs.Turn.{fault_line}
 use Rattle.rb_session.proofs.held_job_ends.fail_job.Given.{Over}
 use Rattle.rb_session.proofs.held_job_ends.fail_job.Goals as goal
 use Rattle.rb_session.proofs.held_job_ends.fail_job.Goals.{After-fail}
@@ -29,6 +31,12 @@ put_back (first ∷ held) zero element there =
     ap (λ (e : Element). e ∷ held) same
 put_back (first ∷ held) (suc place) element there =
     ap (λ (es : List Element). first ∷ es) (put_back held place element there)
+
+-- a fault's line is one alone
+one_line : (fault : DeskFault) (held : List Element) → replies_of (fault_line fault) held ≡ fault_line fault ∷ []
+one_line Full held = refl
+one_line Memory held = refl
+one_line Stopped held = refl
 
 -- how the job failed, by the result
 failed : (g : Over) (c : After-fail g) (result : Result Verdict (Element × CallFault)) → c.fail.result ≡ result
@@ -69,7 +77,9 @@ returns-in-Err g c =
       c.take_out.ensures.job,
       Err (c.in-Err.job, c.in-Err.fault),
       fails,
-      ap (λ (word : ErrWord). replies_of (lines.Err word) c.put_back.new.self) c.refusal_word.ensures,
+      ap (λ (line : LineReply). replies_of line c.put_back.new.self) c.fault_line.ensures
+          ∙ one_line c.from.result c.put_back.new.self
+          ∙ ap (λ (fault : DeskFault). fault_line fault ∷ []) c.from.ensures,
       c.put_back.ensures
           ∙ ap (λ (held : List Element). insert held c.in-Some.place c.in-Err.job) c.take_out.ensures.rest
           ∙ put_back c.args.held.now c.in-Some.place c.in-Err.job

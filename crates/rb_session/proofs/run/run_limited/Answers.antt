@@ -23,7 +23,7 @@ use Rattle.rb_session.specs.declared.stop.Stop.{Stop}
 use Rattle.rb_session.specs.declared.stop.Stop.TheVariants as stops
 use Rattle.rb_session.proofs.Gatherings.{known_at_first, all_sent, is_shared}
 use Rattle.rb_session.proofs.Outlets.{reason_to_end}
-use Rattle.rb_session.proofs.RunEvents.{ends_of, run_keeps}
+use Rattle.rb_session.proofs.DeskParts.{stays}
 use Rattle.rb_session.proofs.run.run_limited.Given.{Over}
 use Rattle.rb_session.proofs.run.run_limited.Goals as goal
 use Rattle.rb_session.proofs.run.run_limited.Goals.{After-end_of}
@@ -141,12 +141,12 @@ returns-clause-ran g c =
 pub returns-clause-name : goal.returns-clause-name
 returns-clause-name g c =
     let ran = whole g (goal.at.returns-clause-name g c).After-end_of in
-    run_keeps (desk_rules g.D.Desk c.args.policy.now) g.D.Desk.name g.met.D.Desk.keeps_name g.met.D.Desk.sets_no_name
-    (ends_of (session_rules (desk_rules g.D.Desk c.args.policy.now) c.args.delivery
+    stays (session_rules (desk_rules g.D.Desk c.args.policy.now) c.args.delivery
     (HadGotBehind g.W.Write.contents (g.W.Write.contents c.args.writer.now)))
+    g.D.Desk.name g.met.D.Desk.keeps_name g.met.D.Desk.sets_no_name
     (IsAtEnd (g.R.Read.remaining c.serve-stopped.new.reader.inner.now)) (g.D.Desk.state c.args.desk.now)
     (g.D.Desk.state c.fail_all-lost.new.desk)
-    (record { came = ran.came; sent = ran.sent; ended = c.end_of.result }) c.end_of.result ran.holds)
+    (record { came = ran.came; sent = ran.sent; ended = c.end_of.result }) c.end_of.result ran.holds
 
 pub returns-clause-reason : goal.returns-clause-reason
 returns-clause-reason g c =
