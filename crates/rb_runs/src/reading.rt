@@ -1,9 +1,9 @@
-ghost use Rattle.std.specs.Prelude.{◌≡◌, ◌<◌, ◌≤◌, Err, IfOk, length, vec_len};
+ghost use Rattle.std.specs.Prelude.{◌≡◌, ◌<◌, ◌≤◌, Err, length};
 ghost use Rattle.rb_runs.specs.FileText.{ReadsAll, IsReadReason};
 
 use rb_ending::BrokerFault;
 use rb_protocol::{BUFFER_BYTES, LimitedReader};
-use std::alloc::{AllocError, Global};
+use std::alloc::Global;
 use std::io::{ErrorKind, Read};
 
 /// Everything that a reader gives, up to its end.
@@ -33,7 +33,7 @@ pub fn read_all_limited<R: Read>(
     ensures counted { reader.new.left ≤ reader.old.left }
     ensures same_reference { reader.new.inner.ghost_name ≡ reader.old.inner.ghost_name }
 {
-    let mut piece = empty_piece(alloc)?;
+    let mut piece = vec![in alloc; 0; BUFFER_BYTES]?;
     read_pieces(alloc, reader, &mut piece)
 }
 
@@ -64,11 +64,4 @@ fn read_pieces<R: Read>(
         }
     }
     Err(BrokerFault::ReadTurns)
-}
-
-// Room for one read.
-fn empty_piece(alloc: Global) -> Result<Vec<u8>, AllocError>
-    ensures { IfOk result (λ piece. 0 < vec_len piece) }
-{
-    vec![in alloc; 0; BUFFER_BYTES]
 }

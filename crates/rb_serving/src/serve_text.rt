@@ -1,4 +1,3 @@
-ghost use Rattle.std.specs.Prelude.{◌≡◌, IfOk, IfErr, string_bytes};
 ghost use Rattle.rb_serving.specs.ServeText.{Prints, listening_text, report_text};
 
 use crate::serve_report::ServeReport;
@@ -32,19 +31,10 @@ pub(crate) fn print_report<T: Timer, W: Write>(
 ) -> Result<(), BrokerFault>
     ensures { Prints result (W.contents writer.old) (report_text report.now) (W.contents writer.new) }
 {
-    let text = report_lines(alloc, report)?;
-    print(writer, &text)
-}
-
-// The two lines.
-fn report_lines<T: Timer>(alloc: Global, report: &ServeReport<T>) -> Result<String, BrokerFault>
-    ensures text { IfOk result (λ text. string_bytes text ≡ report_text report.now) }
-    ensures fault { IfErr result (λ fault. fault ≡ BrokerFault.Memory) }
-{
     let (sessions, faults, lost) = (report.sessions, report.faults, report.lost);
     let mut text = format!(in alloc; "sessions {sessions} faults {faults} lost {lost}\n")?;
     text.push_str(&audit_line(alloc, &report.audit)?)?;
-    Ok(text)
+    print(writer, &text)
 }
 
 // Writes a text and flushes.

@@ -5,7 +5,7 @@ ghost use Rattle.rb_session.specs.Turn.{word_for, point, moment_line, IsTurn};
 ghost use Rattle.rb_session.specs.Progress.{replies_of};
 
 use crate::calls::{call, offer, offer_at};
-use crate::fetches::{drain_jobs, poll_job, poll_job_for, take_job};
+use crate::fetches::{drain_jobs, fetch_job};
 use crate::held_job_ends::{fail_job, finish_job};
 use crate::held_jobs::HeldJobs;
 use rb_protocol::{ErrWord, LineFault, LineReply, Request};
@@ -33,9 +33,17 @@ pub(crate) fn answer<D: Desk>(
     match request {
         Request::Offer { delay, payload } => offer(desk, now, delay, payload),
         Request::OfferAt { expiry, payload } => offer_at(desk, now, expiry, payload),
-        Request::Poll => poll_job(desk, held, now),
-        Request::PollFor(timeout) => poll_job_for(desk, held, now, timeout),
-        Request::Take => take_job(desk, held),
+        Request::Poll => fetch_job(desk, held, now, Ask::Poll),
+        Request::PollFor(timeout) => fetch_job(
+            desk,
+            held,
+            now,
+            Ask::PollFor {
+                start: now,
+                timeout,
+            },
+        ),
+        Request::Take => fetch_job(desk, held, 0, Ask::Take),
         Request::Peek => call(desk, now, Ask::Peek),
         Request::Remove(id) => call(desk, now, Ask::Remove(id)),
         Request::Drain(most) => drain_jobs(desk, held, now, most),

@@ -2,56 +2,36 @@ ghost use Rattle.std.specs.Prelude.{◌≡◌, ℕ, ◌-◌, ◌<◌, min, lengt
 ghost use Rattle.rb_queue.specs.declared.ask.Ask.TheVariants as asks;
 ghost use Rattle.rb_retry.specs.Jobs.{answer_with};
 ghost use Rattle.rb_session.specs.Turn.{point, IsCall, IsFetch};
-ghost use Rattle.rb_session.specs.Progress.{replies_of, IsHolding};
+ghost use Rattle.rb_session.specs.Progress.{replies_of, FetchesOne, IsHolding};
 ghost use Rattle.rb_session.specs.declared.held_jobs.TheConstants.{MOST_HELD};
 
 use crate::calls::fault_line;
 use crate::held_jobs::HeldJobs;
 use rb_protocol::{ErrWord, LineReply};
+use rb_queue::Ask;
 use rb_retry::{Desk, DeskFault, Job, poll, poll_for, take};
 
-/// Fetches the head, if there is one now and room for it.
-pub(crate) fn poll_job<D: Desk>(desk: &mut D, held: &mut HeldJobs, now: u64) -> LineReply
-    ensures { IsFetch D.Steps
-        (point (D.state desk.old) held.old) now asks.Poll
-        (replies_of result held.new) (point (D.state desk.new) held.new) }
-{
-    if held.free() == 0 {
-        return LineReply::Err(ErrWord::Held);
-    }
-    let fetched = poll(desk, now);
-    hold(held, fetched)
-}
-
-/// Fetches the head, waiting for it until `timeout` nanoseconds from now, if there is room for it.
-pub(crate) fn poll_job_for<D: Desk>(
+/// Fetches one job by this ask, which is a poll, a take or a timed poll, if there is room for it.
+#[inline(always)]
+pub(crate) fn fetch_job<D: Desk>(
     desk: &mut D,
     held: &mut HeldJobs,
-    now: u64,
-    timeout: u64,
+    asked: u64,
+    ask: Ask,
 ) -> LineReply
-    ensures { IsFetch D.Steps
-        (point (D.state desk.old) held.old) now (asks.PollFor now timeout)
+    requires { FetchesOne asked ask }
+    ensures { IsFetch D.Steps (point (D.state desk.old) held.old) asked ask
         (replies_of result held.new) (point (D.state desk.new) held.new) }
 {
     if held.free() == 0 {
         return LineReply::Err(ErrWord::Held);
     }
-    let fetched = poll_for(desk, now, timeout);
-    hold(held, fetched)
-}
-
-/// Fetches the head, waiting for it, if there is room for it.
-pub(crate) fn take_job<D: Desk>(desk: &mut D, held: &mut HeldJobs) -> LineReply
-    ensures { IsFetch D.Steps
-        (point (D.state desk.old) held.old) 0 asks.Take
-        (replies_of result held.new) (point (D.state desk.new) held.new) }
-{
-    if held.free() == 0 {
-        return LineReply::Err(ErrWord::Held);
+    match ask {
+        Ask::Poll => hold(held, poll(desk, asked)),
+        Ask::PollFor { start, timeout } => hold(held, poll_for(desk, start, timeout)),
+        Ask::Take => hold(held, take(desk).map(Some)),
+        _ => unreachable!(),
     }
-    let fetched = take(desk).map(Some);
-    hold(held, fetched)
 }
 
 /// Fetches what is expired now, at most `most` elements and no more than there is room for.
