@@ -32,3 +32,8 @@ class Command(RoomTest):
             lines = definitions(word).stdout.split("\n")
             names = {name for line in lines if "pub " in line for name in line.split()}
             self.assertEqual((set(), set()), ({*there.split()} - names, {*absent.split()} & names))
+
+    def test_reader_that_leaves(self) -> None:
+        command = f"'{TOP}/dev/definitions' serve_door_gathered | true; exit ${{PIPESTATUS[0]}}"
+        ran = subprocess.run(["bash", "-c", command], capture_output=True, text=True, check=False)
+        self.assertEqual((2, "definitions: cannot write output\n"), (ran.returncode, ran.stderr))
