@@ -13,9 +13,9 @@ PROMTOOL = shutil.which("promtool")
 ALERTS = f"{TOP}/examples/alerts.yml"
 
 
-def promtool(what: str, given: str, *paths: str) -> tuple[int, str]:
-    """What promtool says of something that it checks."""
-    words = [str(PROMTOOL), "check", what, *paths]
+def promtool(what: str, given: str, *paths: str, does: str = "check") -> tuple[int, str]:
+    """What promtool says of something that it checks or tests."""
+    words = [str(PROMTOOL), does, what, *paths]
     ran = subprocess.run(words, input=given, capture_output=True, encoding="utf-8", check=False)
     return ran.returncode, ran.stdout + ran.stderr
 
@@ -75,3 +75,5 @@ class MetricsTest(RoomTest):
         status, said = promtool("rules", "", ALERTS)
         self.assertEqual(status, 0, said)
         self.assertNotEqual(promtool("metrics", "no metric\n")[0], 0, "promtool does not check")
+        status, said = promtool("rules", "", f"{TOP}/tools/servicing/tests/alerts.yml", does="test")
+        self.assertEqual(status, 0, said)
