@@ -18,9 +18,8 @@ from typing import Any
 import redis
 
 from serving import HOST
+from serving.server import PORTS
 
-PORTS = range(*map(int, os.environ.get("RB_BROKER_PORTS", "26000-27000").split("-")))
-"""Of this process alone. A node of a Cluster also has the port that is 10,000 above its own."""
 _given: deque[int] = deque(maxlen=10)  # the ports that were given last
 PATIENCE = 180  # seconds that anything may take, on a busy machine
 
@@ -34,7 +33,8 @@ class NotReady(Exception):
 
 
 def free_port() -> int:
-    """A port at which nobody listens, nor at the one that belongs to it in a Cluster, and nobody is just to begin."""
+    """A port at which nobody listens, nor at the one 10,000 above it, which belongs to it in a Cluster, and nobody is just
+    to begin."""
     while True:
         port = random.choice([it for it in PORTS if it not in _given])
         _given.append(port)

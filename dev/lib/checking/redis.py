@@ -15,7 +15,7 @@ import shutil
 import subprocess
 import sys
 
-from checking.suites import PLACE, tests_below, try_side_by_side
+from checking.suites import tests_below, try_side_by_side
 from checking.tally import Tally
 from common.program import TOP
 
@@ -27,7 +27,6 @@ COMMANDS = ("redis-server", "redis-sentinel", "redis-cli")
 SYSTEM_PYTHON = "/usr/bin/python3"  # for which Debian has the package python3-redis
 USABLE = "import sys, redis.asyncio; sys.exit(sys.version_info < (3, 11))"
 AT_ONCE = int(os.environ.get("RB_BROKER_AT_ONCE", 4))
-PORTS = range(26_000, 27_000)  # of which each process has its own
 LONGEST = [f"test_{it}" for it in ("hostile_day", "script", "lost", "cluster", "talks", "gateway", "load", "types")]
 
 
@@ -53,8 +52,4 @@ def check(tally: Tally) -> None:
         tally.skip("redis", f"there is no {' and no '.join(absent)}")
         return
     os.environ.update({"PYTHONPATH": os.pathsep.join(PATHS), "PYTHONDONTWRITEBYTECODE": "1"})
-    if PLACE in os.environ:
-        place, at_once = map(int, os.environ[PLACE].split("/"))
-        first, count = PORTS.start + len(PORTS) // at_once * place, len(PORTS) // at_once
-        os.environ["RB_BROKER_PORTS"] = f"{first}-{first + count}"
     try_side_by_side(tally, tests_below(TESTS, TESTS, tally.only), AT_ONCE, LONGEST)

@@ -12,8 +12,8 @@ from checking.tally import Tally
 from common.program import TOP
 from side_by_side import side_by_side
 
-# Where a process that tries one class finds which of how many it is, from 0.
-PLACE = "RB_BROKER_PLACE"
+# Where a process finds the ports for its servers, as FIRST-END, and one that tries one class finds that it does.
+PORTS, TRIES_CLASS = "RB_BROKER_PORTS", "RB_BROKER_TRIES_CLASS"
 COUNTS = re.compile(r"(\d+) passed, (\d+) failed(?:, (\d+) skipped)?")
 
 
@@ -41,22 +41,24 @@ def try_tests(tally: Tally, suite: unittest.TestSuite) -> None:
 
 
 def try_side_by_side(tally: Tally, suite: unittest.TestSuite, at_once: int, first: Sequence[str] = ()) -> None:
-    """Runs the tests of a part in so many processes, of which each tries the part with `--only` the name of a class.
-    Classes whose names begin with one of the words in `first` are begun first, as they take longest; then those with
-    most tests."""
-    if PLACE in os.environ:
+    """Runs the tests of a part in so many processes, of which each tries the part with `--only` the name of a class, and
+    has some of its ports. Classes whose names begin with one of the words in `first` are begun first, as they take
+    longest; then those with most tests."""
+    if TRIES_CLASS in os.environ:
         try_tests(tally, suite)
         return
     counts = Counter(it.id().rpartition(".")[0] for it in tests_in(suite))
     order = sorted(counts, key=lambda it: (not it.startswith(tuple(first)), -counts[it]))
-    places: queue.SimpleQueue[str] = queue.SimpleQueue()
+    first_port, end = map(int, os.environ[PORTS].split("-"))
+    count = (end - first_port) // at_once
+    ports: queue.SimpleQueue[str] = queue.SimpleQueue()
     for place in range(at_once):
-        places.put(f"{place}/{at_once}")
+        ports.put(f"{first_port + count * place}-{first_port + count * (place + 1)}")
 
     def try_class(name: str) -> str:
-        place = places.get()
-        _, said = try_apart(tally.part, [f"{name}."], **{PLACE: place})
-        places.put(place)
+        its_ports = ports.get()
+        _, said = try_apart(tally.part, [f"{name}."], **{TRIES_CLASS: name, PORTS: its_ports})
+        ports.put(its_ports)
         return said
 
     for name, said in side_by_side(try_class, order, at_once):

@@ -1,6 +1,7 @@
 """The program as a server."""
 import atexit
 import contextlib
+import os
 import random
 import socket
 import subprocess
@@ -11,7 +12,8 @@ from typing import NamedTuple, Self, Sequence
 from common.program import tested_program
 from serving import HOST, PATIENCE
 
-PORTS = range(20_000, 32_000)  # below those that the system gives to clients
+# Below those that the system gives to clients. Each part of dev/check has some of its own.
+PORTS = range(*map(int, os.environ.get("RB_BROKER_PORTS", "20000-32000").split("-")))
 TRIES = 20  # of ports, which others may have
 
 

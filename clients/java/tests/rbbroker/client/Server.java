@@ -35,7 +35,7 @@ final class Server implements AutoCloseable {
     /** Starts a server with these options. */
     static Server start(Object... options) throws IOException {
         for (int tries = 0; tries < 20; tries++) {
-            Server server = startAt(ThreadLocalRandom.current().nextInt(22_500, 23_000), options);
+            Server server = startAt(ThreadLocalRandom.current().nextInt(32_000, 32_500), options);
             if (server != null) {
                 return server;
             }
