@@ -8,9 +8,10 @@ from dataclasses import dataclass
 from pathlib import Path
 from typing import Sequence
 
-from checking.suites import tests_below, try_side_by_side, try_tests
+from checking.suites import add, tests_below, try_apart, try_side_by_side, try_tests
 from checking.tally import Tally
 from common.program import TOP, tested_program
+from side_by_side import side_by_side
 
 CLIENT, KINDS = f"{TOP}/clients/python", ["unit", "served", "day"]
 PROCESSORS = os.cpu_count() or 1
@@ -55,8 +56,12 @@ def try_command(tally: Tally, words: Sequence[str]) -> None:
 
 
 def try_client(tally: Tally) -> None:
-    """The tests of the Python package, by folder. Its modules import each other, and those of `served`, by their names
-    alone."""
+    """The tests of the Python package, side by side by their folder unless only some are wanted. Its modules import each
+    other, and those of `served`, by their names alone."""
+    if not tally.only:
+        for kind, (_, said) in side_by_side(lambda it: try_apart(tally.part, [it]), KINDS, len(KINDS)):
+            add(tally, kind, said)
+        return
     sys.path[:0] = [f"{CLIENT}/src", *(f"{CLIENT}/tests/{it}" for it in KINDS)]
     os.environ.update({"PYTHONPATH": f"{CLIENT}/src", "PYTHONDONTWRITEBYTECODE": "1"})  # for workers as processes
     only = [it for it in tally.only if it not in KINDS]

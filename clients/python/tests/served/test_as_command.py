@@ -2,6 +2,7 @@
 import signal
 import subprocess
 import time
+from pathlib import Path
 
 from history import History
 from server import PATIENCE, ServedTest
@@ -98,9 +99,11 @@ class CommandTest(ServedTest):
 
     def test_it_says_when_a_server_is_gone_and_when_it_is_served_again(self):
         server = self.serve("--sessions", 9)
-        worker = self.start(server)
+        record = Path(self.file("record", ""))
+        worker = self.start(server, "--record", str(record))
         self.assert_done(server, "offer", 0, "first")
         self.assertEqual(worker.stdout.readline(), "first 1\n")
+        self.wait_until(lambda: "DONE 0" in record.read_text())
         server.kill()
         time.sleep(1)  # it looks for the next one meanwhile
         following = self.serve("--sessions", 2, port=server.port)
