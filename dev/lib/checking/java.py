@@ -1,10 +1,11 @@
 """The client package for Java, clients/java.
 
 javac compiles the package and its tests with all warnings, none of which it may give, and javadoc writes the pages of
-all public items. Then JUnit runs the tests, mvn builds the package by its pom.xml, and the README's first part is
-followed. The last test is the hostile day of clients/python. A JDK of version 17 or later is needed, and JUnit 4 with
-hamcrest where Debian's package junit4 puts them; without mvn and its plugins, what needs these is skipped by name.
+all public items. Then JUnit runs the tests, mvn builds the package by its pom.xml, the README's first part is followed,
+and there is the hostile day of clients/python, all side by side. A JDK of version 17 or later is needed, and JUnit 4
+with hamcrest where Debian's package junit4 puts them; without mvn and its plugins, what needs these is skipped by name.
 """
+import functools
 import os
 import re
 import shlex
@@ -20,6 +21,7 @@ from checking.suites import tests_below, try_tests
 from checking.tally import Tally
 from common.program import TOP, tested_program
 from serving.server import Server
+from side_by_side import side_by_side
 
 CLIENT = Path(TOP, "clients", "java")
 JARS = ("/usr/share/java/junit4.jar", "/usr/share/java/hamcrest.jar")
@@ -149,15 +151,14 @@ def check(tally: Tally) -> None:
         return
     with tempfile.TemporaryDirectory() as room:
         path = build(room, tally)
-        kinds = [it for it in [*TESTS, "day"] if tally.wants(it)]
         if path is None:
             return
-        for kind in kinds:
-            if kind in TESTS:
-                run_tests(kind, path, tally)
-        if "unit" in kinds:
-            run_maven(room, tally)
-        if "served" in kinds:
-            follow_page(room, tally)
-        if "day" in kinds:
-            run_day(path, tally)
+        tries = [
+            ("day", functools.partial(run_day, path, tally)),
+            *((kind, functools.partial(run_tests, kind, path, tally)) for kind in TESTS),
+            ("unit", functools.partial(run_maven, room, tally)),
+            ("served", functools.partial(follow_page, room, tally)),
+        ]
+        wanted = [it for kind, it in tries if tally.wants(kind)]
+        for _ in side_by_side(lambda it: it(), wanted, len(wanted)):
+            pass

@@ -1,4 +1,5 @@
 """What passed, failed and was skipped."""
+import threading
 from typing import Sequence
 
 
@@ -9,6 +10,7 @@ class Tally:
     def __init__(self, only: Sequence[str] = (), part: str = "") -> None:
         self.only, self.part = only, part
         self.passed = self.failed = self.skipped = 0
+        self._lock = threading.Lock()
 
     def wants(self, name: str) -> bool:
         """Whether something of this name is tried."""
@@ -26,10 +28,11 @@ class Tally:
         print(f"{name}: skipped: {reason}", flush=True)
 
     def add(self, passed: int = 0, failed: int = 0, skipped: int = 0) -> None:
-        """Adds what was counted elsewhere."""
-        self.passed += passed
-        self.failed += failed
-        self.skipped += skipped
+        """Adds what was counted elsewhere, perhaps by another thread."""
+        with self._lock:
+            self.passed += passed
+            self.failed += failed
+            self.skipped += skipped
 
     def end(self) -> bool:
         """Prints the count, and returns whether something was tried or skipped, and nothing failed."""
