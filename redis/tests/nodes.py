@@ -33,8 +33,8 @@ class NotReady(Exception):
 
 
 def free_port() -> int:
-    """A port at which nobody listens, nor at the one 10,000 above it, which belongs to it in a Cluster, and nobody is just
-    to begin."""
+    """A port at which nobody listens, nor at the one that belongs to it in a Cluster, 10,000 above it, and nobody is
+    just to begin."""
     while True:
         port = random.choice([it for it in PORTS if it not in _given])
         _given.append(port)

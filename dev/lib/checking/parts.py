@@ -56,10 +56,10 @@ def try_command(tally: Tally, words: Sequence[str]) -> None:
 
 
 def try_client(tally: Tally) -> None:
-    """The tests of the Python package, side by side by their folder unless only some are wanted. Its modules import each
-    other, and those of `served`, by their names alone."""
+    """The tests of the Python package, those of its folders side by side unless only some are wanted. The modules
+    import each other, and those of `served`, by their names alone."""
     if not tally.only:
-        for kind, (_, said) in side_by_side(lambda it: try_apart(tally.part, [it]), KINDS, len(KINDS)):
+        for kind, (_, said, _) in side_by_side(lambda it: try_apart(tally.part, [it]), KINDS, len(KINDS)):
             add(tally, kind, said)
         return
     sys.path[:0] = [f"{CLIENT}/src", *(f"{CLIENT}/tests/{it}" for it in KINDS)]

@@ -6,6 +6,7 @@ import subprocess
 import sys
 import unittest
 from collections import Counter
+from time import monotonic
 from typing import Iterator, Sequence
 
 from checking.tally import Tally
@@ -41,8 +42,8 @@ def try_tests(tally: Tally, suite: unittest.TestSuite) -> None:
 
 
 def try_side_by_side(tally: Tally, suite: unittest.TestSuite, at_once: int, first: Sequence[str] = ()) -> None:
-    """Runs the tests of a part in so many processes, of which each tries the part with `--only` the name of a class, and
-    has some of its ports. Classes whose names begin with one of the words in `first` are begun first, as they take
+    """Runs the tests of a part in so many processes, of which each tries the part with `--only` the name of a class,
+    and has some of its ports. Classes whose names begin with one of the words in `first` are begun first, as they take
     longest; then those with most tests."""
     if TRIES_CLASS in os.environ:
         try_tests(tally, suite)
@@ -57,7 +58,7 @@ def try_side_by_side(tally: Tally, suite: unittest.TestSuite, at_once: int, firs
 
     def try_class(name: str) -> str:
         its_ports = ports.get()
-        _, said = try_apart(tally.part, [f"{name}."], **{TRIES_CLASS: name, PORTS: its_ports})
+        _, said, _ = try_apart(tally.part, [f"{name}."], **{TRIES_CLASS: name, PORTS: its_ports})
         ports.put(its_ports)
         return said
 
@@ -71,12 +72,12 @@ def tests_in(suite: unittest.TestSuite) -> Iterator[unittest.TestCase]:
         yield from tests_in(it) if isinstance(it, unittest.TestSuite) else [it]
 
 
-def try_apart(part: str, only: Sequence[str], **settings: str) -> tuple[int, str]:
-    """Tries a part in a process of its own. Gives its status, and what it prints."""
-    words: list[str] = [sys.executable, "-B", f"{TOP}/dev/check", part, *(["--only", *only] if only else [])]
+def try_apart(part: str, only: Sequence[str], **settings: str) -> tuple[int, str, float]:
+    """Tries a part in a process of its own. Gives its status, what it prints, and how many seconds it took."""
+    words, began = [sys.executable, "-B", f"{TOP}/dev/check", part, *(["--only", *only] if only else [])], monotonic()
     ran = subprocess.run(words, stdout=subprocess.PIPE, stderr=subprocess.STDOUT, text=True, errors="replace",
                          env={**os.environ, **settings}, check=False)
-    return ran.returncode, ran.stdout.strip()
+    return ran.returncode, ran.stdout.strip(), monotonic() - began
 
 
 def add(tally: Tally, name: str, said: str) -> None:
