@@ -159,6 +159,5 @@ def check(tally: Tally) -> None:
             ("unit", functools.partial(run_maven, room, tally)),
             ("served", functools.partial(follow_page, room, tally)),
         ]
-        wanted = [it for kind, it in tries if tally.wants(kind)]
-        for _ in side_by_side(lambda it: it(), wanted, len(wanted)):
+        for _ in side_by_side(lambda it: it[1](), [it for it in tries if tally.wants(it[0])], len(tries)):
             pass

@@ -1,6 +1,5 @@
 """Tests by unittest, counted as everything else is: in this process, or those of each class in a process of its own."""
 import os
-import queue
 import re
 import subprocess
 import sys
@@ -50,16 +49,14 @@ def try_side_by_side(tally: Tally, suite: unittest.TestSuite, at_once: int, firs
         return
     counts = Counter(it.id().rpartition(".")[0] for it in tests_in(suite))
     order = sorted(counts, key=lambda it: (not it.startswith(tuple(first)), -counts[it]))
-    first_port, end = map(int, os.environ[PORTS].split("-"))
-    count = (end - first_port) // at_once
-    ports: queue.SimpleQueue[str] = queue.SimpleQueue()
-    for place in range(at_once):
-        ports.put(f"{first_port + count * place}-{first_port + count * (place + 1)}")
+    start, end = map(int, os.environ[PORTS].split("-"))
+    count = (end - start) // at_once
+    ports = [f"{it}-{it + count}" for it in range(start, end - count + 1, count)]
 
     def try_class(name: str) -> str:
-        its_ports = ports.get()
+        its_ports = ports.pop()
         _, said, _ = try_apart(tally.part, [f"{name}."], **{TRIES_CLASS: name, PORTS: its_ports})
-        ports.put(its_ports)
+        ports.append(its_ports)
         return said
 
     for name, said in side_by_side(try_class, order, at_once):

@@ -12,8 +12,7 @@ from typing import NamedTuple, Self, Sequence
 from common.program import tested_program
 from serving import HOST, PATIENCE
 
-# Below those that the system gives to clients. Each part of dev/check has some of its own.
-PORTS = range(*map(int, os.environ.get("RB_BROKER_PORTS", "20000-32000").split("-")))
+PORTS = range(*map(int, os.environ.get("RB_BROKER_PORTS", "20000-32000").split("-")))  # below those of clients
 TRIES = 20  # of ports, which others may have
 
 
