@@ -4,7 +4,6 @@ mod ample_memory;
 mod announcements;
 mod bell_states;
 mod bells;
-mod callers;
 mod crowds;
 mod far_moments;
 mod fixtures;

@@ -4,13 +4,11 @@
 use crate::bell::Bell;
 use crate::fault::WaitFault;
 use crate::rests::Rests;
-use crate::tests::fixtures::{await_more, expect, expect_number};
+use crate::tests::fixtures::{await_more, expect, expect_same};
 use rb_queue::{Ask, Reply};
-use std::alloc::{AllocError, Global};
 use std::process::Abort;
 use std::sync::Wait;
 use std::sync::atomic::{AtomicU64, Ordering};
-use std::test::Fail;
 use std::thread::{Threads, join, map_indices, yield_now};
 use std::time::{Clock, Duration};
 
@@ -64,11 +62,10 @@ fn expect_handed_on<R: Threads + Wait + Clock + Abort + Sync>(
 }
 
 #[test]
-fn one_that_gives_up_wakes_another(rt: HostRuntime) -> Result<(), Fail> {
+fn one_that_gives_up_wakes_another(rt: HostRuntime) {
     expect_handed_on(&rt, &Err(WaitFault::Stopped));
     expect_handed_on(&rt, &Err(WaitFault::Full));
     expect_handed_on(&rt, &Ok(Reply::Nothing));
-    Ok(())
 }
 
 // Announces an element that expires at moment 9, once the other thread has read the count.
@@ -86,16 +83,15 @@ fn expect_announced<R: Threads + Wait + Clock + Abort + Sync>(rt: &R) {
         || rest_once(rt, bell, looks, ends),
         || announce_behind(rt, bell, looks),
     );
-    expect_number(rt, ends.load(Ordering::SeqCst), 1);
-    expect_number(rt, bell.count(rt), 1);
+    expect_same(rt, ends.load(Ordering::SeqCst), 1);
+    expect_same(rt, bell.count(rt), 1);
 }
 
 #[test]
-fn an_offer_ends_a_rest(rt: HostRuntime) -> Result<(), Fail> {
+fn an_offer_ends_a_rest(rt: HostRuntime) {
     for _ in 0..200 {
         expect_announced(&rt);
     }
-    Ok(())
 }
 
 // Takes one thing, and rests while there is none.
@@ -111,50 +107,31 @@ fn take_thing<R: Wait + Clock>(rt: &R, bell: &Bell, things: &AtomicU64) {
     }
 }
 
-fn take_things<R: Wait + Clock>(rt: &R, bell: &Bell, things: &AtomicU64) {
-    for _ in 0..THINGS {
-        take_thing(rt, bell, things);
-    }
-}
-
-fn give_things(rt: &impl Wait, bell: &Bell, things: &AtomicU64) {
-    for _ in 0..THINGS {
-        things.fetch_add(1, Ordering::SeqCst);
-        bell.announce(rt, 0);
-    }
-}
-
 // The work of thread `number`: even ones give, odd ones take. Returns the number of things that it
 // gave or took.
 fn give_or_take<R: Wait + Clock>(rt: &R, bell: &Bell, things: &AtomicU64, number: usize) -> u64 {
-    if number % 2 == 0 {
-        give_things(rt, bell, things);
-    } else {
-        take_things(rt, bell, things);
+    for _ in 0..THINGS {
+        if number % 2 == 0 {
+            things.fetch_add(1, Ordering::SeqCst);
+            bell.announce(rt, 0);
+        } else {
+            take_thing(rt, bell, things);
+        }
     }
     THINGS
 }
 
-fn give_and_take<R: Threads + Wait + Clock + Sync>(
-    rt: &R,
-    alloc: Global,
-    bell: &Bell,
-    things: &AtomicU64,
-) -> Result<Vec<u64>, AllocError> {
-    map_indices(
-        rt,
-        alloc,
-        16,
-        &|number| give_or_take(rt, bell, things, number),
-    )
-}
-
 // Eight threads give and eight take. If a wake were lost, a taker would rest too long.
 #[test]
-fn no_wake_is_lost_among_many(rt: HostRuntime) -> Result<(), Fail> {
+fn no_wake_is_lost_among_many(rt: HostRuntime) {
     let (bell, things) = (&Bell::new(), &AtomicU64::new(0));
-    give_and_take(&rt, rt.alloc(), bell, things)?;
-    expect_number(&rt, things.load(Ordering::SeqCst), 0);
-    expect_number(&rt, bell.count(&rt), 8 * THINGS);
-    Ok(())
+    let numbers = map_indices(
+        &rt,
+        rt.alloc(),
+        16,
+        &|number| give_or_take(&rt, bell, things, number),
+    );
+    expect(&rt, numbers.is_ok());
+    expect_same(&rt, things.load(Ordering::SeqCst), 0);
+    expect_same(&rt, bell.count(&rt), 8 * THINGS);
 }

@@ -1,12 +1,10 @@
 // A bell by itself: its count, rests that a ring ends, and rests that nothing ends.
 
-use crate::tests::fixtures::{await_more, expect, expect_number};
+use crate::tests::fixtures::{await_more, expect, expect_given, expect_same};
 use crate::{Bell, Clock as _, MachineClock};
-use std::alloc::{AllocError, Global};
 use std::process::Abort;
 use std::sync::Wait;
 use std::sync::atomic::{AtomicU64, Ordering};
-use std::test::Fail;
 use std::thread::{Threads, join, map_indices, sleep, yield_now};
 use std::time::{Clock, Duration};
 
@@ -17,19 +15,13 @@ const ROUNDS: u64 = 10_000;
 // The length of a rest that misses its ring, in seconds: as long as a test may take.
 const MISSED: u64 = 60;
 
-// Asserts that the count is `wanted`, and that a rest with no ring seen returns it too.
-fn expect_counts<R: Wait + Clock + Abort>(rt: &R, bell: &Bell, wanted: u64) {
-    expect_number(rt, bell.count(rt), wanted);
-    expect_number(rt, bell.rest(rt, 0), wanted);
-}
-
+// A rest with no ring seen returns the count too.
 #[test]
-fn counts_its_rings(rt: HostRuntime) -> Result<(), Fail> {
-    let bell = Bell::new();
-    expect_counts(&rt, &bell, 0);
+fn counts_its_rings(rt: HostRuntime) {
+    let bell = &Bell::new();
+    expect_same(&rt, (bell.count(&rt), bell.rest(&rt, 0)), (0, 0));
     bell.ring(&rt);
-    expect_counts(&rt, &bell, 1);
-    Ok(())
+    expect_same(&rt, (bell.count(&rt), bell.rest(&rt, 0)), (1, 1));
 }
 
 // Rests in one thread and rings in another. `round` is the count before the ring. This rest may end
@@ -38,101 +30,64 @@ fn expect_rung<R: Threads + Wait + Clock + Abort + Sync>(rt: &R, bell: &Bell, ro
     let (count, _) = join(rt, || bell.rest(rt, round), || bell.ring(rt));
     let rings = round.saturating_add(1);
     expect(rt, count == rings || count == round);
-    expect_number(rt, bell.rest(rt, round), rings);
+    expect_same(rt, bell.rest(rt, round), rings);
 }
 
 // The rest of one thread ends when another rings, whether before the rest or during it.
 #[test]
-fn a_ring_ends_a_rest(rt: HostRuntime) -> Result<(), Fail> {
-    let bell = Bell::new();
+fn a_ring_ends_a_rest(rt: HostRuntime) {
+    let bell = &Bell::new();
     for round in 0..200 {
-        expect_rung(&rt, &bell, round);
+        expect_rung(&rt, bell, round);
     }
-    Ok(())
-}
-
-// Reads the count, raises `looks` to tell that it is about to rest, and rests. Returns the count
-// afterwards.
-fn rest_told<R: Wait + Clock>(rt: &R, bell: &Bell, looks: &AtomicU64) -> u64 {
-    let seen = bell.count(rt);
-    looks.fetch_add(1, Ordering::SeqCst);
-    bell.rest_at_most(rt, seen, Duration::from_secs(MISSED))
-}
-
-// Does the same, but rests like a call that waits for an element.
-fn rest_as_call<R: Wait + Clock>(rt: &R, bell: &Bell, looks: &AtomicU64) -> u64 {
-    let seen = bell.count(rt);
-    looks.fetch_add(1, Ordering::SeqCst);
-    bell.rest_until(rt, seen, u64::MAX, Duration::from_secs(MISSED))
-        .count
-}
-
-// Rings once `sleepers` threads have had time to fall asleep. Returns the count afterwards.
-fn ring_late<R: Wait + Clock>(rt: &R, bell: &Bell, looks: &AtomicU64, sleepers: u64) -> u64 {
-    await_more(rt, looks, sleepers.saturating_sub(1));
-    sleep(rt, Duration::from_millis(20));
-    bell.ring(rt);
-    bell.count(rt)
 }
 
 // The work of thread `number`: two rest, two rest like calls that wait for an element, and the last
-// one rings. Returns the count afterwards.
+// one rings once the others have had time to fall asleep. A thread that rests reads the count, and
+// raises `looks` to tell that it is about to rest. Returns the count afterwards.
 fn rest_or_ring<R: Wait + Clock>(rt: &R, bell: &Bell, looks: &AtomicU64, number: usize) -> u64 {
-    match number {
-        0 | 1 => rest_told(rt, bell, looks),
-        2 | 3 => rest_as_call(rt, bell, looks),
-        _ => ring_late(rt, bell, looks, 4),
+    if number == 4 {
+        await_more(rt, looks, 3);
+        sleep(rt, Duration::from_millis(20));
+        bell.ring(rt);
+        return bell.count(rt);
     }
-}
-
-fn counts_of_five<R: Threads + Wait + Clock + Sync>(
-    rt: &R,
-    alloc: Global,
-    bell: &Bell,
-) -> Result<Vec<u64>, AllocError> {
-    let looks = &AtomicU64::new(0);
-    map_indices(
-        rt,
-        alloc,
-        5,
-        &|number| rest_or_ring(rt, bell, looks, number),
-    )
-}
-
-fn expect_all_woken(rt: &impl Abort, counts: &[u64]) {
-    assert_eq!(rt; counts, [1; 5].as_slice());
+    let seen = bell.count(rt);
+    looks.fetch_add(1, Ordering::SeqCst);
+    let missed = Duration::from_secs(MISSED);
+    if number < 2 {
+        bell.rest_at_most(rt, seen, missed)
+    } else {
+        bell.rest_until(rt, seen, u64::MAX, missed).count
+    }
 }
 
 // The ring wakes each thread. None looks again only because its rest is over.
 #[test]
-fn one_ring_wakes_all(rt: HostRuntime) -> Result<(), Fail> {
-    let watch = MachineClock::new(&rt);
-    let counts = counts_of_five(&rt, rt.alloc(), &Bell::new())?;
-    expect_all_woken(&rt, counts.as_slice());
+fn one_ring_wakes_all(rt: HostRuntime) {
+    let (bell, looks, watch) = (&Bell::new(), &AtomicU64::new(0), MachineClock::new(&rt));
+    let counts = map_indices(
+        &rt,
+        rt.alloc(),
+        5,
+        &|number| rest_or_ring(&rt, bell, looks, number),
+    );
+    expect_given(&rt, counts, &[1; 5]);
     expect(&rt, watch.now() / 1_000_000_000 < MISSED / 2);
-    Ok(())
 }
 
-// Makes five rests that nothing ends, and returns the length of the shortest, in milliseconds.
-fn shortest_rest<R: Wait + Clock>(rt: &R, bell: &Bell) -> u64 {
+// Of five rests that nothing ends, the shortest counts.
+#[test]
+fn a_rest_lasts_about_20_milliseconds(rt: HostRuntime) {
+    let bell = &Bell::new();
     let mut shortest = u64::MAX;
     for _ in 0..5 {
-        let watch = MachineClock::new(rt);
-        bell.rest(rt, 0);
+        let watch = MachineClock::new(&rt);
+        bell.rest(&rt, 0);
         shortest = shortest.min(watch.now() / 1_000_000);
     }
-    shortest
-}
-
-fn expect_about_20(rt: &impl Abort, shortest: u64) {
-    assert!(rt; shortest >= 20);
-    assert!(rt; shortest < 60);
-}
-
-#[test]
-fn a_rest_lasts_about_20_milliseconds(rt: HostRuntime) -> Result<(), Fail> {
-    expect_about_20(&rt, shortest_rest(&rt, &Bell::new()));
-    Ok(())
+    expect(&rt, shortest >= 20);
+    expect(&rt, shortest < 60);
 }
 
 // Lets other threads run: a random number of times, at most seven.
@@ -145,41 +100,41 @@ fn dawdle(random: &mut u64) {
     }
 }
 
-// Looks at the count and then rests, once per round. Returns the number of rests that saw a ring.
-fn rest_often<R: Wait + Clock>(rt: &R, bell: &Bell, looks: &AtomicU64) -> u64 {
-    let mut random = 1;
+// The work of thread `number`, once per round: the first looks at the count and then rests. The
+// other rings after that look. Returns the number of rests that saw a ring.
+fn rest_or_ring_often<R: Wait + Clock>(
+    rt: &R,
+    bell: &Bell,
+    looks: &AtomicU64,
+    number: usize,
+) -> u64 {
+    let mut random = if number == 0 { 1 } else { 2 };
     let mut seen_rings: u64 = 0;
-    for _ in 0..ROUNDS {
-        let seen = bell.count(rt);
-        looks.fetch_add(1, Ordering::SeqCst);
-        dawdle(&mut random);
-        if bell.rest_at_most(rt, seen, Duration::from_secs(MISSED)) != seen {
-            seen_rings = seen_rings.saturating_add(1);
+    for round in 0..ROUNDS {
+        if number == 0 {
+            let seen = bell.count(rt);
+            looks.fetch_add(1, Ordering::SeqCst);
+            dawdle(&mut random);
+            let count = bell.rest_at_most(rt, seen, Duration::from_secs(MISSED));
+            seen_rings = seen_rings.saturating_add(u64::from(count != seen));
+        } else {
+            await_more(rt, looks, round);
+            dawdle(&mut random);
+            bell.ring(rt);
         }
     }
     seen_rings
 }
 
-// Rings once per round, after the other thread's look.
-fn ring_often(rt: &impl Wait, bell: &Bell, looks: &AtomicU64) {
-    let mut random = 2;
-    for round in 0..ROUNDS {
-        await_more(rt, looks, round);
-        dawdle(&mut random);
-        bell.ring(rt);
-    }
-}
-
 #[test]
-fn a_ring_between_a_look_and_the_rest_is_seen(rt: HostRuntime) -> Result<(), Fail> {
-    let bell = &Bell::new();
-    let looks = &AtomicU64::new(0);
-    let (seen, _) = join(
+fn a_ring_between_a_look_and_the_rest_is_seen(rt: HostRuntime) {
+    let (bell, looks) = (&Bell::new(), &AtomicU64::new(0));
+    let seen = map_indices(
         &rt,
-        || rest_often(&rt, bell, looks),
-        || ring_often(&rt, bell, looks),
+        rt.alloc(),
+        2,
+        &|number| rest_or_ring_often(&rt, bell, looks, number),
     );
-    expect_number(&rt, seen, ROUNDS);
-    expect_number(&rt, bell.count(&rt), ROUNDS);
-    Ok(())
+    expect_given(&rt, seen, &[ROUNDS, 0]);
+    expect_same(&rt, bell.count(&rt), ROUNDS);
 }

@@ -1,19 +1,21 @@
-ghost use Rattle.std.specs.Prelude.{◌≡◌, ◌↔◌, ◌<◌, [], IfOk, true};
+ghost use Rattle.std.specs.Prelude.{◌≡◌, [], IfOk};
 ghost use Rattle.rb_ledger.specs.Totals.{nothing};
 
-use crate::{Clock, Gate, TurnGate, WaitFault};
+use crate::{Bell, Clock, Gate, WaitFault, offer_ring, poll_for, take};
 use rb_delayed::{Element, Payload};
 use rb_kept::{CallFault, Kept};
 use rb_ledger::Tally;
 use rb_lock::{Pass, Shared};
 use rb_queue::Draft;
 use rb_timer::ListTimer;
-use std::alloc::Global;
+use std::alloc::{AllocError, Global};
+use std::fmt::Debug;
 use std::process::Abort;
-use std::sync::Wait;
 use std::sync::atomic::{AtomicU64, Ordering};
+use std::sync::{Mutex, Wait};
 use std::test::Fail;
-use std::thread::yield_now;
+use std::thread::{Threads, map_indices, yield_now};
+use std::time;
 
 pub type ListShared = Shared<ListTimer>;
 
@@ -23,7 +25,7 @@ pub type ListPass = Pass<ListTimer>;
 pub const SOON: u64 = 10_000_000;
 
 /// A clock that always reads the moment that it holds.
-#[derive(Clone, Copy)]
+#[derive(Drop)]
 pub struct FixedClock(pub u64);
 
 impl Clock for FixedClock {
@@ -34,60 +36,174 @@ impl Clock for FixedClock {
     }
 }
 
-/// A clock that always reads 7, and counts its readings.
+/// What the callers of a queue count together.
 #[derive(Drop)]
-pub struct CountingClock {
-    pub readings: AtomicU64,
+pub struct Counts {
+    /// The waits whose first try found nothing.
+    pub waits: AtomicU64,
+    /// The turns of all waits.
+    pub turns: AtomicU64,
+    /// The elements that were taken, if a test counts them.
+    pub taken: AtomicU64,
 }
 
-impl CountingClock {
-    pub fn new() -> CountingClock {
-        CountingClock {
-            readings: AtomicU64::new(0),
+impl Counts {
+    pub fn new() -> Counts {
+        Counts {
+            waits: AtomicU64::new(0),
+            turns: AtomicU64::new(0),
+            taken: AtomicU64::new(0),
         }
     }
 }
 
-impl Clock for CountingClock {
-    ghost gives = { λ clock moment. moment ≡ 7 };
-
-    fn now(&self) -> u64 {
-        self.readings.fetch_add(1, Ordering::SeqCst);
-        7
-    }
-}
-
-/// A gate that ends a wait after a number of turns, and counts how often it is asked.
+/// A gate that counts the turns, and ends the wait after `limit` of them.
 #[derive(Drop)]
-pub struct CountingGate {
-    gate: TurnGate,
-    pub asked: u64,
+pub struct CountingGate<'a> {
+    counts: &'a Counts,
+    limit: u64,
 }
 
-impl CountingGate {
-    pub fn new(limit: u64) -> CountingGate {
-        CountingGate {
-            gate: TurnGate { limit },
-            asked: 0,
-        }
-    }
-}
-
-impl Gate for CountingGate {
-    ghost answers = { λ gate turns goes_on. (goes_on ≡ true) ↔ (turns < gate.gate.limit) };
+impl<'a> Gate for CountingGate<'a> {
+    ghost answers = { λ _ _ _. Unit {0} };
 
     fn turn(&mut self, turns: u64) -> bool {
-        self.asked = self.asked.saturating_add(1);
-        self.gate.turn(turns)
+        if turns == 0 {
+            self.counts.waits.fetch_add(1, Ordering::SeqCst);
+        }
+        self.counts.turns.fetch_add(1, Ordering::SeqCst);
+        turns < self.limit
     }
 }
 
-/// Opens a shared queue with room for `capacity` calls, and returns it with its first pass.
-pub fn opened(alloc: Global, capacity: u64) -> Result<(ListShared, ListPass), Fail>
-    ensures { IfOk result (λ opened. opened.1.table ≡ opened.0) }
-{
-    let (kept, tally) = Kept::new(alloc, capacity)?;
-    shared(alloc, kept, tally)
+/// A caller of a shared queue: a pass, with its queue, a bell and what is counted. The value
+/// carries the fact that the pass is of that queue. So code that hands a caller on, also to a
+/// thread, has nothing to prove.
+#[derive(Drop)]
+pub struct Caller<'a> {
+    pub shared: &'a ListShared,
+    pub bell: &'a Bell,
+    pub counts: &'a Counts,
+    pub pass: ListPass,
+    ghost of: { pass.table ≡ shared.now },
+}
+
+impl<'a> Caller<'a> {
+    pub fn new(
+        shared: &'a ListShared,
+        bell: &'a Bell,
+        counts: &'a Counts,
+        pass: ListPass,
+    ) -> Caller<'a>
+        requires { pass.table ≡ shared.now }
+    {
+        Caller {
+            shared,
+            bell,
+            counts,
+            pass,
+        }
+    }
+
+    /// Makes a further caller, with a new pass.
+    pub fn another<R: Wait + Abort>(&mut self, rt: &R) -> Caller<'a> {
+        let (shared, bell, counts) = (self.shared, self.bell, self.counts);
+        let pass = split_off(rt, shared, &mut self.pass);
+        Caller {
+            shared,
+            bell,
+            counts,
+            pass,
+        }
+    }
+
+    /// Returns how often gates were asked since this was last called.
+    pub fn asked(&self) -> u64 {
+        self.counts.turns.swap(0, Ordering::SeqCst)
+    }
+
+    /// Makes an offer at moment `asked`.
+    pub fn offer_draft<R: Wait>(
+        &mut self,
+        rt: &R,
+        asked: u64,
+        draft: Draft,
+    ) -> Result<Element, CallFault> {
+        let (shared, bell) = (self.shared, self.bell);
+        offer_ring(rt, shared, &mut self.pass, asked, draft, bell)
+    }
+
+    /// Offers an element with expiry `expiry` at moment `asked`.
+    pub fn offer<R: Wait + Abort>(
+        &mut self,
+        rt: &R,
+        asked: u64,
+        expiry: u64,
+    ) -> Result<Element, CallFault> {
+        let draft = draft(rt, expiry);
+        self.offer_draft(rt, asked, draft)
+    }
+
+    /// Offers an element that expires `ahead` nanoseconds from now.
+    pub fn offer_ahead<C: Clock, R: Wait + Abort>(&mut self, rt: &R, clock: &C, ahead: u64) {
+        let now = clock.now();
+        let _ = self.offer(rt, now, now.saturating_add(ahead));
+    }
+
+    /// Takes an element, as soon as one is expired.
+    pub fn take_by<C: Clock, G: Gate, R: Wait + time::Clock>(
+        &mut self,
+        rt: &R,
+        clock: &C,
+        gate: &mut G,
+    ) -> Result<Element, WaitFault> {
+        let (shared, bell) = (self.shared, self.bell);
+        take(rt, shared, &mut self.pass, clock, gate, bell)
+    }
+
+    /// Does the same, with a gate that counts and allows `limit` turns.
+    pub fn take<C: Clock, R: Wait + time::Clock>(
+        &mut self,
+        rt: &R,
+        clock: &C,
+        limit: u64,
+    ) -> Result<Element, WaitFault> {
+        let counts = self.counts;
+        self.take_by(rt, clock, &mut CountingGate { counts, limit })
+    }
+
+    /// Takes an element and returns how long it had been due, in nanoseconds, or 2^64 - 1 if none
+    /// came.
+    pub fn lateness<C: Clock, R: Wait + time::Clock>(&mut self, rt: &R, clock: &C) -> u64 {
+        match self.take(rt, clock, u64::MAX) {
+            Ok(element) => clock.now().saturating_sub(element.expiry),
+            Err(_) => u64::MAX,
+        }
+    }
+
+    /// Polls with a gate that counts and allows `limit` turns, until `timeout` nanoseconds after
+    /// `start`.
+    pub fn poll<C: Clock, R: Wait + time::Clock>(
+        &mut self,
+        rt: &R,
+        clock: &C,
+        limit: u64,
+        start: u64,
+        timeout: u64,
+    ) -> Result<Option<Element>, WaitFault> {
+        let (shared, bell, counts) = (self.shared, self.bell, self.counts);
+        let gate = &mut CountingGate { counts, limit };
+        poll_for(
+            rt,
+            shared,
+            &mut self.pass,
+            clock,
+            gate,
+            bell,
+            start,
+            timeout,
+        )
+    }
 }
 
 /// Shares a kept queue that has had no calls.
@@ -106,6 +222,55 @@ pub fn shared(
     }
 }
 
+// Opens a shared queue with room for `capacity` calls, and returns it with its first pass.
+fn opened(alloc: Global, capacity: u64) -> Result<(ListShared, ListPass), Fail>
+    ensures { IfOk result (λ opened. opened.1.table ≡ opened.0) }
+{
+    let (kept, tally) = Kept::new(alloc, capacity)?;
+    shared(alloc, kept, tally)
+}
+
+/// Opens a shared queue with room for `capacity` calls, and has `work` done by its first caller.
+pub fn with_caller<T, F: FnOnce(&mut Caller<'_>) -> T>(
+    alloc: Global,
+    capacity: u64,
+    work: F,
+) -> Result<T, Fail>
+    requires { F.IsAlwaysCallable work }
+{
+    let (shared, pass) = opened(alloc, capacity)?;
+    let (bell, counts) = (Bell::new(), Counts::new());
+    let mut caller = Caller::new(&shared, &bell, &counts, pass);
+    Ok(work(&mut caller))
+}
+
+/// Has `count` threads do `work`, each with a caller of its own and with its number. Returns what
+/// each gave.
+pub fn in_threads<R: Threads + Wait + Abort + Sync, F: Fn(&mut Caller<'_>, usize) -> u64 + Sync>(
+    rt: &R,
+    alloc: Global,
+    count: usize,
+    first: &mut Caller<'_>,
+    work: &F,
+) -> Result<Vec<u64>, AllocError>
+    requires { F.IsAlwaysCallable work.now }
+{
+    let first = &Mutex::new(first.another(rt));
+    map_indices(
+        rt,
+        alloc,
+        count,
+        &|number: usize| -> u64
+            requires { F.IsAlwaysCallable work.now }
+        { work(&mut another(rt, first), number) },
+    )
+}
+
+// Makes a further caller, for another thread.
+fn another<'a, R: Wait + Abort>(rt: &R, first: &Mutex<Caller<'a>>) -> Caller<'a> {
+    first.lock(rt).another(rt)
+}
+
 /// Splits off a new pass.
 pub fn split_off<R: Wait + Abort>(rt: &R, shared: &ListShared, pass: &mut ListPass) -> ListPass
     requires { pass.old.table ≡ shared.now }
@@ -117,36 +282,18 @@ pub fn split_off<R: Wait + Abort>(rt: &R, shared: &ListShared, pass: &mut ListPa
 
 // Comparisons are functions without clauses, so tests that call them have nothing to prove.
 
-pub fn expect_number(rt: &impl Abort, number: u64, wanted: u64) {
-    assert_eq!(rt; number, wanted);
-}
-
 pub fn expect(rt: &impl Abort, holds: bool) {
     assert!(rt; holds);
 }
 
-pub fn expect_offered(
-    rt: &impl Abort,
-    offered: Result<Element, CallFault>,
-    wanted: Result<Element, CallFault>,
-) {
-    assert_eq!(rt; offered, wanted);
+pub fn expect_same<V: PartialEq + Debug + Drop>(rt: &impl Abort, found: V, wanted: V) {
+    assert_eq!(rt; found, wanted);
 }
 
-pub fn expect_taken(
-    rt: &impl Abort,
-    taken: Result<Element, WaitFault>,
-    wanted: Result<Element, WaitFault>,
-) {
-    assert_eq!(rt; taken, wanted);
-}
-
-pub fn expect_polled(
-    rt: &impl Abort,
-    polled: Result<Option<Element>, WaitFault>,
-    wanted: Result<Option<Element>, WaitFault>,
-) {
-    assert_eq!(rt; polled, wanted);
+/// Asserts what threads have given.
+pub fn expect_given(rt: &impl Abort, given: Result<Vec<u64>, AllocError>, wanted: &[u64]) {
+    let given = given.ok().expect(rt, "memory for what threads give");
+    assert_eq!(rt; given.as_slice(), wanted);
 }
 
 pub fn payload(rt: &impl Abort) -> Payload {

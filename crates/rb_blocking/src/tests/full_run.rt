@@ -1,12 +1,7 @@
 // A history without room for another call.
 
-ghost use Rattle.std.specs.Prelude.{◌≡◌};
-
-use crate::tests::fixtures::{
-    FixedClock, ListPass, ListShared, draft, element, expect_number, expect_offered, expect_polled,
-    expect_taken, opened,
-};
-use crate::{Bell, TurnGate, WaitFault, offer_ring, poll_for, take};
+use crate::WaitFault;
+use crate::tests::fixtures::{Caller, FixedClock, element, expect_same, with_caller};
 use rb_kept::CallFault;
 use std::process::Abort;
 use std::sync::Wait;
@@ -14,31 +9,18 @@ use std::test::Fail;
 use std::time;
 
 // Makes the two calls for which the history has room, and two more, which find the history full.
-fn expect_answers<R: Wait + time::Clock + Abort>(
-    rt: &R,
-    shared: &ListShared,
-    pass: &mut ListPass,
-    bell: &Bell,
-)
-    requires { pass.old.table ≡ shared.now }
-{
-    let mut gate = TurnGate { limit: 5 };
+fn expect_answers<R: Wait + time::Clock + Abort>(rt: &R, caller: &mut Caller<'_>) {
     let clock = FixedClock(9);
-    let offered = offer_ring(rt, shared, pass, 3, draft(rt, 9), bell);
-    expect_offered(rt, offered, Ok(element(rt, 0, 9)));
-    let polled = poll_for(rt, shared, pass, &clock, &mut gate, bell, 3, 6);
-    expect_polled(rt, polled, Ok(Some(element(rt, 0, 9))));
-    let offered = offer_ring(rt, shared, pass, 9, draft(rt, 9), bell);
-    expect_offered(rt, offered, Err(CallFault::Full));
-    let taken = take(rt, shared, pass, &clock, &mut gate, bell);
-    expect_taken(rt, taken, Err(WaitFault::Full));
-    expect_number(rt, pass.calls(), 2);
-    expect_number(rt, bell.count(rt), 1);
+    expect_same(rt, caller.offer(rt, 3, 9), Ok(element(rt, 0, 9)));
+    let polled = Ok(Some(element(rt, 0, 9)));
+    expect_same(rt, caller.poll(rt, &clock, 5, 3, 6), polled);
+    expect_same(rt, caller.offer(rt, 9, 9), Err(CallFault::Full));
+    expect_same(rt, caller.take(rt, &clock, 5), Err(WaitFault::Full));
+    expect_same(rt, caller.pass.calls(), 2);
+    expect_same(rt, caller.bell.count(rt), 1);
 }
 
 #[test]
 fn answers_with_ample_memory(rt: HostRuntime) -> Result<(), Fail> {
-    let (shared, mut pass) = opened(rt.alloc(), 2)?;
-    expect_answers(&rt, &shared, &mut pass, &Bell::new());
-    Ok(())
+    with_caller(rt.alloc(), 2, |caller| expect_answers(&rt, caller))
 }

@@ -1,11 +1,7 @@
 // Gates that end a wait after a number of turns, each with its rest.
 
-ghost use Rattle.std.specs.Prelude.{◌≡◌};
-
-use crate::tests::fixtures::{
-    CountingGate, FixedClock, ListPass, ListShared, expect_number, opened,
-};
-use crate::{Bell, Clock, Gate, MachineClock, WaitFault, take};
+use crate::tests::fixtures::{Caller, FixedClock, expect, expect_same, with_caller};
+use crate::{Bell, Clock, Gate, MachineClock, WaitFault};
 use std::process::Abort;
 use std::sync::Wait;
 use std::test::Fail;
@@ -41,64 +37,35 @@ impl<'a, R: Wait> Gate for RingingGate<'a, R> {
 
 // Makes a take whose rests don't last. Returns the number of its turns, counted while each turn has
 // the next number.
-fn turns_of<R: Wait + time::Clock>(rt: &R, shared: &ListShared, pass: &mut ListPass) -> u64
-    requires { pass.old.table ≡ shared.now }
-{
-    let bell = Bell::new();
-    let mut gate = RingingGate {
-        rt,
-        bell: &bell,
-        next: 0,
-    };
-    let _ = take(rt, shared, pass, &FixedClock(7), &mut gate, &bell);
+fn turns_of<R: Wait + time::Clock>(rt: &R, caller: &mut Caller<'_>) -> u64 {
+    let bell = caller.bell;
+    let mut gate = RingingGate { rt, bell, next: 0 };
+    let _ = caller.take_by(rt, &FixedClock(7), &mut gate);
     gate.next
 }
 
 #[test]
 fn each_turn_is_counted(rt: HostRuntime) -> Result<(), Fail> {
-    let (shared, mut pass) = opened(rt.alloc(), 1)?;
-    expect_number(&rt, turns_of(&rt, &shared, &mut pass), TURNS);
+    let turns = with_caller(rt.alloc(), 1, |caller| turns_of(&rt, caller))?;
+    expect_same(&rt, turns, TURNS);
     Ok(())
 }
 
-// Makes a take that finds nothing, with a gate of limit `limit`. Returns how often the take asked
-// the gate, how long the take lasted, in nanoseconds, and how it ended.
-fn asked<R: Wait + time::Clock>(
-    rt: &R,
-    shared: &ListShared,
-    pass: &mut ListPass,
-    limit: u64,
-) -> (u64, u64, Option<WaitFault>)
-    requires { pass.old.table ≡ shared.now }
-    ensures { pass.new.table ≡ pass.old.table }
-{
-    let bell = Bell::new();
-    let mut gate = CountingGate::new(limit);
-    let watch = MachineClock::new(rt);
-    let ended = take(rt, shared, pass, &FixedClock(7), &mut gate, &bell);
-    (gate.asked, watch.now(), ended.err())
-}
-
-fn expect_stopped(rt: &impl Abort, found: (u64, u64, Option<WaitFault>), limit: u64) {
-    let (times, lasted, ended) = found;
-    assert_eq!(rt; times, limit.saturating_add(1));
-    assert!(rt; limit.saturating_mul(REST) <= lasted);
-    assert_eq!(rt; ended, Some(WaitFault::Stopped));
-}
-
-fn expect_stops<R: Wait + time::Clock + Abort>(rt: &R, shared: &ListShared, pass: &mut ListPass)
-    requires { pass.old.table ≡ shared.now }
-    ensures { pass.new.table ≡ pass.old.table }
-{
-    for limit in 0..6 {
-        expect_stopped(rt, asked(rt, shared, pass, limit), limit);
+// Makes takes that find nothing, with gates of several limits. Asserts how often each take asked
+// its gate, at least how long it lasted, and how it ended.
+fn expect_stops<R: Wait + time::Clock + Abort>(rt: &R, caller: &mut Caller<'_>) {
+    for limit in 0..6_u64 {
+        let watch = MachineClock::new(rt);
+        let taken = caller.take(rt, &FixedClock(7), limit);
+        let lasted = watch.now();
+        expect_same(rt, taken, Err(WaitFault::Stopped));
+        expect_same(rt, caller.asked(), limit.saturating_add(1));
+        expect(rt, limit.saturating_mul(REST) <= lasted);
     }
+    expect_same(rt, caller.pass.calls(), 0);
 }
 
 #[test]
 fn stops_after_so_many_turns(rt: HostRuntime) -> Result<(), Fail> {
-    let (shared, mut pass) = opened(rt.alloc(), 1)?;
-    expect_stops(&rt, &shared, &mut pass);
-    expect_number(&rt, pass.calls(), 0);
-    Ok(())
+    with_caller(rt.alloc(), 1, |caller| expect_stops(&rt, caller))
 }

@@ -3,10 +3,10 @@
 ghost use Rattle.std.specs.Prelude.{◌≡◌, [], IfOk};
 ghost use Rattle.rb_ledger.specs.Totals.{nothing};
 
+use crate::Bell;
 use crate::tests::fixtures::{
-    FixedClock, ListPass, ListShared, draft, element, expect_number, expect_offered, shared,
+    Caller, Counts, FixedClock, ListPass, ListShared, element, expect_same, shared,
 };
-use crate::{Bell, TurnGate, offer_ring, take};
 use rb_delayed::Element;
 use rb_kept::{CallFault, Kept, NewFault};
 use rb_ledger::Tally;
@@ -16,6 +16,7 @@ use std::alloc::Global;
 use std::process::Abort;
 use std::sync::Wait;
 use std::test::Fail;
+use std::time;
 
 // The number of refusals that the test meets. `dev/refuse_allocations` sets 1 and refuses each
 // allocation of the test in turn.
@@ -47,107 +48,49 @@ fn opened_at_last(alloc: Global) -> Result<(ListShared, ListPass), Fail>
     }
 }
 
-fn expect_fault(rt: &impl Abort, offered: &Result<Element, CallFault>) {
-    assert_eq!(rt; offered.err(), Some(CallFault::Memory));
-}
-
 // Makes an offer, and tries once more if memory is refused. Asserts that a refused offer counts as
 // no call and does not ring the bell.
 fn offer_at_last<R: Wait + Abort>(
     rt: &R,
-    shared: &ListShared,
-    pass: &mut ListPass,
-    bell: &Bell,
+    caller: &mut Caller<'_>,
     met: &mut u32,
-) -> Result<Element, CallFault>
-    requires { pass.old.table ≡ shared.now }
-    ensures { pass.new.table ≡ pass.old.table }
-{
-    let calls = pass.calls();
-    let rung = bell.count(rt);
-    let offered = offer_ring(rt, shared, pass, 9, draft(rt, 9), bell);
+) -> Result<Element, CallFault> {
+    let before = (caller.pass.calls(), caller.bell.count(rt));
+    let offered = caller.offer(rt, 9, 9);
     if offered.is_ok() {
         return offered;
     }
     *met = met.saturating_add(1);
-    expect_fault(rt, &offered);
-    expect_number(rt, pass.calls(), calls);
-    expect_number(rt, bell.count(rt), rung);
-    offer_ring(rt, shared, pass, 9, draft(rt, 9), bell)
+    expect_same(rt, offered, Err(CallFault::Memory));
+    expect_same(rt, (caller.pass.calls(), caller.bell.count(rt)), before);
+    caller.offer(rt, 9, 9)
 }
 
-fn expect_offer<R: Wait + Abort>(
-    rt: &R,
-    shared: &ListShared,
-    pass: &mut ListPass,
-    bell: &Bell,
-    id: u64,
-    met: &mut u32,
-)
-    requires { pass.old.table ≡ shared.now }
-    ensures { pass.new.table ≡ pass.old.table }
-{
-    let offered = offer_at_last(rt, shared, pass, bell, met);
-    expect_offered(rt, offered, Ok(element(rt, id, 9)));
-}
-
-fn expect_offers<R: Wait + Abort>(
-    rt: &R,
-    shared: &ListShared,
-    pass: &mut ListPass,
-    bell: &Bell,
-    met: &mut u32,
-)
-    requires { pass.old.table ≡ shared.now }
-    ensures { pass.new.table ≡ pass.old.table }
-{
+// Offers all elements. Then takes them, which takes no memory, and returns the sum of their ids.
+fn taken_ids<R: Wait + Abort + time::Clock>(rt: &R, caller: &mut Caller<'_>, met: &mut u32) -> u64 {
     for id in 0..MANY {
-        expect_offer(rt, shared, pass, bell, id, met);
+        let offered = offer_at_last(rt, caller, met);
+        expect_same(rt, offered, Ok(element(rt, id, 9)));
     }
-    expect_number(rt, pass.calls(), MANY);
-    expect_number(rt, bell.count(rt), MANY);
-}
-
-// Takes an element, which takes no memory, and returns its id.
-fn taken_id<R: Wait + Abort + std::time::Clock>(
-    rt: &R,
-    shared: &ListShared,
-    pass: &mut ListPass,
-    bell: &Bell,
-) -> u64
-    requires { pass.old.table ≡ shared.now }
-    ensures { pass.new.table ≡ pass.old.table }
-{
-    let mut gate = TurnGate { limit: 0 };
-    let taken = take(rt, shared, pass, &FixedClock(9), &mut gate, bell);
-    taken.ok().expect(rt, "an element is expired").id
-}
-
-// Takes all elements that were offered, and returns the sum of their ids.
-fn taken_ids<R: Wait + Abort + std::time::Clock>(
-    rt: &R,
-    shared: &ListShared,
-    pass: &mut ListPass,
-    bell: &Bell,
-) -> u64
-    requires { pass.old.table ≡ shared.now }
-    ensures { pass.new.table ≡ pass.old.table }
-{
+    expect_same(rt, caller.pass.calls(), MANY);
+    expect_same(rt, caller.bell.count(rt), MANY);
     let mut sum: u64 = 0;
     for _ in 0..MANY {
-        sum = sum.saturating_add(taken_id(rt, shared, pass, bell));
+        let taken = caller.take(rt, &FixedClock(9), 0);
+        let id = taken.ok().expect(rt, "an element is expired").id;
+        sum = sum.saturating_add(id);
     }
+    expect_same(rt, caller.pass.calls(), 2 * MANY);
     sum
 }
 
 #[test]
 fn refusals_change_nothing(rt: HostRuntime) -> Result<(), Fail> {
     let mut met = 0;
-    let (shared, mut pass) = opened_at_last(rt.alloc())?;
-    let bell = Bell::new();
-    expect_offers(&rt, &shared, &mut pass, &bell, &mut met);
-    expect_number(&rt, taken_ids(&rt, &shared, &mut pass, &bell), 190);
-    expect_number(&rt, pass.calls(), 2 * MANY);
-    expect_number(&rt, u64::from(met), u64::from(REFUSALS));
+    let (shared, pass) = opened_at_last(rt.alloc())?;
+    let (bell, counts) = (Bell::new(), Counts::new());
+    let mut caller = Caller::new(&shared, &bell, &counts, pass);
+    expect_same(&rt, taken_ids(&rt, &mut caller, &mut met), 190);
+    expect_same(&rt, met, REFUSALS);
     Ok(())
 }

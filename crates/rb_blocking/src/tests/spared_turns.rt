@@ -1,15 +1,14 @@
 // Offers that wake no more calls than may take what is offered. The tests count the turns that the
 // waits make.
 
-use crate::tests::callers::{Caller, another};
-use crate::tests::fixtures::{await_more, opened};
-use crate::{Bell, Clock, Gate, MachineClock};
-use std::alloc::{AllocError, Global};
+use crate::tests::fixtures::{Caller, await_more, expect_given, in_threads, with_caller};
+use crate::{Clock, MachineClock};
+use std::alloc::Global;
 use std::process::Abort;
-use std::sync::atomic::{AtomicU64, Ordering};
-use std::sync::{Mutex, Wait};
+use std::sync::Wait;
+use std::sync::atomic::Ordering;
 use std::test::Fail;
-use std::thread::{Threads, map_indices, sleep};
+use std::thread::{Threads, sleep};
 use std::time;
 use std::time::Duration;
 
@@ -29,196 +28,107 @@ const REST: u64 = 20_000_000;
 // after more rings than that looks again.
 const RECENT: u64 = 16;
 
-// The number of turns that all waits have made, and the number of elements that were taken.
-#[derive(Drop)]
-struct Counts {
-    turns: AtomicU64,
-    taken: AtomicU64,
-}
-
-impl Counts {
-    fn new() -> Counts {
-        Counts {
-            turns: AtomicU64::new(0),
-            taken: AtomicU64::new(0),
-        }
-    }
-}
-
-// A gate that ends no wait, and counts the turns of all waits.
-#[derive(Drop)]
-struct CrowdGate<'a> {
-    counts: &'a Counts,
-}
-
-impl<'a> Gate for CrowdGate<'a> {
-    ghost answers = { λ _ _ _. Unit {0} };
-
-    fn turn(&mut self, _turns: u64) -> bool {
-        self.counts.turns.fetch_add(1, Ordering::SeqCst);
-        true
-    }
-}
-
-fn take_one<R: Wait + time::Clock>(
-    rt: &R,
-    taker: &mut Caller<'_>,
-    clock: &MachineClock<'_, R>,
-    counts: &Counts,
-) {
-    let mut gate = CrowdGate { counts };
-    let _ = taker.take(rt, clock, &mut gate);
-    counts.taken.fetch_add(1, Ordering::SeqCst);
-}
-
-// Takes `elements` elements. Returns the number of calls that were answered.
-fn take_some<R: Wait + time::Clock>(
-    rt: &R,
-    mut taker: Caller<'_>,
-    clock: &MachineClock<'_, R>,
-    counts: &Counts,
-    elements: u64,
-) -> u64 {
-    for _ in 0..elements {
-        take_one(rt, &mut taker, clock, counts);
-    }
-    taker.calls()
-}
-
-// Waits until the taker has found nothing. Then offers elements that expire in an hour, one after
-// the other, and finally one that is due. Returns the number of calls that were answered.
-fn offer_far_ahead<R: Wait + time::Clock + Abort>(
-    rt: &R,
-    mut giver: Caller<'_>,
-    clock: &MachineClock<'_, R>,
-    counts: &Counts,
-) -> u64 {
-    await_more(rt, &counts.turns, 0);
-    for _ in 0..ELEMENTS {
-        giver.offer_ahead(rt, clock, HOUR);
-        sleep(rt, Duration::from_micros(50));
-    }
-    giver.offer_ahead(rt, clock, 0);
-    giver.calls()
-}
-
-// The work of thread `number`: the first takes one element; the other offers elements that it can't
-// take yet, and finally one that it can. Returns the number of calls that were answered.
+// The work of thread `number`, if one thread takes. That takes one element. The other waits until
+// it has found nothing, offers elements that expire in an hour, one after the other, and finally
+// one that is due. Returns the number of calls that were answered.
 fn take_or_offer_far_ahead<R: Wait + time::Clock + Abort>(
     rt: &R,
-    first: &Mutex<Caller<'_>>,
+    caller: &mut Caller<'_>,
     clock: &MachineClock<'_, R>,
-    counts: &Counts,
     number: usize,
 ) -> u64 {
-    let caller = another(rt, first);
     if number == 0 {
-        take_some(rt, caller, clock, counts, 1)
+        let _ = caller.take(rt, clock, u64::MAX);
     } else {
-        offer_far_ahead(rt, caller, clock, counts)
+        await_more(rt, &caller.counts.turns, 0);
+        for _ in 0..ELEMENTS {
+            caller.offer_ahead(rt, clock, HOUR);
+            sleep(rt, Duration::from_micros(50));
+        }
+        caller.offer_ahead(rt, clock, 0);
     }
+    caller.pass.calls()
 }
 
-// Offers elements that are due, each once the one before has been taken and its taker has had time
-// to rest again. Returns the number of calls that were answered.
-fn offer_due<R: Wait + time::Clock + Abort>(
-    rt: &R,
-    mut giver: Caller<'_>,
-    clock: &MachineClock<'_, R>,
-    counts: &Counts,
-) -> u64 {
-    for element in 0..ELEMENTS {
-        giver.offer_ahead(rt, clock, 0);
-        await_more(rt, &counts.taken, element);
-        sleep(rt, Duration::from_millis(1));
-    }
-    giver.calls()
-}
-
-// The work of thread `number`: four take, and the last one offers. Returns the number of calls that
-// were answered.
+// The work of thread `number`, if four threads take. Each takes a quarter of the elements. The last
+// thread offers elements that are due, each once the one before has been taken and its taker has
+// had time to rest again. Returns the number of calls that were answered.
 fn take_or_offer_due<R: Wait + time::Clock + Abort>(
     rt: &R,
-    first: &Mutex<Caller<'_>>,
+    caller: &mut Caller<'_>,
     clock: &MachineClock<'_, R>,
-    counts: &Counts,
     number: usize,
 ) -> u64 {
-    let caller = another(rt, first);
+    let taken = &caller.counts.taken;
     if number < TAKERS as usize {
-        take_some(rt, caller, clock, counts, ELEMENTS / TAKERS)
+        for _ in 0..ELEMENTS / TAKERS {
+            let _ = caller.take(rt, clock, u64::MAX);
+            taken.fetch_add(1, Ordering::SeqCst);
+        }
     } else {
-        offer_due(rt, caller, clock, counts)
+        for element in 0..ELEMENTS {
+            caller.offer_ahead(rt, clock, 0);
+            await_more(rt, taken, element);
+            sleep(rt, Duration::from_millis(1));
+        }
     }
+    caller.pass.calls()
 }
 
-// Returns the most turns that `calls` waiting calls may have made by themselves since the clock was
-// made, plus `more`.
-fn most_turns<R: time::Clock>(clock: &MachineClock<'_, R>, calls: u64, more: u64) -> u64 {
-    let rests = clock.now() / REST;
-    let unwoken = rests.saturating_add(2).saturating_mul(calls);
-    unwoken.saturating_add(more)
-}
-
-fn expect_few(rt: &impl Abort, counts: &Counts, most: u64) {
-    let turns = counts.turns.load(Ordering::SeqCst);
-    assert!(rt; turns <= most, "{turns} turns, and not {most} at most");
-}
-
-fn expect_calls(rt: &impl Abort, calls: &[u64], wanted: &[u64]) {
-    assert_eq!(rt; calls, wanted);
-}
-
-fn expect_undisturbed<R: Threads + Wait + time::Clock + Abort + Sync>(
+// Runs so many takers and a giver. Asserts the number of calls that each made, and that the waits
+// made at most `more` turns beside those that they may have made by themselves.
+fn expect_few_turns<R: Threads + Wait + time::Clock + Abort + Sync>(
     rt: &R,
     alloc: Global,
-    first: &Mutex<Caller<'_>>,
-) -> Result<(), AllocError> {
-    let (clock, counts) = (&MachineClock::new(rt), &Counts::new());
-    let calls = map_indices(
+    first: &mut Caller<'_>,
+    takers: u64,
+    more: u64,
+    wanted: &[u64],
+) {
+    let (clock, counts) = (&MachineClock::new(rt), first.counts);
+    let calls = in_threads(
         rt,
         alloc,
-        2,
-        &|number| take_or_offer_far_ahead(rt, first, clock, counts, number),
-    )?;
-    expect_few(rt, counts, most_turns(clock, 1, ELEMENTS / RECENT));
-    expect_calls(rt, calls.as_slice(), &[1, ELEMENTS + 1]);
-    Ok(())
+        wanted.len(),
+        first,
+        &|caller, number| if takers == 1 {
+            take_or_offer_far_ahead(rt, caller, clock, number)
+        } else {
+            take_or_offer_due(rt, caller, clock, number)
+        },
+    );
+    let rests = clock.now() / REST;
+    let unwoken = rests.saturating_add(2).saturating_mul(takers);
+    expect_at_most(
+        rt,
+        counts.turns.load(Ordering::SeqCst),
+        unwoken.saturating_add(more),
+    );
+    expect_given(rt, calls, wanted);
+}
+
+fn expect_at_most(rt: &impl Abort, turns: u64, most: u64) {
+    assert!(rt; turns <= most, "{turns} turns, and not {most} at most");
 }
 
 #[test]
 fn an_offer_of_what_expires_far_ahead_wakes_nobody(rt: HostRuntime) -> Result<(), Fail> {
-    let (shared, pass) = opened(rt.alloc(), ELEMENTS + 2)?;
-    let bell = Bell::new();
-    let first = Mutex::new(Caller::new(&shared, &bell, pass));
-    expect_undisturbed(&rt, rt.alloc(), &first)?;
-    Ok(())
-}
-
-fn expect_one_woken<R: Threads + Wait + time::Clock + Abort + Sync>(
-    rt: &R,
-    alloc: Global,
-    first: &Mutex<Caller<'_>>,
-) -> Result<(), AllocError> {
-    let (clock, counts) = (&MachineClock::new(rt), &Counts::new());
-    let calls = map_indices(
-        rt,
-        alloc,
-        5,
-        &|number| take_or_offer_due(rt, first, clock, counts, number),
-    )?;
-    expect_few(rt, counts, most_turns(clock, TAKERS, 2 * ELEMENTS));
-    expect_calls(rt, calls.as_slice(), &[250, 250, 250, 250, 1_000]);
-    Ok(())
+    let (more, wanted) = (ELEMENTS / RECENT, [1, ELEMENTS + 1]);
+    with_caller(
+        rt.alloc(),
+        ELEMENTS + 2,
+        |first| expect_few_turns(&rt, rt.alloc(), first, 1, more, &wanted),
+    )
 }
 
 // Each take makes a turn when it finds nothing at first, and some make one more. If each offer woke
 // all four takers, three of them would make one more each time.
 #[test]
 fn an_offer_of_what_is_due_wakes_one(rt: HostRuntime) -> Result<(), Fail> {
-    let (shared, pass) = opened(rt.alloc(), 2 * ELEMENTS)?;
-    let bell = Bell::new();
-    let first = Mutex::new(Caller::new(&shared, &bell, pass));
-    expect_one_woken(&rt, rt.alloc(), &first)?;
-    Ok(())
+    let (more, wanted) = (2 * ELEMENTS, [250, 250, 250, 250, 1_000]);
+    with_caller(
+        rt.alloc(),
+        2 * ELEMENTS,
+        |first| expect_few_turns(&rt, rt.alloc(), first, TAKERS, more, &wanted),
+    )
 }
