@@ -31,93 +31,44 @@
 //! line among those of a `*`, counted from 0.
 
 use crate::devices::Devices;
-use crate::differences::difference;
 use crate::entry::Entry;
+use crate::finding::Finding;
 use crate::flaw::Flaw;
 use crate::form::Form;
-use crate::malformed::{Malformed, at_line};
+use crate::line::Line;
 use crate::numbers::number;
+use crate::once::once;
 use crate::text::Text;
+use clap::Error;
+use rb_arguments::{Words, read_words};
 use std::alloc::{AllocError, Global};
-use std::str::SplitWhitespace;
-use std::sync::Wait;
-use std::time;
 
 /// A run, and how it must come out.
 #[derive(Drop)]
-pub struct Case {
-    line: usize,
-    name: String,
-    pub args: Option<String>,
+pub struct Case<'a> {
+    args: Option<&'a str>,
     pub from: Text,
     pub input: Text,
     pub replies: Text,
     pub history: Text,
-    pub ends: Option<String>,
-    pub verdict: Option<String>,
+    pub ends: Option<&'a str>,
+    pub verdict: Option<&'a str>,
     pub status: Option<u8>,
     pub devices: Devices,
 }
 
-impl Entry for Case {
-    fn first_word() -> &'static str {
-        "case"
+impl<'a> Case<'a> {
+    /// Returns the case that an entry is. It has all that a case needs, and nothing else.
+    pub fn read(alloc: Global, entry: Entry<'a>, found: &mut Finding) -> Result<Case<'a>, Flaw> {
+        let mut case = Case::new(alloc);
+        case.take_all(entry.lines, found)?;
+        found.line = entry.line;
+        case.check()?;
+        Ok(case)
     }
 
-    fn begin(alloc: Global, line: usize, rest: &str) -> Result<Self, Flaw> {
-        if rest.trim().is_empty() {
-            return Err(Flaw::Name);
-        }
-        Ok(Case::new(alloc, line, rest)?)
-    }
-
-    fn take(&mut self, alloc: Global, _number: usize, line: &str) -> Result<(), Flaw> {
-        let (word, text) = line.split_once(' ').unwrap_or((line, ""));
-        match word {
-            "args" => set_text(&mut self.args, alloc, text),
-            "ends" => set_text(&mut self.ends, alloc, ending(text)?),
-            "verdict" => set_text(&mut self.verdict, alloc, text),
-            "status" => once(&mut self.status, status_of(text)?),
-            "timer" | "reads" | "reader" | "writer" | "recorder" => self.devices.take(word, text),
-            _ => self.take_text(word, text),
-        }
-    }
-
-    fn check(&self) -> Result<(), Flaw> {
-        if !self.is_script() && !self.is_replay() {
-            return Err(Flaw::NoOutcome);
-        }
-        if self.is_replay() && (self.is_script() || self.has_script_words()) {
-            return Err(Flaw::Mixed);
-        }
-        if self.verdict.is_some() != self.status.is_some() {
-            return Err(Flaw::Half);
-        }
-        self.devices.check(self.input.bytes.len())
-    }
-
-    fn line(&self) -> usize {
-        self.line
-    }
-
-    fn name(&self) -> &str {
-        &self.name
-    }
-
-    fn difference<R: Wait + time::Clock>(
-        &self,
-        _rt: &R,
-        alloc: Global,
-    ) -> Result<Option<String>, Malformed> {
-        at_line(self.line, difference(alloc, self).map_err(Flaw::from))
-    }
-}
-
-impl Case {
-    fn new(alloc: Global, line: usize, name: &str) -> Result<Case, AllocError> {
-        Ok(Case {
-            line,
-            name: name.to_string(alloc)?,
+    fn new(alloc: Global) -> Case<'a> {
+        Case {
             args: None,
             from: Text::new(alloc),
             input: Text::new(alloc),
@@ -127,7 +78,27 @@ impl Case {
             verdict: None,
             status: None,
             devices: Devices::new(),
-        })
+        }
+    }
+
+    fn take_all(&mut self, lines: &'a [Line<'a>], found: &mut Finding) -> Result<(), Flaw> {
+        for line in lines {
+            found.line = line.number;
+            self.take(*line)?;
+        }
+        Ok(())
+    }
+
+    fn take(&mut self, line: Line<'a>) -> Result<(), Flaw> {
+        let (word, text) = line.cut();
+        match word {
+            "args" => once(&mut self.args, text),
+            "ends" => once(&mut self.ends, ending(text)?),
+            "verdict" => once(&mut self.verdict, text),
+            "status" => once(&mut self.status, status_of(text)?),
+            "timer" | "reads" | "reader" | "writer" | "recorder" => self.devices.take(word, text),
+            _ => self.take_text(word, text),
+        }
     }
 
     // Takes a line of one of the texts.
@@ -142,18 +113,32 @@ impl Case {
         }
     }
 
+    fn check(&self) -> Result<(), Flaw> {
+        let is_replay = self.verdict.is_some() || self.status.is_some();
+        if !self.is_script() && !is_replay {
+            return Err(Flaw::NoOutcome);
+        }
+        if is_replay && (self.is_script() || self.has_script_words()) {
+            return Err(Flaw::Mixed);
+        }
+        if self.verdict.is_some() != self.status.is_some() {
+            return Err(Flaw::Half);
+        }
+        self.devices.check(self.input.bytes.len())
+    }
+
     /// Returns whether the case runs a script. Otherwise it replays a history.
     pub fn is_script(&self) -> bool {
         self.ends.is_some()
     }
 
-    /// The words of `args`.
-    pub fn words(&self) -> SplitWhitespace<'_> {
-        self.args.as_deref().unwrap_or("").split_whitespace()
-    }
-
-    fn is_replay(&self) -> bool {
-        self.verdict.is_some() || self.status.is_some()
+    /// Reads the words of a command line: those of `first`, and behind them the words of `args`.
+    pub fn words(&self, alloc: Global, first: &[&str]) -> Result<Result<Words, Error>, AllocError> {
+        let args = self.args.unwrap_or("");
+        let mut words = Vec::new(alloc);
+        words.extend_from_slice(first)?;
+        words.extend(args.split_whitespace())?;
+        Ok(read_words(alloc, &words))
     }
 
     fn has_script_words(&self) -> bool {
@@ -161,27 +146,17 @@ impl Case {
     }
 }
 
-fn set_text(place: &mut Option<String>, alloc: Global, text: &str) -> Result<(), Flaw> {
-    once(place, text.to_string(alloc)?)
-}
-
-// Sets a value. It is a flaw if the value is set already.
-fn once<T: Drop>(place: &mut Option<T>, value: T) -> Result<(), Flaw> {
-    if place.is_some() {
-        return Err(Flaw::Twice);
-    }
-    *place = Some(value);
-    Ok(())
-}
-
 // Returns the text of an end. What follows `quit` or `input`, the lost jobs, must be a number.
 fn ending(text: &str) -> Result<&str, Flaw> {
-    match text.split_once(' ') {
-        Some(("quit" | "input", lost)) => number(lost).map(|_| text),
-        _ => Ok(text),
+    if let Some(("quit" | "input", lost)) = text.split_once(' ') {
+        number(lost)?;
     }
+    Ok(text)
 }
 
 fn status_of(text: &str) -> Result<u8, Flaw> {
-    u8::try_from(number(text)?).map_err(|_| Flaw::Number)
+    match u8::try_from(number(text)?) {
+        Ok(status) => Ok(status),
+        Err(_) => Err(Flaw::Number),
+    }
 }

@@ -6,25 +6,18 @@ use crate::numbers::number;
 pub fn counted(counter: usize, steps: &str) -> Result<usize, Flaw> {
     let mut sum = counter;
     for step in steps.split_whitespace() {
-        let (sign, digits) = parts_of(step);
-        sum = stepped(sum, sign, number(digits)?).ok_or(Flaw::Number)?;
+        sum = stepped(sum, step)?;
     }
     Ok(sum)
 }
 
-fn parts_of(step: &str) -> (&str, &str) {
-    match step.split_at_checked(1) {
-        Some(("*", digits)) => ("*", digits),
-        Some(("%", digits)) => ("%", digits),
-        Some(("+", digits)) => ("+", digits),
-        _ => ("+", step),
-    }
-}
-
-fn stepped(sum: usize, sign: &str, by: usize) -> Option<usize> {
-    match sign {
-        "*" => sum.checked_mul(by),
-        "%" => sum.checked_rem(by),
-        _ => sum.checked_add(by),
-    }
+fn stepped(sum: usize, step: &str) -> Result<usize, Flaw> {
+    let (sign, digits) = step.split_at_checked(1).unwrap_or(("", step));
+    let stepped = match sign {
+        "*" => sum.checked_mul(number(digits)?),
+        "%" => sum.checked_rem(number(digits)?),
+        "+" => sum.checked_add(number(digits)?),
+        _ => sum.checked_add(number(step)?),
+    };
+    stepped.ok_or(Flaw::Number)
 }

@@ -1,5 +1,7 @@
 use crate::flaw::Flaw;
+use crate::line::cut;
 use crate::numbers::number;
+use crate::once::once;
 use crate::timers::timer_of;
 use rb_options::TimerKind;
 
@@ -17,8 +19,8 @@ pub struct Devices {
     pub are_given: bool,
     timer: Option<TimerKind>,
     size: Option<usize>,
-    /// Whether every second read is interrupted.
-    pub is_interrupted: bool,
+    /// Whether every second read is interrupted, if the case says so.
+    interrupted: Option<bool>,
     /// The number of bytes after which a read fails.
     pub reader_fails: Option<usize>,
     /// The number of the writer's call that fails, counted from 0.
@@ -35,7 +37,7 @@ impl Devices {
             are_given: false,
             timer: None,
             size: None,
-            is_interrupted: false,
+            interrupted: None,
             reader_fails: None,
             writer_fails: None,
             writer_takes: None,
@@ -64,51 +66,25 @@ impl Devices {
         self.size.is_none()
     }
 
+    /// Returns whether every second read is interrupted.
+    pub fn are_interrupted(&self) -> bool {
+        self.interrupted.is_some()
+    }
+
     /// Takes a line that begins with `word`. `text` is what follows.
     pub fn take(&mut self, word: &str, text: &str) -> Result<(), Flaw> {
         self.are_given = true;
-        match word {
-            "timer" => set_once(&mut self.timer, timer_of(text)?),
-            "reads" => set_once(&mut self.size, size_of(text)?),
-            "reader" => self.take_reader(text),
-            "writer" => self.take_writer(text),
-            "recorder" => self.take_recorder(text),
+        let (kind, count) = cut(text);
+        match (word, kind) {
+            ("timer", _) => once(&mut self.timer, timer_of(text)?),
+            ("reads", _) => once(&mut self.size, size_of(text)?),
+            ("reader", "fails") => once(&mut self.reader_fails, number(count)?),
+            ("reader", "interrupted") => once(&mut self.interrupted, true),
+            ("writer", "fails") => once(&mut self.writer_fails, number(count)?),
+            ("writer", "takes") => once(&mut self.writer_takes, number(count)?),
+            ("recorder", "fails") => once(&mut self.recorder_fails, number(count)?),
             _ => Err(Flaw::Device),
         }
-    }
-
-    fn take_reader(&mut self, text: &str) -> Result<(), Flaw> {
-        let (kind, rest) = text.split_once(' ').unwrap_or((text, ""));
-        match kind {
-            "fails" => set_once(&mut self.reader_fails, number(rest)?),
-            "interrupted" => self.interrupt(),
-            _ => Err(Flaw::Device),
-        }
-    }
-
-    fn take_writer(&mut self, text: &str) -> Result<(), Flaw> {
-        let (kind, rest) = text.split_once(' ').unwrap_or((text, ""));
-        match kind {
-            "fails" => set_once(&mut self.writer_fails, number(rest)?),
-            "takes" => set_once(&mut self.writer_takes, number(rest)?),
-            _ => Err(Flaw::Device),
-        }
-    }
-
-    fn take_recorder(&mut self, text: &str) -> Result<(), Flaw> {
-        let (kind, rest) = text.split_once(' ').unwrap_or((text, ""));
-        match kind {
-            "fails" => set_once(&mut self.recorder_fails, number(rest)?),
-            _ => Err(Flaw::Device),
-        }
-    }
-
-    fn interrupt(&mut self) -> Result<(), Flaw> {
-        if self.is_interrupted {
-            return Err(Flaw::Twice);
-        }
-        self.is_interrupted = true;
-        Ok(())
     }
 
     /// Checks that a read that is to fail can do so in an input of `input` bytes.
@@ -118,15 +94,6 @@ impl Devices {
             _ => Ok(()),
         }
     }
-}
-
-// Sets a value. It is a flaw if the value is set already.
-fn set_once<T: Copy>(place: &mut Option<T>, value: T) -> Result<(), Flaw> {
-    if place.is_some() {
-        return Err(Flaw::Twice);
-    }
-    *place = Some(value);
-    Ok(())
 }
 
 fn size_of(name: &str) -> Result<usize, Flaw> {

@@ -1,59 +1,57 @@
-use crate::case::Case;
-use crate::replays::replay_difference;
-use crate::scripts::script_difference;
-use std::alloc::{AllocError, Global};
+use crate::flaw::Flaw;
+use std::alloc::Global;
 
-/// Runs the case. Returns a text about what differs from it, if anything does.
-pub fn difference(alloc: Global, case: &Case) -> Result<Option<String>, AllocError> {
-    if case.is_script() {
-        script_difference(alloc, case)
-    } else {
-        replay_difference(alloc, case)
-    }
-}
-
-/// Returns a text about what came instead of what was wanted, if they differ.
-pub fn of_texts(
-    alloc: Global,
-    what: &str,
-    came: &str,
-    wanted: &str,
-) -> Result<Option<String>, AllocError> {
+/// Compares what came with what is wanted, and tells what differs.
+pub fn compare_texts(told: &mut String, what: &str, came: &str, wanted: &str) -> Result<(), Flaw> {
     if came == wanted {
-        return Ok(None);
+        return Ok(());
     }
-    format!(in alloc; "{what}: {came:?} in place of {wanted:?}").map(Some)
+    write!(told, "{what}: {came:?} in place of {wanted:?}")?;
+    Err(Flaw::Differs)
 }
 
-/// Returns a text about the first line that came instead of another one, if the texts differ.
-pub fn of_bytes(
+/// Compares what came with what is wanted, and tells the first lines that differ.
+pub fn compare_lines(
     alloc: Global,
+    told: &mut String,
     what: &str,
     came: &[u8],
     wanted: &[u8],
-) -> Result<Option<String>, AllocError> {
+) -> Result<(), Flaw> {
     if came == wanted {
-        return Ok(None);
+        return Ok(());
     }
     let same = same_lines(came, wanted);
+    let number = same.saturating_add(1);
     let came = String::from_utf8_lossy(alloc, line_at(came, same))?;
     let wanted = String::from_utf8_lossy(alloc, line_at(wanted, same))?;
-    let number = same.saturating_add(1);
-    format!(in alloc; "{what}, line {number}: {came:?} in place of {wanted:?}").map(Some)
+    write!(
+        told,
+        "{what}, line {number}: {came:?} in place of {wanted:?}"
+    )?;
+    Err(Flaw::Differs)
 }
 
 // Returns the number of lines that the texts have in common at their beginning.
 fn same_lines(one: &[u8], other: &[u8]) -> usize {
-    let lines = one.split_inclusive(|&byte| byte == b'\n');
-    let others = other.split_inclusive(|&byte| byte == b'\n');
-    lines
-        .zip(others)
-        .take_while(|(line, twin)| line == twin)
-        .count()
+    let lines = one.split_inclusive(is_line_feed);
+    let mut same = 0_usize;
+    for (line, twin) in lines.zip(other.split_inclusive(is_line_feed)) {
+        if line != twin {
+            return same;
+        }
+        same = same.saturating_add(1);
+    }
+    same
 }
 
 // Returns line `number`, counted from 0, or an empty text if there is none.
 fn line_at(text: &[u8], number: usize) -> &[u8] {
-    let mut lines = text.split_inclusive(|&byte| byte == b'\n');
-    lines.nth(number).unwrap_or(&[])
+    text.split_inclusive(is_line_feed)
+        .nth(number)
+        .unwrap_or(&[])
+}
+
+fn is_line_feed(byte: &u8) -> bool {
+    *byte == b'\n'
 }

@@ -4,23 +4,15 @@ use crate::flaw::Flaw;
 use crate::numbers::number;
 use rb_delayed::{Element, GREATEST_ATTEMPT, Payload};
 use rb_queue::Draft;
-use std::alloc::{AllocError, Global};
-use std::str;
-
-/// Returns the text of an element, with `word` before it.
-pub fn element_text(alloc: Global, word: &str, element: &Element) -> Result<String, AllocError> {
-    let payload = String::from_utf8_lossy(alloc, element.payload.as_bytes())?;
-    let (id, expiry, origin) = (element.id, element.expiry, element.origin);
-    let (first, attempt) = (element.first, element.attempt);
-    format!(in alloc; "{word}{id} {expiry} {origin} {first} {attempt} {payload}")
-}
 
 /// Returns the element that `words` spell.
 pub fn element_of(words: &[&str]) -> Result<Element, Flaw> {
     let [id, expiry, origin, first, attempt, payload] = *words else {
         return Err(Flaw::Command);
     };
-    let attempt = attempt_of(attempt)?;
+    let Ok(attempt) = u32::try_from(number(attempt)?) else {
+        return Err(Flaw::Number);
+    };
     if !(1..=GREATEST_ATTEMPT).contains(&attempt) {
         return Err(Flaw::Number);
     }
@@ -34,40 +26,28 @@ pub fn element_of(words: &[&str]) -> Result<Element, Flaw> {
     })
 }
 
-/// Returns the draft of a job's first element.
-pub fn first_draft(expiry: &str, payload: &str) -> Result<Draft, Flaw> {
-    Ok(Draft::first(number(expiry)? as u64, payload_of(payload)?))
-}
-
-/// Returns the draft of a later attempt. Its words are those of an element without the id.
-pub fn later_draft(words: &[&str]) -> Result<Draft, Flaw> {
-    let [expiry, origin, first, attempt, payload] = *words else {
-        return Err(Flaw::Command);
-    };
-    let attempt = attempt_of(attempt)?;
-    if !(1..=GREATEST_ATTEMPT).contains(&attempt) {
-        return Err(Flaw::Number);
+/// Returns the draft that `words` spell: of a job's first element, `EXPIRY PAYLOAD`, or of a later one, whose words
+/// are those of an element without the id.
+pub fn draft_of(words: &[&str]) -> Result<Draft, Flaw> {
+    match *words {
+        [expiry, payload] => Ok(Draft::first(number(expiry)? as u64, payload_of(payload)?)),
+        [expiry, origin, first, attempt, payload] => {
+            let element = element_of(&["0", expiry, origin, first, attempt, payload])?;
+            Ok(Draft {
+                expiry: element.expiry,
+                origin: Some(element.origin),
+                first: Some(element.first),
+                attempt: element.attempt,
+                payload: element.payload,
+            })
+        }
+        _ => Err(Flaw::Command),
     }
-    Ok(Draft {
-        expiry: number(expiry)? as u64,
-        origin: Some(number(origin)? as u64),
-        first: Some(number(first)? as u64),
-        attempt,
-        payload: payload_of(payload)?,
-    })
-}
-
-// Returns the number of an attempt. The callers test its range, since a function without clauses
-// promises none.
-fn attempt_of(word: &str) -> Result<u32, Flaw> {
-    u32::try_from(number(word)?).map_err(|_| Flaw::Number)
 }
 
 fn payload_of(word: &str) -> Result<Payload, Flaw> {
-    Payload::new(word.as_bytes()).map_err(|_| Flaw::Payload)
-}
-
-/// Returns the bytes of a payload, all of which are visible, as a text.
-pub fn payload_text(payload: &Payload) -> &str {
-    str::from_utf8(payload.as_bytes()).unwrap_or_default()
+    match Payload::new(word.as_bytes()) {
+        Ok(payload) => Ok(payload),
+        Err(_) => Err(Flaw::Payload),
+    }
 }

@@ -1,33 +1,24 @@
-use crate::flaw::Flaw;
-use crate::malformed::Malformed;
-use std::alloc::Global;
-use std::sync::Wait;
-use std::time;
+use crate::line::{Line, cut};
 
 /// An entry of a file: a case, or a table.
-pub trait Entry: Drop + Sized {
-    /// The word that begins an entry.
-    fn first_word() -> &'static str;
+#[derive(Clone, Copy)]
+pub struct Entry<'a> {
+    pub is_table: bool,
+    /// The number of its first line.
+    pub line: usize,
+    /// What follows the word that begins it.
+    pub head: &'a str,
+    /// Its other lines.
+    pub lines: &'a [Line<'a>],
+}
 
-    /// Returns the entry that begins on line `line` of the file. `rest` is what follows the first
-    /// word.
-    fn begin(alloc: Global, line: usize, rest: &str) -> Result<Self, Flaw>;
-
-    /// Takes another line of the entry, line `number` of the file.
-    fn take(&mut self, alloc: Global, number: usize, line: &str) -> Result<(), Flaw>;
-
-    /// Checks that the entry has all that it needs, and nothing else.
-    fn check(&self) -> Result<(), Flaw>;
-
-    /// Returns the number of the entry's first line.
-    fn line(&self) -> usize;
-
-    fn name(&self) -> &str;
-
-    /// Runs the entry. Returns a text about what came out differently, if anything did.
-    fn difference<R: Wait + time::Clock>(
-        &self,
-        rt: &R,
-        alloc: Global,
-    ) -> Result<Option<String>, Malformed>;
+impl<'a> Entry<'a> {
+    /// Its name. What a table is about comes before it.
+    pub fn name(self) -> &'a str {
+        if self.is_table {
+            cut(self.head).1
+        } else {
+            self.head
+        }
+    }
 }

@@ -1,8 +1,10 @@
 use std::alloc::{AllocError, AllocFailed};
 
-/// What is wrong with a line of a file of cases or of tables.
+/// What is wrong with an entry of a file, or with a line of it.
 #[derive(Clone, Copy)]
 pub enum Flaw {
+    /// It did not come out as it must.
+    Differs,
     /// The line does not begin with a word of a case.
     Word,
     /// A line comes before the first `case` or `table`, or the file has none.
@@ -57,6 +59,7 @@ impl Flaw {
     /// The reason, as it is printed.
     pub fn as_str(self) -> &'static str {
         match self {
+            Flaw::Differs => "not as it must be",
             Flaw::Word => "no word of a case",
             Flaw::NoEntry => "no case or table has begun",
             Flaw::Name => "a case or table without a name",

@@ -27,12 +27,4 @@ impl Kind {
             _ => Err(Flaw::Kind),
         }
     }
-
-    /// Returns whether tables of this kind are run over each timer.
-    pub fn has_timer(self) -> bool {
-        match self {
-            Kind::Timer | Kind::Queue => true,
-            Kind::Lines | Kind::Words | Kind::Jobs => false,
-        }
-    }
 }

@@ -22,14 +22,14 @@
 //!
 //! There is no set-up.
 
-use crate::elements::{element_of, payload_text};
+use crate::elements::element_of;
+use crate::finding::Finding;
 use crate::flaw::Flaw;
-use crate::malformed::Malformed;
-use crate::numbered::Numbered;
 use crate::numbers::number;
-use crate::row::Line;
-use crate::subject::{FromSetUp, Subject, refuse_set_up, words_in};
-use rb_delayed::{Element, Payload};
+use crate::subject::{Command, FromSetUp, Subject};
+use crate::table::Table;
+use crate::told::{Told, payload_text};
+use rb_delayed::Payload;
 use rb_protocol::{
     ErrWord, LINE_FEED, LineFault, LineReply, MOST_LINE_BYTES, MOST_REPLY_BYTES, REPLY_ROOM,
     Request, SPACE, cut_word, read_request, write_reply,
@@ -47,8 +47,7 @@ pub struct LineSubject {
 }
 
 impl FromSetUp for LineSubject {
-    fn begin(alloc: Global, set_up: &[Line]) -> Result<Self, Malformed> {
-        refuse_set_up(set_up)?;
+    fn begin(alloc: Global, _: &Table<'_>, _: &mut Finding) -> Result<Self, Flaw> {
         Ok(LineSubject {
             text: Vec::new(alloc),
         })
@@ -56,66 +55,48 @@ impl FromSetUp for LineSubject {
 }
 
 impl Subject for LineSubject {
-    fn answer(&mut self, alloc: Global, command: &[u8]) -> Result<String, Flaw> {
-        let (word, rest) = cut_word(command);
-        let rest = rest.unwrap_or(&[]);
-        match word {
-            b"request" => reading_text(alloc, rest).map_err(Flaw::from),
-            b"reply" => self.reply(alloc, rest),
-            b"behind" => behind(alloc, rest),
-            b"length" => self.text.len().to_string(alloc).map_err(Flaw::from),
-            b"part" => self.part(alloc, rest),
-            b"constant" => constant_text(alloc, rest),
+    fn answer(&mut self, alloc: Global, command: Command<'_>, came: &mut Told) -> Result<(), Flaw> {
+        if let (b"request", line) = cut_word(command.bytes) {
+            return tell_reading(came, line.unwrap_or(&[]));
+        }
+        match *command.words {
+            ["reply", ..] => self.reply(alloc, &reply_behind(command.words)?, came),
+            ["behind", ..] => behind(alloc, &reply_behind(command.words)?, came),
+            ["length"] => came.number(self.text.len() as u64),
+            ["part", from, length] => {
+                let from = number(from)?;
+                let end = from.saturating_add(number(length)?);
+                tell_bytes(alloc, self.text.get(from..end), came)
+            }
+            ["constant", name] => came.number(constant(name)? as u64),
             _ => Err(Flaw::Command),
         }
     }
 }
 
 impl LineSubject {
-    fn reply(&mut self, alloc: Global, words: &[u8]) -> Result<String, Flaw> {
-        let reply = reply_in(alloc, words)?;
-        self.append(alloc, &reply).map_err(Flaw::from)
-    }
-
-    fn append(&mut self, alloc: Global, reply: &LineReply) -> Result<String, AllocError> {
+    fn reply(&mut self, alloc: Global, reply: &LineReply, came: &mut Told) -> Result<(), Flaw> {
         let before = self.text.len();
         write_reply(reply, &mut self.text)?;
-        String::from_utf8_lossy(alloc, self.text.get(before..).unwrap_or(&[]))
-    }
-
-    fn part(&self, alloc: Global, range: &[u8]) -> Result<String, Flaw> {
-        let (from, length) = range_of(alloc, range)?;
-        let part = self.text.get(from..from.saturating_add(length));
-        String::from_utf8_lossy(alloc, part.unwrap_or(&[])).map_err(Flaw::from)
+        tell_bytes(alloc, self.text.get(before..), came)
     }
 }
 
-fn range_of(alloc: Global, range: &[u8]) -> Result<(usize, usize), Flaw> {
-    let words = words_in(alloc, range)?;
-    pair_of(&words)
+fn tell_bytes(alloc: Global, bytes: Option<&[u8]>, came: &mut Told) -> Result<(), Flaw> {
+    let text = String::from_utf8_lossy(alloc, bytes.unwrap_or(&[]))?;
+    came.word(&text)
 }
 
-fn pair_of(words: &[&str]) -> Result<(usize, usize), Flaw> {
-    match *words {
-        [from, length] => Ok((number(from)?, number(length)?)),
-        _ => Err(Flaw::Command),
-    }
-}
-
-fn behind(alloc: Global, words: &[u8]) -> Result<String, Flaw> {
-    let reply = reply_in(alloc, words)?;
-    behind_texts(alloc, &reply).map_err(Flaw::from)
-}
-
-fn behind_texts(alloc: Global, reply: &LineReply) -> Result<String, AllocError> {
+fn behind(alloc: Global, reply: &LineReply, came: &mut Told) -> Result<(), Flaw> {
     let mut line = Vec::new(alloc);
     write_reply(reply, &mut line)?;
     for room in [0, REPLY_ROOM] {
         if let Some(length) = length_not_so(alloc, reply, &line, room)? {
-            return format!(in alloc; "not so behind {length} bytes, with room for {room}");
+            came.named("not so behind", length as u64)?;
+            return came.named("bytes, with room for", room as u64);
         }
     }
-    String::from_utf8_lossy(alloc, &line)
+    tell_bytes(alloc, Some(&line), came)
 }
 
 // Returns the length of the first text to which the reply is not appended as `line`, if there is
@@ -143,129 +124,91 @@ fn stands_behind(
     length: usize,
     room: usize,
 ) -> Result<bool, AllocError> {
-    let mut text = text_with_room(alloc, length, room)?;
+    let mut text = Vec::with_capacity(alloc, length.saturating_add(room))?;
+    text.resize(length, b'x')?;
     let before = text.capacity();
     write_reply(reply, &mut text)?;
     let is_kept = room == 0 || text.capacity() == before;
     let is_exact = before == length.saturating_add(room);
-    Ok(is_exact && is_kept && ends_with(&text, length, line))
+    Ok(is_exact && is_kept && text.get(length..) == Some(line))
 }
 
-fn text_with_room(alloc: Global, length: usize, room: usize) -> Result<Vec<u8>, AllocError> {
-    let mut text = Vec::with_capacity(alloc, length.saturating_add(room))?;
-    text.resize(length, b'x')?;
-    Ok(text)
-}
-
-// Returns whether the text has `line`, and nothing else, after its first `length` bytes.
-fn ends_with(text: &[u8], length: usize, line: &[u8]) -> bool {
-    text.get(length..) == Some(line)
-}
-
-fn constant_text(alloc: Global, name: &[u8]) -> Result<String, Flaw> {
-    let constant = constant(name)?;
-    constant.to_string(alloc).map_err(Flaw::from)
-}
-
-fn constant(name: &[u8]) -> Result<usize, Flaw> {
+fn constant(name: &str) -> Result<usize, Flaw> {
     match name {
-        b"MOST_LINE_BYTES" => Ok(MOST_LINE_BYTES),
-        b"SPACE" => Ok(usize::from(SPACE)),
-        b"LINE_FEED" => Ok(usize::from(LINE_FEED)),
-        b"MOST_REPLY_BYTES" => Ok(MOST_REPLY_BYTES),
-        b"REPLY_ROOM" => Ok(REPLY_ROOM),
+        "MOST_LINE_BYTES" => Ok(MOST_LINE_BYTES),
+        "SPACE" => Ok(usize::from(SPACE)),
+        "LINE_FEED" => Ok(usize::from(LINE_FEED)),
+        "MOST_REPLY_BYTES" => Ok(MOST_REPLY_BYTES),
+        "REPLY_ROOM" => Ok(REPLY_ROOM),
         _ => Err(Flaw::Command),
     }
 }
 
-fn reading_text(alloc: Global, line: &[u8]) -> Result<String, AllocError> {
+fn tell_reading(came: &mut Told, line: &[u8]) -> Result<(), Flaw> {
     match read_request(line) {
-        Ok(request) => request_text(alloc, &request),
-        Err(LineFault::Line) => "line".to_string(alloc),
-        Err(LineFault::Syntax) => "syntax".to_string(alloc),
-        Err(LineFault::Number) => "number".to_string(alloc),
-        Err(LineFault::Payload) => "payload".to_string(alloc),
+        Ok(request) => tell_request(came, &request),
+        Err(LineFault::Line) => came.word("line"),
+        Err(LineFault::Syntax) => came.word("syntax"),
+        Err(LineFault::Number) => came.word("number"),
+        Err(LineFault::Payload) => came.word("payload"),
     }
 }
 
-fn request_text(alloc: Global, request: &Request) -> Result<String, AllocError> {
+fn tell_request(came: &mut Told, request: &Request) -> Result<(), Flaw> {
     match request {
-        Request::Offer { delay, payload } => offer_text(alloc, "offer", *delay, payload),
-        Request::OfferAt { expiry, payload } => offer_text(alloc, "offerat", *expiry, payload),
-        Request::Poll => "poll".to_string(alloc),
-        Request::PollFor(timeout) => format!(in alloc; "pollfor {timeout}"),
-        Request::Take => "take".to_string(alloc),
-        Request::Peek => "peek".to_string(alloc),
-        Request::Remove(id) => format!(in alloc; "remove {id}"),
-        Request::Drain(most) => format!(in alloc; "drain {most}"),
-        Request::Clear => "clear".to_string(alloc),
-        Request::Size => "size".to_string(alloc),
-        Request::Done(id) => format!(in alloc; "done {id}"),
-        Request::Fail(id) => format!(in alloc; "fail {id}"),
-        Request::At(moment) => format!(in alloc; "at {moment}"),
-        Request::Quit => "quit".to_string(alloc),
+        Request::Offer { delay, payload } => tell_offer(came, "offer", *delay, payload),
+        Request::OfferAt { expiry, payload } => tell_offer(came, "offerat", *expiry, payload),
+        Request::Poll => came.word("poll"),
+        Request::PollFor(timeout) => came.named("pollfor", *timeout),
+        Request::Take => came.word("take"),
+        Request::Peek => came.word("peek"),
+        Request::Remove(id) => came.named("remove", *id),
+        Request::Drain(most) => came.named("drain", *most),
+        Request::Clear => came.word("clear"),
+        Request::Size => came.word("size"),
+        Request::Done(id) => came.named("done", *id),
+        Request::Fail(id) => came.named("fail", *id),
+        Request::At(moment) => came.named("at", *moment),
+        Request::Quit => came.word("quit"),
     }
 }
 
-fn offer_text(
-    alloc: Global,
-    word: &str,
-    number: u64,
-    payload: &Payload,
-) -> Result<String, AllocError> {
-    let payload = payload_text(payload);
-    format!(in alloc; "{word} {number} {payload}")
+fn tell_offer(came: &mut Told, word: &str, number: u64, payload: &Payload) -> Result<(), Flaw> {
+    came.named(word, number)?;
+    came.word(payload_text(payload))
 }
 
-fn reply_in(alloc: Global, reply: &[u8]) -> Result<LineReply, Flaw> {
-    let words = words_in(alloc, reply)?;
-    reply_of(&words)
-}
-
-fn reply_of(words: &[&str]) -> Result<LineReply, Flaw> {
+// Returns the reply whose words follow the first word.
+fn reply_behind(words: &[&str]) -> Result<LineReply, Flaw> {
+    let words = words.get(1..).unwrap_or(&[]);
     match *words {
-        ["item", ..] => Ok(LineReply::Item(element_behind(words)?)),
-        ["head", ..] => Ok(LineReply::Head(element_behind(words)?)),
-        [word] => reply_alone(word),
-        [word, value] => reply_of_one(word, value),
-        [word, id, expiry] => reply_of_two(word, id, expiry),
+        ["item", ..] => Ok(LineReply::Item(element_of(words.get(1..).unwrap_or(&[]))?)),
+        ["head", ..] => Ok(LineReply::Head(element_of(words.get(1..).unwrap_or(&[]))?)),
+        ["nothing"] => Ok(LineReply::Nothing),
+        ["cleared"] => Ok(LineReply::Cleared),
+        ["stopped"] => Ok(LineReply::Stopped),
+        ["bye"] => Ok(LineReply::Bye),
+        ["removed", "yes"] => Ok(LineReply::Removed(true)),
+        ["removed", "no"] => Ok(LineReply::Removed(false)),
+        ["error", word] => Ok(LineReply::Err(error_of(word)?)),
+        [word, value] => numbered(word, number(value)? as u64),
+        [word, id, expiry] => reply_of_two(word, number(id)? as u64, number(expiry)? as u64),
         _ => Err(Flaw::Command),
     }
 }
 
-// Returns the element whose words follow the first word.
-fn element_behind(words: &[&str]) -> Result<Element, Flaw> {
-    element_of(words.get(1..).unwrap_or(&[]))
-}
-
-fn reply_alone(word: &str) -> Result<LineReply, Flaw> {
+fn numbered(word: &str, number: u64) -> Result<LineReply, Flaw> {
     match word {
-        "nothing" => Ok(LineReply::Nothing),
-        "cleared" => Ok(LineReply::Cleared),
-        "stopped" => Ok(LineReply::Stopped),
-        "bye" => Ok(LineReply::Bye),
+        "drained" => Ok(LineReply::Drained(number)),
+        "size" => Ok(LineReply::Size(number)),
+        "done" => Ok(LineReply::Done(number)),
+        "dead" => Ok(LineReply::Dead(number)),
+        "now" => Ok(LineReply::Now(number)),
         _ => Err(Flaw::Command),
     }
 }
 
-fn reply_of_one(word: &str, value: &str) -> Result<LineReply, Flaw> {
-    match word {
-        "removed" => Ok(LineReply::Removed(yes_or_no(value)?)),
-        "error" => Ok(LineReply::Err(error_of(value)?)),
-        _ => Ok(Numbered::of(word)?.reply(number(value)? as u64)),
-    }
-}
-
-fn yes_or_no(word: &str) -> Result<bool, Flaw> {
-    match word {
-        "yes" => Ok(true),
-        "no" => Ok(false),
-        _ => Err(Flaw::Command),
-    }
-}
-
-fn reply_of_two(word: &str, id: &str, expiry: &str) -> Result<LineReply, Flaw> {
-    let (id, expiry) = (number(id)? as u64, number(expiry)? as u64);
+fn reply_of_two(word: &str, id: u64, expiry: u64) -> Result<LineReply, Flaw> {
     match word {
         "offered" => Ok(LineReply::Offered { id, expiry }),
         "again" => Ok(LineReply::Again { id, expiry }),

@@ -8,6 +8,7 @@
 //! the reason.
 #![tactic(auto)]
 
+mod bench;
 mod case;
 mod counters;
 mod desks;
@@ -15,16 +16,16 @@ mod devices;
 mod differences;
 mod elements;
 mod entry;
+mod finding;
 mod fixed_clock;
 mod flaw;
 mod form;
 mod job_subject;
 mod kind;
+mod line;
 mod line_subject;
-mod malformed;
-mod numbered;
 mod numbers;
-mod outcome;
+mod once;
 mod queue_subject;
 mod reader;
 mod reads;
@@ -41,18 +42,25 @@ mod tables;
 mod text;
 mod timer_subject;
 mod timers;
+mod told;
 mod word_subject;
 
 use case::Case;
 use entry::Entry;
-use malformed::Malformed;
-use reader::read_entries;
+use finding::Finding;
+use flaw::Flaw;
+use line::Line;
+use reader::{entries_of, lines_of};
+use replays::run_replay_case;
 use report::Report;
+use scripts::run_script_case;
+use std::alloc::Global;
 use std::process::ExitCode;
 use std::sync::Wait;
 use std::{env, fs, io, time};
 use stopped::Stopped;
 use table::Table;
+use tables::run_table;
 
 fn main(rt: HostRuntime) -> ExitCode {
     match run_all(&rt, &rt) {
@@ -96,59 +104,84 @@ fn run_file<R: Wait + time::Clock>(
         let _ = eprintln!(rt; "{path}: the file can't be read as text");
         return Err(Stopped);
     };
-    if path.ends_with(".rows") {
-        run_entries::<Table, R>(rt, handle, path, &text, report)
-    } else {
-        run_entries::<Case, R>(rt, handle, path, &text, report)
+    let mut found = Finding::new(rt.alloc());
+    match lines_of(rt.alloc(), path.ends_with(".rows"), &text, &mut found) {
+        Ok(lines) => run_entries(rt, handle, path, &lines, report, &mut found),
+        Err(_) => Err(stop_at(rt, path, &found, Flaw::Memory)),
     }
 }
 
 // Runs the cases or tables of a file, once all of it is read.
-fn run_entries<E: Entry, R: Wait + time::Clock>(
+fn run_entries<R: Wait + time::Clock>(
     rt: &HostRuntime,
     handle: &R,
     path: &str,
-    text: &str,
+    lines: &[Line<'_>],
     report: &mut Report,
+    found: &mut Finding,
 ) -> Result<(), Stopped> {
-    match read_entries::<E>(rt.alloc(), text) {
-        Ok(entries) => run_each(rt, handle, path, &entries, report),
-        Err(malformed) => Err(stop_at(rt, path, malformed)),
+    match entries_of(rt.alloc(), path.ends_with(".rows"), lines, found) {
+        Ok(entries) => run_each(rt, handle, path, &entries, report, found),
+        Err(flaw) => Err(stop_at(rt, path, found, flaw)),
     }
 }
 
-fn run_each<E: Entry, R: Wait + time::Clock>(
+fn run_each<R: Wait + time::Clock>(
     rt: &HostRuntime,
     handle: &R,
     path: &str,
-    entries: &[E],
+    entries: &[Entry<'_>],
     report: &mut Report,
+    found: &mut Finding,
 ) -> Result<(), Stopped> {
     for entry in entries {
-        run_entry(rt, handle, path, entry, report)?;
+        run_entry(rt, handle, path, *entry, report, found)?;
     }
     Ok(())
 }
 
 // Runs a case or a table, and prints its line.
-fn run_entry<E: Entry, R: Wait + time::Clock>(
+fn run_entry<R: Wait + time::Clock>(
     rt: &HostRuntime,
     handle: &R,
     path: &str,
-    entry: &E,
+    entry: Entry<'_>,
     report: &mut Report,
+    found: &mut Finding,
 ) -> Result<(), Stopped> {
-    match entry.difference(handle, rt.alloc()) {
-        Ok(difference) => {
-            report.add(E::first_word() == "table", difference.is_some());
-            print_line(
-                rt,
-                path,
-                entry.name(),
-                difference.as_deref().unwrap_or("ok"),
-            )
+    match outcome(handle, rt.alloc(), entry, found) {
+        Ok(()) => {
+            report.add(entry.is_table, false);
+            print_line(rt, path, entry.name(), "ok")
         }
-        Err(malformed) => Err(stop_at(rt, path, malformed)),
+        Err(Flaw::Differs) => {
+            report.add(entry.is_table, true);
+            print_line(rt, path, entry.name(), &found.told)
+        }
+        Err(flaw) => Err(stop_at(rt, path, found, flaw)),
+    }
+}
+
+fn outcome<R: Wait + time::Clock>(
+    handle: &R,
+    alloc: Global,
+    entry: Entry<'_>,
+    found: &mut Finding,
+) -> Result<(), Flaw> {
+    if entry.is_table {
+        let table = Table::read(alloc, entry, found)?;
+        run_table(handle, alloc, &table, found)
+    } else {
+        let case = Case::read(alloc, entry, found)?;
+        run_case(alloc, &case, found)
+    }
+}
+
+fn run_case(alloc: Global, case: &Case<'_>, found: &mut Finding) -> Result<(), Flaw> {
+    if case.is_script() {
+        run_script_case(alloc, case, found)
+    } else {
+        run_replay_case(alloc, case, found)
     }
 }
 
@@ -169,8 +202,8 @@ fn count(rt: &HostRuntime, report: &Report) -> Result<(), Stopped> {
 }
 
 // Says where a file is malformed.
-fn stop_at(rt: &HostRuntime, path: &str, malformed: Malformed) -> Stopped {
-    let (line, reason) = (malformed.line, malformed.flaw.as_str());
+fn stop_at(rt: &HostRuntime, path: &str, found: &Finding, flaw: Flaw) -> Stopped {
+    let (line, reason) = (found.line, flaw.as_str());
     let _ = eprintln!(rt; "{path}:{line}: {reason}");
     Stopped
 }

@@ -31,16 +31,17 @@
 //! | `size` | `size N` |
 //! | any | the fault's text |
 
-use crate::elements::{element_text, first_draft, later_draft};
+use crate::elements::draft_of;
+use crate::finding::Finding;
 use crate::flaw::Flaw;
 use crate::form::Form;
-use crate::malformed::{Malformed, at_line};
+use crate::line::Line;
 use crate::numbers::number;
-use crate::row::Line;
-use crate::subject::{FromSetUp, Subject, words_in};
+use crate::subject::{Command, FromSetUp, Subject};
+use crate::table::Table;
 use crate::text::Text;
-use rb_delayed::Element;
-use rb_kept::{Kept, NewFault, Outcome, Step, Try};
+use crate::told::Told;
+use rb_kept::{Kept, Outcome, Step, Try};
 use rb_ledger::Tally;
 use rb_queue::{Ask, Audit, Event, Items, Opening, Reply};
 use rb_replay::{MOST_EVENTS, write_history};
@@ -67,10 +68,11 @@ struct Run<T: Timer> {
 }
 
 impl<T: Timer> FromSetUp for QueueSubject<T> {
-    fn begin(alloc: Global, set_up: &[Line]) -> Result<Self, Malformed> {
+    fn begin(alloc: Global, table: &Table<'_>, found: &mut Finding) -> Result<Self, Flaw> {
         let mut from = Text::new(alloc);
-        for line in set_up {
-            at_line(line.number, take_from(&mut from, &line.text))?;
+        for line in table.set_up {
+            found.line = line.number;
+            take_from(&mut from, *line)?;
         }
         Ok(QueueSubject {
             from,
@@ -80,136 +82,128 @@ impl<T: Timer> FromSetUp for QueueSubject<T> {
     }
 }
 
-impl<T: Timer> Subject for QueueSubject<T> {
-    fn answer(&mut self, alloc: Global, command: &[u8]) -> Result<String, Flaw> {
-        let words = words_in(alloc, command)?;
-        self.answer_to(alloc, &words)
-    }
-}
-
-// Takes a line of the history that the opening continues.
-fn take_from(from: &mut Text, line: &str) -> Result<(), Flaw> {
-    let (word, rest) = line.split_once(' ').unwrap_or((line, ""));
+// Takes a line of the set-up.
+fn take_from(from: &mut Text, line: Line<'_>) -> Result<(), Flaw> {
+    let (word, rest) = line.cut();
     match Form::split(word)? {
         ("from", form) => from.push(form, rest),
+        ("over", _) => Ok(()),
         _ => Err(Flaw::SetUp),
     }
 }
 
-fn opening_of(alloc: Global, from: &Text) -> Result<Opening, Flaw> {
-    if !from.is_given {
-        return Ok(Opening::empty(alloc));
-    }
-    opening_in(alloc, &from.bytes).map_err(|_| Flaw::Opening)
-}
-
-impl<T: Timer> QueueSubject<T> {
-    fn answer_to(&mut self, alloc: Global, words: &[&str]) -> Result<String, Flaw> {
-        match *words {
-            ["begin", capacity] => self.begin_run(alloc, capacity),
-            _ => self.answer_in_run(alloc, words),
+impl<T: Timer> Subject for QueueSubject<T> {
+    fn answer(&mut self, alloc: Global, command: Command<'_>, came: &mut Told) -> Result<(), Flaw> {
+        if let ["begin", capacity] = *command.words {
+            return self.begin_run(alloc, number(capacity)? as u64, came);
         }
-    }
-
-    fn answer_in_run(&mut self, alloc: Global, words: &[&str]) -> Result<String, Flaw> {
         match &mut self.run {
-            Some(run) => run.answer(alloc, words),
+            Some(run) => run.answer(alloc, command.words, came),
             None => Err(Flaw::Early),
         }
     }
+}
 
-    fn begin_run(&mut self, alloc: Global, capacity: &str) -> Result<String, Flaw> {
-        let capacity = number(capacity)? as u64;
+impl<T: Timer> QueueSubject<T> {
+    fn begin_run(&mut self, alloc: Global, capacity: u64, came: &mut Told) -> Result<(), Flaw> {
         let opening = self.next_opening(alloc)?;
-        match begun(alloc, capacity, opening) {
-            Ok(run) => {
-                self.run = Some(run);
-                "begun".to_string(alloc).map_err(Flaw::from)
+        match Kept::new_from(alloc, capacity, opening) {
+            Ok((kept, share)) => {
+                self.run = Some(Run {
+                    kept,
+                    share,
+                    other_share: None,
+                    given: Items::new(Vec::new(alloc)),
+                });
+                came.word("begun")
             }
             Err((opening, fault)) => {
                 self.handed_back = Some(opening);
-                fault.to_string(alloc).map_err(Flaw::from)
+                came.value(fault)
             }
         }
     }
 
     fn next_opening(&mut self, alloc: Global) -> Result<Opening, Flaw> {
-        match self.handed_back.take() {
-            Some(opening) => Ok(opening),
-            None => opening_of(alloc, &self.from),
+        if let Some(opening) = self.handed_back.take() {
+            return Ok(opening);
+        }
+        if !self.from.is_given {
+            return Ok(Opening::empty(alloc));
+        }
+        match opening_in(alloc, &self.from.bytes) {
+            Ok(opening) => Ok(opening),
+            Err(_) => Err(Flaw::Opening),
         }
     }
-}
-
-fn begun<T: Timer>(
-    alloc: Global,
-    capacity: u64,
-    opening: Opening,
-) -> Result<Run<T>, (Opening, NewFault)> {
-    let (kept, share) = Kept::new_from(alloc, capacity, opening)?;
-    Ok(Run {
-        kept,
-        share,
-        other_share: None,
-        given: Items::new(Vec::new(alloc)),
-    })
 }
 
 impl<T: Timer> Run<T> {
-    fn answer(&mut self, alloc: Global, words: &[&str]) -> Result<String, Flaw> {
+    fn answer(&mut self, alloc: Global, words: &[&str], came: &mut Told) -> Result<(), Flaw> {
         match *words {
-            [word] => self.answer_word(alloc, word),
-            ["no", "try"] => self.make_no_try(alloc),
-            ["other", "share"] => self.other_share_text(alloc),
-            ["line", line] => self.line_text(alloc, line),
-            ["given", place] => given_text(alloc, &self.given, place),
-            [seat, asked, ..] => self.make_try(alloc, seat, asked, words),
+            ["audit"] => tell_audit(came, self.kept.audit()),
+            ["share"] => tell_share(came, &self.share),
+            ["other", "share"] => match &self.other_share {
+                Some(other) => tell_share(came, other),
+                None => Err(Flaw::Early),
+            },
+            ["split"] => {
+                self.other_share = Some(self.share.split());
+                came.word("split")
+            }
+            ["join"] => self.join(came),
+            ["capacity"] => came.number(self.kept.capacity()),
+            ["events"] => came.number(self.kept.history().len() as u64),
+            ["last"] => self.tell_last(alloc, came),
+            ["line", line] => {
+                let before = number(line)?.saturating_sub(1);
+                self.tell_line(alloc, self.kept.history(), before, came)
+            }
+            ["given", place] => tell_given(came, &self.given, place),
+            ["no", "try"] => {
+                let steps = self.kept.run_tries(&mut self.share, Vec::new(alloc))?;
+                came.number(steps.len() as u64)
+            }
+            [seat, asked, ..] => {
+                let one = Try {
+                    seat: number(seat)? as u64,
+                    asked: number(asked)? as u64,
+                    ask: ask_of(words.get(2..).unwrap_or(&[]))?,
+                };
+                self.make(alloc, one, came)
+            }
             _ => Err(Flaw::Command),
         }
     }
 
-    fn answer_word(&mut self, alloc: Global, word: &str) -> Result<String, Flaw> {
-        match word {
-            "audit" => audit_text(alloc, self.kept.audit()).map_err(Flaw::from),
-            "share" => share_text(alloc, &self.share).map_err(Flaw::from),
-            "split" => self.split(alloc),
-            "join" => self.join(alloc),
-            "capacity" => self.kept.capacity().to_string(alloc).map_err(Flaw::from),
-            "events" => self
-                .kept
-                .history()
-                .len()
-                .to_string(alloc)
-                .map_err(Flaw::from),
-            "last" => last_text(alloc, self.kept.opening(), self.kept.history()),
-            _ => Err(Flaw::Command),
+    fn join(&mut self, came: &mut Told) -> Result<(), Flaw> {
+        match self.other_share.take() {
+            Some(other) => {
+                self.share.join(other);
+                came.word("joined")
+            }
+            None => Err(Flaw::Early),
         }
     }
 
-    fn make_no_try(&mut self, alloc: Global) -> Result<String, Flaw> {
-        let steps = self.kept.run_tries(&mut self.share, Vec::new(alloc))?;
-        Ok(steps.len().to_string(alloc)?)
-    }
-
-    fn make_try(
-        &mut self,
-        alloc: Global,
-        seat: &str,
-        asked: &str,
-        words: &[&str],
-    ) -> Result<String, Flaw> {
-        let one = try_of(seat, asked, words)?;
-        match self.step_of(alloc, one)? {
-            Some(step) => self.step_text(alloc, step),
-            None => Err(Flaw::Memory),
-        }
-    }
-
-    // Runs one try alone. Returns its step.
-    fn step_of(&mut self, alloc: Global, one: Try) -> Result<Option<Step>, AllocError> {
+    // Makes one try, and tells its step.
+    fn make(&mut self, alloc: Global, one: Try, came: &mut Told) -> Result<(), Flaw> {
         let is_other = one.seat > 0;
         let mut steps = self.run_try(is_other, vec![in alloc; one]?)?;
-        Ok(steps.pop())
+        match steps.pop() {
+            Some(Ok(Outcome::Done(Reply::Drained(items)))) => {
+                came.named("drained", items.as_slice().len() as u64)?;
+                self.given = items;
+                Ok(())
+            }
+            Some(Ok(Outcome::Done(reply))) => tell_reply(came, &reply),
+            Some(Ok(Outcome::Later(next))) => {
+                came.word("later")?;
+                came.moment(next)
+            }
+            Some(Err(fault)) => came.value(fault),
+            None => Err(Flaw::Memory),
+        }
     }
 
     // Runs the tries, and counts them in the other share if there is one and `is_other` says so.
@@ -226,156 +220,83 @@ impl<T: Timer> Run<T> {
         steps
     }
 
-    fn step_text(&mut self, alloc: Global, step: Step) -> Result<String, Flaw> {
-        match step {
-            Ok(Outcome::Done(Reply::Drained(items))) => self.keep(alloc, items),
-            Ok(Outcome::Done(reply)) => reply_text(alloc, &reply).map_err(Flaw::from),
-            Ok(Outcome::Later(next)) => later_text(alloc, next).map_err(Flaw::from),
-            Err(fault) => fault.to_string(alloc).map_err(Flaw::from),
+    // Tells the line of the last event, or `none`. In the written text two lines and those of the
+    // opening's elements come before it.
+    fn tell_last(&self, alloc: Global, came: &mut Told) -> Result<(), Flaw> {
+        let history = self.kept.history();
+        let last = history
+            .get(history.len().saturating_sub(1)..)
+            .unwrap_or(&[]);
+        let elements = self.kept.opening().elements.as_slice().len();
+        self.tell_line(alloc, last, elements.saturating_add(2), came)
+    }
+
+    // Tells the line that has `before` lines before it in the text of these events, or `none`.
+    fn tell_line(
+        &self,
+        alloc: Global,
+        events: &[Event],
+        before: usize,
+        came: &mut Told,
+    ) -> Result<(), Flaw> {
+        if events.len() > MOST_EVENTS {
+            return Err(Flaw::Memory);
         }
-    }
-
-    fn keep(&mut self, alloc: Global, items: Items) -> Result<String, Flaw> {
-        let count = items.as_slice().len();
-        self.given = items;
-        format!(in alloc; "drained {count}").map_err(Flaw::from)
-    }
-
-    fn split(&mut self, alloc: Global) -> Result<String, Flaw> {
-        self.other_share = Some(self.share.split());
-        "split".to_string(alloc).map_err(Flaw::from)
-    }
-
-    fn other_share_text(&self, alloc: Global) -> Result<String, Flaw> {
-        match &self.other_share {
-            Some(other) => share_text(alloc, other).map_err(Flaw::from),
-            None => Err(Flaw::Early),
-        }
-    }
-
-    fn join(&mut self, alloc: Global) -> Result<String, Flaw> {
-        let Some(other) = self.other_share.take() else {
-            return Err(Flaw::Early);
+        let mut text = Vec::new(alloc);
+        let Ok(()) = write_history(alloc, self.kept.opening(), events, &mut text) else {
+            return Err(Flaw::Memory);
         };
-        self.share.join(other);
-        "joined".to_string(alloc).map_err(Flaw::from)
+        let text = str::from_utf8(&text).unwrap_or_default();
+        came.word(text.lines().nth(before).unwrap_or("none"))
     }
-
-    fn line_text(&self, alloc: Global, line: &str) -> Result<String, Flaw> {
-        let line = number(line)?;
-        let text = history_text(alloc, self.kept.opening(), self.kept.history())?;
-        line_in(alloc, &text, line.saturating_sub(1)).map_err(Flaw::from)
-    }
-}
-
-fn try_of(seat: &str, asked: &str, words: &[&str]) -> Result<Try, Flaw> {
-    Ok(Try {
-        seat: number(seat)? as u64,
-        asked: number(asked)? as u64,
-        ask: ask_of(words.get(2..).unwrap_or(&[]))?,
-    })
 }
 
 /// Returns the ask that `words` spell.
 pub fn ask_of(words: &[&str]) -> Result<Ask, Flaw> {
     match *words {
-        [word] => ask_alone(word),
+        ["poll"] => Ok(Ask::Poll),
+        ["take"] => Ok(Ask::Take),
+        ["peek"] => Ok(Ask::Peek),
+        ["clear"] => Ok(Ask::Clear),
+        ["size"] => Ok(Ask::Size),
         ["remove", id] => Ok(Ask::Remove(number(id)? as u64)),
         ["drain", max] => Ok(Ask::Drain(number(max)? as u64)),
-        ["pollfor", start, timeout] => timed_poll(start, timeout),
-        ["offer", expiry, payload] => Ok(Ask::Offer(first_draft(expiry, payload)?)),
-        ["offer", ..] => Ok(Ask::Offer(later_draft(words.get(1..).unwrap_or(&[]))?)),
+        ["pollfor", start, timeout] => Ok(Ask::PollFor {
+            start: number(start)? as u64,
+            timeout: number(timeout)? as u64,
+        }),
+        ["offer", ..] => Ok(Ask::Offer(draft_of(words.get(1..).unwrap_or(&[]))?)),
         _ => Err(Flaw::Command),
     }
 }
 
-fn ask_alone(word: &str) -> Result<Ask, Flaw> {
-    match word {
-        "poll" => Ok(Ask::Poll),
-        "take" => Ok(Ask::Take),
-        "peek" => Ok(Ask::Peek),
-        "clear" => Ok(Ask::Clear),
-        "size" => Ok(Ask::Size),
-        _ => Err(Flaw::Command),
-    }
-}
-
-fn timed_poll(start: &str, timeout: &str) -> Result<Ask, Flaw> {
-    Ok(Ask::PollFor {
-        start: number(start)? as u64,
-        timeout: number(timeout)? as u64,
-    })
-}
-
-fn later_text(alloc: Global, next: Option<u64>) -> Result<String, AllocError> {
-    match next {
-        Some(next) => format!(in alloc; "later {next}"),
-        None => "later none".to_string(alloc),
-    }
-}
-
-/// Returns the text of a reply to any ask but a drain.
-pub fn reply_text(alloc: Global, reply: &Reply) -> Result<String, AllocError> {
+/// Tells a reply to any ask but a drain.
+pub fn tell_reply(came: &mut Told, reply: &Reply) -> Result<(), Flaw> {
     match reply {
-        Reply::Offered(element) => element_text(alloc, "offered ", element),
-        Reply::Item(element) => element_text(alloc, "item ", element),
-        Reply::Head(element) => element_text(alloc, "head ", element),
-        Reply::Removed(true) => "removed yes".to_string(alloc),
-        Reply::Removed(false) => "removed no".to_string(alloc),
-        Reply::Cleared => "cleared".to_string(alloc),
-        Reply::Size(size) => format!(in alloc; "size {size}"),
-        Reply::Nothing | Reply::Drained(_) => "nothing".to_string(alloc),
+        Reply::Offered(element) => came.item("offered", element),
+        Reply::Item(element) => came.item("item", element),
+        Reply::Head(element) => came.item("head", element),
+        Reply::Removed(true) => came.word("removed yes"),
+        Reply::Removed(false) => came.word("removed no"),
+        Reply::Cleared => came.word("cleared"),
+        Reply::Size(size) => came.named("size", *size),
+        Reply::Nothing | Reply::Drained(_) => came.word("nothing"),
     }
 }
 
-/// Returns the text of the element at `place`, counted from 0, among those that a drain gave, or
-/// `none`.
-pub fn given_text(alloc: Global, given: &Items, place: &str) -> Result<String, Flaw> {
+/// Tells the element at `place`, counted from 0, among those that a drain gave, or `none`.
+pub fn tell_given(came: &mut Told, given: &Items, place: &str) -> Result<(), Flaw> {
     match given.as_slice().get(number(place)?) {
-        Some(element) => element_text(alloc, "", element).map_err(Flaw::from),
-        None => "none".to_string(alloc).map_err(Flaw::from),
+        Some(element) => came.element(element),
+        None => came.word("none"),
     }
 }
 
-fn audit_text(alloc: Global, audit: Audit) -> Result<String, AllocError> {
-    let (calls, offered, given) = (audit.calls, audit.offered, audit.given);
-    let (removed, cleared) = (audit.removed, audit.cleared);
-    let (left, opening) = (audit.left, audit.opening);
-    format!(in alloc; "{calls} {offered} {given} {removed} {cleared} {left} {opening}")
+fn tell_audit(came: &mut Told, audit: Audit) -> Result<(), Flaw> {
+    came.numbers(&[audit.calls, audit.offered, audit.given, audit.removed])?;
+    came.numbers(&[audit.cleared, audit.left, audit.opening])
 }
 
-fn share_text(alloc: Global, tally: &Tally) -> Result<String, AllocError> {
-    let (calls, offered, given) = (tally.calls(), tally.offered(), tally.given());
-    format!(in alloc; "{calls} {offered} {given}")
-}
-
-// Returns the line of the last event, or `none`. In the written text two lines and those of the
-// opening's elements come before it.
-fn last_text(alloc: Global, opening: &Opening, history: &[Event]) -> Result<String, Flaw> {
-    let last = history
-        .get(history.len().saturating_sub(1)..)
-        .unwrap_or(&[]);
-    if last.is_empty() {
-        return "none".to_string(alloc).map_err(Flaw::from);
-    }
-    let text = history_text(alloc, opening, last)?;
-    let before = opening.elements.as_slice().len().saturating_add(2);
-    line_in(alloc, &text, before).map_err(Flaw::from)
-}
-
-fn history_text(alloc: Global, opening: &Opening, history: &[Event]) -> Result<Vec<u8>, Flaw> {
-    let mut written = Vec::new(alloc);
-    if history.len() > MOST_EVENTS {
-        return Err(Flaw::Memory);
-    }
-    match write_history(alloc, opening, history, &mut written) {
-        Ok(()) => Ok(written),
-        Err(_) => Err(Flaw::Memory),
-    }
-}
-
-// Returns line `number`, counted from 0, without its end, or `none` if there is no such line.
-fn line_in(alloc: Global, text: &[u8], number: usize) -> Result<String, AllocError> {
-    let text = str::from_utf8(text).unwrap_or_default();
-    text.lines().nth(number).unwrap_or("none").to_string(alloc)
+fn tell_share(came: &mut Told, share: &Tally) -> Result<(), Flaw> {
+    came.numbers(&[share.calls(), share.offered(), share.given()])
 }

@@ -4,82 +4,108 @@
 //! with `case` or `table` begins an entry, and the lines up to the next one belong to it. No two entries
 //! of a file have the same name.
 
+use crate::case::Case;
 use crate::entry::Entry;
+use crate::finding::Finding;
 use crate::flaw::Flaw;
-use crate::malformed::{Malformed, at_line};
-use std::alloc::Global;
+use crate::line::Line;
+use crate::table::Table;
+use std::alloc::{AllocError, Global};
 
-/// The entries of a file so far. The last one may still get lines.
-#[derive(Drop)]
-pub struct Reader<E: Entry> {
+/// Returns the lines of a file that are not comments, without the spaces around them in a file of tables. The finding
+/// is then at the last line of the file.
+pub fn lines_of<'a>(
     alloc: Global,
-    entries: Vec<E>,
-}
-
-/// Returns the entries of a file's text. There is at least one.
-pub fn read_entries<E: Entry>(alloc: Global, text: &str) -> Result<Vec<E>, Malformed> {
-    let mut reader = Reader::new(alloc);
+    is_table: bool,
+    text: &'a str,
+    found: &mut Finding,
+) -> Result<Vec<Line<'a>>, AllocError> {
+    let mut lines = Vec::new(alloc);
     let mut number = 0_usize;
     for line in text.lines() {
         number = number.saturating_add(1);
-        reader.take(number, line)?;
+        found.line = number;
+        if !line.trim().is_empty() && !line.starts_with('#') {
+            let text = if is_table { line.trim() } else { line };
+            lines.push(Line { number, text })?;
+        }
     }
-    reader.end(number)
+    Ok(lines)
 }
 
-impl<E: Entry> Reader<E> {
-    fn new(alloc: Global) -> Self {
-        Reader {
-            alloc,
-            entries: Vec::new(alloc),
+/// Returns the entries of a file, tables or cases. There is at least one, and each is as it must be.
+pub fn entries_of<'a>(
+    alloc: Global,
+    is_table: bool,
+    lines: &'a [Line<'a>],
+    found: &mut Finding,
+) -> Result<Vec<Entry<'a>>, Flaw> {
+    check_first(is_table, lines, found)?;
+    let mut entries = Vec::new(alloc);
+    for (place, line) in lines.iter().enumerate() {
+        if begins(is_table, *line) {
+            let entry = Entry {
+                is_table,
+                line: line.number,
+                head: line.cut().1,
+                lines: up_to_next(
+                    is_table,
+                    lines.get(place.saturating_add(1)..).unwrap_or(&[]),
+                ),
+            };
+            check(alloc, entry, &entries, found)?;
+            entries.push(entry)?;
         }
     }
+    Ok(entries)
+}
 
-    // Takes line `number` of the file.
-    fn take(&mut self, number: usize, line: &str) -> Result<(), Malformed> {
-        if line.trim().is_empty() || line.starts_with('#') {
-            return Ok(());
-        }
-        let (word, rest) = line.split_once(' ').unwrap_or((line, ""));
-        if word == E::first_word() {
-            self.check_last()?;
-            return at_line(number, self.begin(number, rest));
-        }
-        at_line(number, self.add(number, line))
+fn begins(is_table: bool, line: Line<'_>) -> bool {
+    line.cut().0 == if is_table { "table" } else { "case" }
+}
+
+// Checks that the first line begins an entry.
+fn check_first(is_table: bool, lines: &[Line<'_>], found: &mut Finding) -> Result<(), Flaw> {
+    let Some(line) = lines.first() else {
+        return Err(Flaw::NoEntry);
+    };
+    found.line = line.number;
+    if begins(is_table, *line) {
+        Ok(())
+    } else {
+        Err(Flaw::NoEntry)
     }
+}
 
-    fn begin(&mut self, number: usize, rest: &str) -> Result<(), Flaw> {
-        let entry = E::begin(self.alloc, number, rest)?;
-        if self.has_name(entry.name()) {
+fn up_to_next<'a>(is_table: bool, lines: &'a [Line<'a>]) -> &'a [Line<'a>] {
+    for (length, line) in lines.iter().enumerate() {
+        if begins(is_table, *line) {
+            return lines.get(..length).unwrap_or(lines);
+        }
+    }
+    lines
+}
+
+// Checks an entry that comes behind `earlier`.
+fn check(
+    alloc: Global,
+    entry: Entry<'_>,
+    earlier: &[Entry<'_>],
+    found: &mut Finding,
+) -> Result<(), Flaw> {
+    found.line = entry.line;
+    if entry.name().trim().is_empty() {
+        return Err(Flaw::Name);
+    }
+    for other in earlier {
+        if other.name() == entry.name() {
             return Err(Flaw::SameName);
         }
-        Ok(self.entries.push(entry)?)
     }
-
-    fn has_name(&self, name: &str) -> bool {
-        self.entries.iter().any(|entry| entry.name() == name)
+    if entry.is_table {
+        Table::read(alloc, entry, found)?;
+    } else {
+        Case::read(alloc, entry, found)?;
     }
-
-    fn add(&mut self, number: usize, line: &str) -> Result<(), Flaw> {
-        match self.entries.last_mut() {
-            Some(entry) => entry.take(self.alloc, number, line),
-            None => Err(Flaw::NoEntry),
-        }
-    }
-
-    // Checks the last entry, if there is one. It gets no more lines.
-    fn check_last(&self) -> Result<(), Malformed> {
-        match self.entries.last() {
-            Some(entry) => at_line(entry.line(), entry.check()),
-            None => Ok(()),
-        }
-    }
-
-    fn end(self, number: usize) -> Result<Vec<E>, Malformed> {
-        self.check_last()?;
-        if self.entries.is_empty() {
-            return at_line(number.max(1), Err(Flaw::NoEntry));
-        }
-        Ok(self.entries)
-    }
+    Ok(())
 }

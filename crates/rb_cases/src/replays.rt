@@ -1,66 +1,49 @@
 use crate::case::Case;
-use crate::differences::of_texts;
-use rb_arguments::{Words, read_words};
+use crate::differences::compare_texts;
+use crate::finding::Finding;
+use crate::flaw::Flaw;
+use rb_arguments::Words;
 use rb_options::ReplayOptions;
 use rb_runs::run_replay;
 use std::alloc::{AllocError, Global};
 
-/// Replays the history of a case. Returns a text about what differs from the case, if anything
-/// does.
-pub fn replay_difference(alloc: Global, case: &Case) -> Result<Option<String>, AllocError> {
-    match options_of(alloc, case)? {
-        Some(options) => by_options(alloc, case, &options),
-        None => "the words of `args` are refused".to_string(alloc).map(Some),
+/// Replays the history of a case, and tells what differs from the case.
+pub fn run_replay_case(alloc: Global, case: &Case<'_>, found: &mut Finding) -> Result<(), Flaw> {
+    let told = &mut found.told;
+    told.clear();
+    let Some(options) = options_of(alloc, case)? else {
+        told.push_str("the words of `args` are refused")?;
+        return Err(Flaw::Differs);
+    };
+    match run_replay(alloc, &options, &case.history.bytes) {
+        Ok((line, status)) => compare(alloc, case, &line, status, told),
+        Err(fault) => {
+            write!(told, "ends by a fault: {fault}")?;
+            Err(Flaw::Differs)
+        }
     }
 }
 
-fn by_options(
+// Compares the line and the status with the case.
+fn compare(
     alloc: Global,
-    case: &Case,
-    options: &ReplayOptions,
-) -> Result<Option<String>, AllocError> {
-    match run_replay(alloc, options, &case.history.bytes) {
-        Ok((line, status)) => compared(alloc, case, &line, status),
-        Err(fault) => format!(in alloc; "ends by a fault: {fault}").map(Some),
-    }
-}
-
-// Returns a text about the first difference, in the line or in the status.
-fn compared(
-    alloc: Global,
-    case: &Case,
+    case: &Case<'_>,
     line: &str,
     status: u8,
-) -> Result<Option<String>, AllocError> {
-    let told = line_of(alloc, case)?;
-    match of_texts(alloc, "verdict", line, &told)? {
-        Some(text) => Ok(Some(text)),
-        None => of_statuses(alloc, status, case.status.unwrap_or(0)),
+    told: &mut String,
+) -> Result<(), Flaw> {
+    let (verdict, wanted) = (case.verdict.unwrap_or(""), case.status.unwrap_or(0));
+    let verdict = format!(in alloc; "{verdict}\n")?;
+    compare_texts(told, "verdict", line, &verdict)?;
+    if status == wanted {
+        return Ok(());
     }
+    write!(told, "status: {status} in place of {wanted}")?;
+    Err(Flaw::Differs)
 }
 
-// Returns the line of the case's verdict, or an empty text if it has none.
-fn line_of(alloc: Global, case: &Case) -> Result<String, AllocError> {
-    match &case.verdict {
-        Some(verdict) => format!(in alloc; "{verdict}\n"),
-        None => Ok(String::new(alloc)),
-    }
-}
-
-fn of_statuses(alloc: Global, came: u8, wanted: u8) -> Result<Option<String>, AllocError> {
-    if came == wanted {
-        return Ok(None);
-    }
-    format!(in alloc; "status: {came} in place of {wanted}").map(Some)
-}
-
-fn options_of(alloc: Global, case: &Case) -> Result<Option<ReplayOptions>, AllocError> {
-    let mut words: Vec<&str> = Vec::new(alloc);
-    words.extend_from_slice(&["rb_broker", "replay", "FILE"])?;
-    for word in case.words() {
-        words.push(word)?;
-    }
-    match read_words(alloc, words.as_slice()) {
+fn options_of(alloc: Global, case: &Case<'_>) -> Result<Option<ReplayOptions>, AllocError> {
+    match case.words(alloc, &["rb_broker", "replay", "FILE"])? {
         Ok(Words::Replay { options, .. }) => Ok(Some(options)),
         _ => Ok(None),
     }

@@ -1,22 +1,11 @@
-/// A line of a table, and its number in the file.
-#[derive(Drop)]
-pub struct Line {
-    pub number: usize,
-    pub text: String,
-}
-
-/// A command, and the answers that are right.
-#[derive(Drop)]
-pub struct Row {
+/// A command that is given, and the answers that are right.
+#[derive(Clone, Copy)]
+pub struct Row<'a> {
+    /// The number of its line.
     pub line: usize,
-    pub command: String,
+    /// The number of the round.
+    pub round: usize,
+    pub command: &'a str,
     /// The right answers, with ` or ` between them if there are several.
-    pub answers: String,
-}
-
-/// Rows that are run one after the other, in `times` rounds.
-#[derive(Drop)]
-pub struct Block {
-    pub times: usize,
-    pub rows: Vec<Row>,
+    pub answers: &'a str,
 }

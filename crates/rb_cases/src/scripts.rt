@@ -1,12 +1,13 @@
 use crate::case::Case;
 use crate::devices::{MOST_CUT, SIZES};
-use crate::differences::{of_bytes, of_texts};
-use crate::outcome::Outcome;
+use crate::differences::{compare_lines, compare_texts};
+use crate::finding::Finding;
+use crate::flaw::Flaw;
 use crate::reads::Reads;
 use crate::sink::Sink;
 use crate::source::Source;
 use crate::timers::{TIMERS, timer_name};
-use rb_arguments::{Words, read_words};
+use rb_arguments::Words;
 use rb_ending::BrokerFault;
 use rb_options::{ScriptOptions, TimerKind};
 use rb_protocol::LimitedReader;
@@ -15,55 +16,50 @@ use rb_runs::{opening_in, run_script_delivered};
 use rb_session::{Delivery, Ended, HandsOn};
 use std::alloc::{AllocError, Global};
 
-/// Returns a text about what differs from the case in the first run that does not come out as it
-/// must, if there is one.
-pub fn script_difference(alloc: Global, case: &Case) -> Result<Option<String>, AllocError> {
+/// Runs a script. It differs if a run does not come out as it must: what is told is then about the first such run.
+pub fn run_script_case(alloc: Global, case: &Case<'_>, found: &mut Finding) -> Result<(), Flaw> {
     for timer in TIMERS {
-        if case.devices.have_timer(timer)
-            && let Some(text) = over_timer(alloc, case, timer)?
-        {
-            return Ok(Some(text));
+        if case.devices.have_timer(timer) {
+            over_timer(alloc, case, timer, &mut found.told)?;
         }
     }
-    Ok(None)
+    Ok(())
 }
 
 // Runs the script over a timer, with reads of each size and cut in two at each place.
-fn over_timer(alloc: Global, case: &Case, timer: TimerKind) -> Result<Option<String>, AllocError> {
-    match options_of(alloc, case, timer)? {
-        Some(options) => by_options(alloc, case, timer, &options),
-        None => "the words of `args` are refused".to_string(alloc).map(Some),
-    }
-}
-
-fn by_options(
+fn over_timer(
     alloc: Global,
-    case: &Case,
+    case: &Case<'_>,
     timer: TimerKind,
-    options: &ScriptOptions,
-) -> Result<Option<String>, AllocError> {
-    let by_sizes = by_sizes(alloc, case, timer, options)?;
-    if by_sizes.is_none() && case.devices.have_any_size() && case.input.bytes.len() <= MOST_CUT {
-        return by_cuts(alloc, case, timer, options);
+    told: &mut String,
+) -> Result<(), Flaw> {
+    let Some(options) = options_of(alloc, case, timer)? else {
+        told.clear();
+        told.push_str("the words of `args` are refused")?;
+        return Err(Flaw::Differs);
+    };
+    by_sizes(alloc, case, &options, told)?;
+    if case.devices.have_any_size() && case.input.bytes.len() <= MOST_CUT {
+        by_cuts(alloc, case, &options, told)?;
     }
-    Ok(by_sizes)
+    Ok(())
 }
 
 fn by_sizes(
     alloc: Global,
-    case: &Case,
-    timer: TimerKind,
+    case: &Case<'_>,
     options: &ScriptOptions,
-) -> Result<Option<String>, AllocError> {
+    told: &mut String,
+) -> Result<(), Flaw> {
     for size in SIZES {
-        if case.devices.have_size(size)
-            && let Some(text) = by_reads(alloc, case, options, Reads::of_size(size))?
-        {
-            let (timer, reads) = (timer_name(timer), size_name(size));
-            return format!(in alloc; "over {timer}, reads {reads}: {text}").map(Some);
+        if case.devices.have_size(size) {
+            let (timer, reads) = (timer_name(options.timer), size_name(size));
+            told.clear();
+            write!(told, "over {timer}, reads {reads}: ")?;
+            run(alloc, case, options, Reads::of_size(size), told)?;
         }
     }
-    Ok(None)
+    Ok(())
 }
 
 fn size_name(size: usize) -> &'static str {
@@ -76,82 +72,78 @@ fn size_name(size: usize) -> &'static str {
 
 fn by_cuts(
     alloc: Global,
-    case: &Case,
-    timer: TimerKind,
+    case: &Case<'_>,
     options: &ScriptOptions,
-) -> Result<Option<String>, AllocError> {
+    told: &mut String,
+) -> Result<(), Flaw> {
     for first in 1..case.input.bytes.len() {
-        if let Some(text) = by_reads(alloc, case, options, Reads::cut_behind(first))? {
-            let timer = timer_name(timer);
-            return format!(in alloc; "over {timer}, cut behind byte {first}: {text}").map(Some);
-        }
+        let timer = timer_name(options.timer);
+        told.clear();
+        write!(told, "over {timer}, cut behind byte {first}: ")?;
+        run(alloc, case, options, Reads::cut_behind(first), told)?;
     }
-    Ok(None)
-}
-
-fn by_reads(
-    alloc: Global,
-    case: &Case,
-    options: &ScriptOptions,
-    reads: Reads,
-) -> Result<Option<String>, AllocError> {
-    let outcome = run(alloc, case, options, reads)?;
-    compared(alloc, case, &outcome)
-}
-
-// Returns a text about the first difference, in the replies, the end or the history.
-fn compared(alloc: Global, case: &Case, outcome: &Outcome) -> Result<Option<String>, AllocError> {
-    if let Some(text) = of_bytes(alloc, "replies", &outcome.replies, &case.replies.bytes)? {
-        return Ok(Some(text));
-    }
-    if let Some(ends) = &case.ends
-        && let Some(text) = of_texts(alloc, "ends", &outcome.ends, ends)?
-    {
-        return Ok(Some(text));
-    }
-    match &outcome.history {
-        Some(history) => of_bytes(alloc, "history", history, &case.history.bytes),
-        None => Ok(None),
-    }
+    Ok(())
 }
 
 // Runs the script with `options`, which choose the timer, and with `reads`.
 fn run(
     alloc: Global,
-    case: &Case,
+    case: &Case<'_>,
     options: &ScriptOptions,
     reads: Reads,
-) -> Result<Outcome, AllocError> {
-    let devices = &case.devices;
-    let mut reader = source_of(case, reads);
-    let mut writer = Sink::new(alloc, devices.writer_fails, devices.writer_takes);
+    told: &mut String,
+) -> Result<(), Flaw> {
+    let mut writer = Sink::new(alloc, case.devices.writer_fails, case.devices.writer_takes);
     let mut recorder = recorder_of(alloc, case);
-    let ended = ended(
-        alloc,
-        case,
-        options,
-        &mut reader,
-        &mut writer,
-        recorder.as_mut(),
-    );
-    Ok(Outcome {
-        ends: text_of(alloc, ended)?,
-        replies: writer.bytes,
-        history: recorder.map(|recorder| recorder.bytes),
-    })
+    let ended = ended(alloc, case, options, reads, &mut writer, recorder.as_mut());
+    compare(alloc, case, ended, &writer, recorder.as_ref(), told)
+}
+
+// Compares a run with the case: the replies, the end and the history.
+fn compare(
+    alloc: Global,
+    case: &Case<'_>,
+    ended: Result<Ended, BrokerFault>,
+    writer: &Sink,
+    recorder: Option<&Sink>,
+    told: &mut String,
+) -> Result<(), Flaw> {
+    compare_lines(alloc, told, "replies", &writer.bytes, &case.replies.bytes)?;
+    compare_ends(alloc, case, ended, told)?;
+    match recorder {
+        Some(recorder) => compare_lines(
+            alloc,
+            told,
+            "history",
+            &recorder.bytes,
+            &case.history.bytes,
+        ),
+        None => Ok(()),
+    }
+}
+
+fn compare_ends(
+    alloc: Global,
+    case: &Case<'_>,
+    ended: Result<Ended, BrokerFault>,
+    told: &mut String,
+) -> Result<(), Flaw> {
+    let ends = text_of(alloc, ended)?;
+    compare_texts(told, "ends", &ends, case.ends.unwrap_or(""))
 }
 
 // Runs the script over these devices. Returns how it ended.
 fn ended(
     alloc: Global,
-    case: &Case,
+    case: &Case<'_>,
     options: &ScriptOptions,
-    reader: &mut Source<'_>,
+    reads: Reads,
     writer: &mut Sink,
     recorder: Option<&mut Sink>,
 ) -> Result<Ended, BrokerFault> {
     let opening = opening_of(alloc, case)?;
-    let mut reader = LimitedReader::new(reader);
+    let mut source = source_of(case, reads);
+    let mut reader = LimitedReader::new(&mut source);
     let gathered = Delivery::Gathered(HandsOn::BeforeReads);
     run_script_delivered(
         alloc,
@@ -165,7 +157,7 @@ fn ended(
     .result()
 }
 
-fn source_of(case: &Case, reads: Reads) -> Source<'_> {
+fn source_of<'a>(case: &'a Case<'_>, reads: Reads) -> Source<'a> {
     let devices = &case.devices;
     let input = case.input.bytes.as_slice();
     let rest = match devices.reader_fails {
@@ -176,11 +168,11 @@ fn source_of(case: &Case, reads: Reads) -> Source<'_> {
         rest,
         reads,
         devices.reader_fails.is_some(),
-        devices.is_interrupted,
+        devices.are_interrupted(),
     )
 }
 
-fn recorder_of(alloc: Global, case: &Case) -> Option<Sink> {
+fn recorder_of(alloc: Global, case: &Case<'_>) -> Option<Sink> {
     if case.history.is_given {
         Some(Sink::new(alloc, case.devices.recorder_fails, None))
     } else {
@@ -188,7 +180,7 @@ fn recorder_of(alloc: Global, case: &Case) -> Option<Sink> {
     }
 }
 
-fn opening_of(alloc: Global, case: &Case) -> Result<Opening, BrokerFault> {
+fn opening_of(alloc: Global, case: &Case<'_>) -> Result<Opening, BrokerFault> {
     if case.from.is_given {
         opening_in(alloc, &case.from.bytes)
     } else {
@@ -198,15 +190,11 @@ fn opening_of(alloc: Global, case: &Case) -> Result<Opening, BrokerFault> {
 
 fn options_of(
     alloc: Global,
-    case: &Case,
+    case: &Case<'_>,
     timer: TimerKind,
 ) -> Result<Option<ScriptOptions>, AllocError> {
-    let mut words: Vec<&str> = Vec::new(alloc);
-    words.extend_from_slice(&["rb_broker", "script", "--timer", timer_name(timer)])?;
-    for word in case.words() {
-        words.push(word)?;
-    }
-    match read_words(alloc, words.as_slice()) {
+    let first = ["rb_broker", "script", "--timer", timer_name(timer)];
+    match case.words(alloc, &first)? {
         Ok(Words::Script { options, .. }) => Ok(Some(options)),
         _ => Ok(None),
     }

@@ -7,7 +7,7 @@
 //! |---|---|
 //! | `COMMAND = ANSWER` | a row: the command must get this answer |
 //! | `COMMAND = ANSWER or ANSWER` | a row: the command must get one of these answers |
-//! | `times N` | begins rows that are all run N times, one round after the other |
+//! | `times N` | begins rows that are all run N times, at least once, one round after the other |
 //! | `end` | ends them |
 //! | `over TIMER` | the table is run over this timer alone: `list`, `heap`, `pairing` or `wheel` |
 //! | any other | set-up of the kind, before the first row |
@@ -27,92 +27,43 @@
 //! | `jobs` | jobs at the desks at which no call waits | `job_subject.rt` |
 
 use crate::entry::Entry;
+use crate::finding::Finding;
 use crate::flaw::Flaw;
 use crate::kind::Kind;
-use crate::malformed::Malformed;
+use crate::line::{Line, cut};
 use crate::numbers::number;
-use crate::row::{Block, Line, Row};
-use crate::tables::table_difference;
+use crate::row::Row;
 use crate::timers::timer_of;
 use rb_options::TimerKind;
 use std::alloc::{AllocError, Global};
-use std::sync::Wait;
-use std::time;
 
 /// Commands of one kind, each with its answer.
 #[derive(Drop)]
-pub struct Table {
+pub struct Table<'a> {
     pub line: usize,
     pub kind: Kind,
-    name: String,
     over: Option<TimerKind>,
-    pub set_up: Vec<Line>,
-    pub blocks: Vec<Block>,
-    // Whether the last block began with `times` and has not ended.
-    is_in_times: bool,
+    /// The lines before the rows. Those of `over` are none of the kind's set-up.
+    pub set_up: &'a [Line<'a>],
+    /// The rows of all rounds, in the order in which they are run.
+    pub rows: Vec<Row<'a>>,
 }
 
-impl Entry for Table {
-    fn first_word() -> &'static str {
-        "table"
-    }
-
-    fn begin(alloc: Global, line: usize, rest: &str) -> Result<Self, Flaw> {
-        let (kind, name) = rest.split_once(' ').unwrap_or((rest, ""));
-        if name.trim().is_empty() {
-            return Err(Flaw::Name);
-        }
-        Ok(Table::new(alloc, line, Kind::of(kind)?, name)?)
-    }
-
-    fn take(&mut self, alloc: Global, number: usize, line: &str) -> Result<(), Flaw> {
-        let line = line.trim();
-        match line.rsplit_once(" = ") {
-            Some((command, answers)) => self.push_row(alloc, number, command, answers),
-            None => self.take_word(alloc, number, line),
-        }
-    }
-
-    fn check(&self) -> Result<(), Flaw> {
-        if self.is_in_times {
-            return Err(Flaw::Times);
-        }
-        if !self.has_row() {
-            return Err(Flaw::NoRow);
-        }
-        Ok(())
-    }
-
-    fn line(&self) -> usize {
-        self.line
-    }
-
-    fn name(&self) -> &str {
-        &self.name
-    }
-
-    fn difference<R: Wait + time::Clock>(
-        &self,
-        rt: &R,
-        alloc: Global,
-    ) -> Result<Option<String>, Malformed> {
-        table_difference(rt, alloc, self)
-    }
-}
-
-impl Table {
-    fn new(alloc: Global, line: usize, kind: Kind, name: &str) -> Result<Table, AllocError> {
-        let mut table = Table {
-            line,
+impl<'a> Table<'a> {
+    /// Returns the table that an entry is.
+    pub fn read(alloc: Global, entry: Entry<'a>, found: &mut Finding) -> Result<Table<'a>, Flaw> {
+        let kind = Kind::of(cut(entry.head).0)?;
+        let (set_up, lines) = parts_of(entry.lines);
+        let over = timer_in(kind, set_up, found)?;
+        let mut rows = Vec::new(alloc);
+        read_rows(&mut rows, entry, lines, found)?;
+        Ok(Table {
+            line: entry.line,
             kind,
-            name: name.to_string(alloc)?,
-            over: None,
-            set_up: Vec::new(alloc),
-            blocks: Vec::new(alloc),
-            is_in_times: false,
-        };
-        table.push_block(alloc, 1)?;
-        Ok(table)
+            over,
+            set_up,
+            rows,
+        })
     }
 
     /// Returns whether the table is run over `timer`.
@@ -122,92 +73,95 @@ impl Table {
             None => true,
         }
     }
+}
 
-    fn push_block(&mut self, alloc: Global, times: usize) -> Result<(), AllocError> {
-        self.blocks.push(Block {
-            times,
-            rows: Vec::new(alloc),
-        })?;
-        Ok(())
-    }
-
-    fn push_row(
-        &mut self,
-        alloc: Global,
-        line: usize,
-        command: &str,
-        answers: &str,
-    ) -> Result<(), Flaw> {
-        let row = Row {
-            line,
-            command: command.to_string(alloc)?,
-            answers: answers.to_string(alloc)?,
-        };
-        match self.blocks.last_mut() {
-            Some(block) => Ok(block.rows.push(row)?),
-            None => Err(Flaw::NoRow),
+// Returns the set-up, and the lines from the first row, `times` or `end` on.
+fn parts_of<'a>(lines: &'a [Line<'a>]) -> (&'a [Line<'a>], &'a [Line<'a>]) {
+    for (place, line) in lines.iter().enumerate() {
+        if line.row().is_some() || matches!(line.cut().0, "times" | "end") {
+            return lines.split_at_checked(place).unwrap_or((lines, &[]));
         }
     }
+    (lines, &[])
+}
 
-    // Takes a line that is not a row.
-    fn take_word(&mut self, alloc: Global, line: usize, text: &str) -> Result<(), Flaw> {
-        let (word, rest) = text.split_once(' ').unwrap_or((text, ""));
-        match word {
-            "times" => self.begin_times(alloc, number(rest)?),
-            "end" => self.end_times(alloc),
-            _ if self.has_row() => Err(Flaw::NoAnswer),
-            "over" => self.set_over(rest),
-            _ => self.push_set_up(alloc, line, text),
+// Returns the timer that a line with `over` names, if there is one. The other lines are those of a kind with set-up.
+fn timer_in(
+    kind: Kind,
+    set_up: &[Line<'_>],
+    found: &mut Finding,
+) -> Result<Option<TimerKind>, Flaw> {
+    let mut over = None;
+    for line in set_up {
+        found.line = line.number;
+        match (kind, line.cut()) {
+            (Kind::Timer | Kind::Queue, ("over", _)) if over.is_some() => return Err(Flaw::Again),
+            (Kind::Timer | Kind::Queue, ("over", timer)) => over = Some(timer_of(timer)?),
+            (Kind::Queue | Kind::Jobs, _) => (),
+            _ => return Err(Flaw::SetUp),
         }
     }
+    Ok(over)
+}
 
-    fn begin_times(&mut self, alloc: Global, times: usize) -> Result<(), Flaw> {
-        if self.is_in_times {
-            return Err(Flaw::Times);
-        }
-        self.is_in_times = true;
-        Ok(self.push_block(alloc, times)?)
-    }
-
-    fn end_times(&mut self, alloc: Global) -> Result<(), Flaw> {
-        if !self.is_in_times {
-            return Err(Flaw::Times);
-        }
-        if !self.has_row_in_last() {
-            return Err(Flaw::NoRow);
-        }
-        self.is_in_times = false;
-        Ok(self.push_block(alloc, 1)?)
-    }
-
-    fn set_over(&mut self, timer: &str) -> Result<(), Flaw> {
-        if !self.kind.has_timer() {
-            return Err(Flaw::SetUp);
-        }
-        if self.over.is_some() {
-            return Err(Flaw::Again);
-        }
-        self.over = Some(timer_of(timer)?);
-        Ok(())
-    }
-
-    fn push_set_up(&mut self, alloc: Global, number: usize, text: &str) -> Result<(), Flaw> {
-        Ok(
-            self.set_up.push(Line {
-                number,
-                text: text.to_string(alloc)?,
-            })?,
-        )
-    }
-
-    fn has_row(&self) -> bool {
-        self.blocks.len() > 1 || self.has_row_in_last()
-    }
-
-    fn has_row_in_last(&self) -> bool {
-        match self.blocks.last() {
-            Some(block) => !block.rows.is_empty(),
-            None => false,
+fn read_rows<'a>(
+    rows: &mut Vec<Row<'a>>,
+    entry: Entry<'a>,
+    lines: &'a [Line<'a>],
+    found: &mut Finding,
+) -> Result<(), Flaw> {
+    // Where the rows behind a `times` without its `end` begin, and how often they are run.
+    let mut repeated = None;
+    for line in lines {
+        found.line = line.number;
+        if let Some((command, answers)) = line.row() {
+            rows.push(Row {
+                line: line.number,
+                round: 0,
+                command,
+                answers,
+            })?;
+        } else {
+            repeated = after_times(rows, *line, repeated)?;
         }
     }
+    found.line = entry.line;
+    match repeated {
+        Some(_) => Err(Flaw::Times),
+        None if rows.is_empty() => Err(Flaw::NoRow),
+        None => Ok(()),
+    }
+}
+
+// Takes a line that is not a row. Returns where the rows behind a `times` begin, and how often they are run, if `times`
+// has begun.
+fn after_times<'a>(
+    rows: &mut Vec<Row<'a>>,
+    line: Line<'a>,
+    repeated: Option<(usize, usize)>,
+) -> Result<Option<(usize, usize)>, Flaw> {
+    match (line.cut(), repeated) {
+        (("times", times), None) => Ok(Some((rows.len(), number(times)?))),
+        (("end", _), Some((first, _))) if first == rows.len() => Err(Flaw::NoRow),
+        (("end", _), Some((first, times))) => {
+            repeat(rows, first, times)?;
+            Ok(None)
+        }
+        (("times" | "end", _), _) => Err(Flaw::Times),
+        _ => Err(Flaw::NoAnswer),
+    }
+}
+
+// Appends the later rounds of the rows from `first` on.
+fn repeat(rows: &mut Vec<Row<'_>>, first: usize, times: usize) -> Result<(), AllocError> {
+    let end = rows.len();
+    for round in 1..times {
+        for place in first..end {
+            if let Some(row) = rows.get(place) {
+                let row = Row { round, ..*row };
+                rows.push(row)?;
+            }
+        }
+    }
+    Ok(())
 }

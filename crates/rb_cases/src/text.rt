@@ -25,13 +25,6 @@ pub struct Text {
     pub is_given: bool,
 }
 
-/// Returns the bytes that the text `told`, on one line, stands for. Its counter is `counter`.
-pub fn bytes_of(alloc: Global, counter: usize, told: &str) -> Result<Vec<u8>, Flaw> {
-    let mut text = Text::new(alloc);
-    text.push_told(counter, told)?;
-    Ok(text.bytes)
-}
-
 impl Text {
     pub fn new(alloc: Global) -> Text {
         Text {
@@ -39,6 +32,12 @@ impl Text {
             bytes: Vec::new(alloc),
             is_given: false,
         }
+    }
+
+    /// Takes the bytes that `told` stands for, in place of all others. Its counter is `counter`.
+    pub fn set(&mut self, counter: usize, told: &str) -> Result<(), Flaw> {
+        self.bytes.clear();
+        self.push_told(counter, told)
     }
 
     /// Appends what a line gives.
@@ -106,12 +105,9 @@ impl Text {
         let Some((digits, rest)) = told.split_at_checked(2) else {
             return Err(Flaw::Escape);
         };
-        if !digits.bytes().all(|digit| digit.is_ascii_hexdigit()) {
-            return Err(Flaw::Escape);
-        }
         match u8::from_str_radix(digits, 16) {
-            Ok(byte) => self.push_byte(byte, rest),
-            Err(_) => Err(Flaw::Escape),
+            Ok(byte) if !digits.starts_with('+') => self.push_byte(byte, rest),
+            _ => Err(Flaw::Escape),
         }
     }
 
@@ -139,7 +135,7 @@ impl Text {
     }
 
     fn push_number<'a>(&mut self, index: usize, rest: &'a str) -> Result<&'a str, Flaw> {
-        let digits = format!(in self.alloc; "{index}")?;
+        let digits = index.to_string(self.alloc)?;
         self.bytes.extend_from_slice(digits.as_bytes())?;
         Ok(rest)
     }

@@ -14,13 +14,14 @@
 //!
 //! The last five are the commands of `run_timer`, which refuses a command whose condition fails. There is no set-up.
 
+use crate::finding::Finding;
 use crate::flaw::Flaw;
-use crate::malformed::Malformed;
 use crate::numbers::number;
-use crate::row::Line;
-use crate::subject::{FromSetUp, Subject, refuse_set_up, words_in};
+use crate::subject::{Command, FromSetUp, Subject};
+use crate::table::Table;
+use crate::told::Told;
 use rb_timer::{Timer, TimerAnswer, TimerCommand, run_timer};
-use std::alloc::{AllocError, Global};
+use std::alloc::Global;
 
 #[derive(Drop)]
 pub struct TimerSubject<T: Timer> {
@@ -28,8 +29,7 @@ pub struct TimerSubject<T: Timer> {
 }
 
 impl<T: Timer> FromSetUp for TimerSubject<T> {
-    fn begin(alloc: Global, set_up: &[Line]) -> Result<Self, Malformed> {
-        refuse_set_up(set_up)?;
+    fn begin(alloc: Global, _: &Table<'_>, _: &mut Finding) -> Result<Self, Flaw> {
         Ok(TimerSubject {
             timer: T::new(alloc),
         })
@@ -37,52 +37,21 @@ impl<T: Timer> FromSetUp for TimerSubject<T> {
 }
 
 impl<T: Timer> Subject for TimerSubject<T> {
-    fn answer(&mut self, alloc: Global, command: &[u8]) -> Result<String, Flaw> {
-        let words = words_in(alloc, command)?;
-        answer_to(alloc, &mut self.timer, &words)
-    }
-}
-
-fn answer_to<T: Timer>(alloc: Global, timer: &mut T, words: &[&str]) -> Result<String, Flaw> {
-    match *words {
-        ["reserve", wanted] => reserve(alloc, timer, wanted),
-        ["room"] => timer.room().to_string(alloc).map_err(Flaw::from),
-        ["len"] => timer.len().to_string(alloc).map_err(Flaw::from),
-        ["get", slot] => get(alloc, timer, slot),
-        _ => run(alloc, timer, words),
-    }
-}
-
-fn reserve<T: Timer>(alloc: Global, timer: &mut T, wanted: &str) -> Result<String, Flaw> {
-    match timer.reserve(number(wanted)?) {
-        Ok(()) => "reserved".to_string(alloc).map_err(Flaw::from),
-        Err(_) => "no memory".to_string(alloc).map_err(Flaw::from),
-    }
-}
-
-fn get<T: Timer>(alloc: Global, timer: &T, slot: &str) -> Result<String, Flaw> {
-    let slot = number(slot)?;
-    moment_text(alloc, timer.get(slot)).map_err(Flaw::from)
-}
-
-/// Returns the text of a moment, or `none`.
-pub fn moment_text(alloc: Global, moment: Option<u64>) -> Result<String, AllocError> {
-    match moment {
-        Some(moment) => moment.to_string(alloc),
-        None => "none".to_string(alloc),
-    }
-}
-
-fn run<T: Timer>(alloc: Global, timer: &mut T, words: &[&str]) -> Result<String, Flaw> {
-    let command = command_of(words)?;
-    let answers = run_timer(alloc, timer, &[command])?;
-    first_text(alloc, &answers)
-}
-
-fn first_text(alloc: Global, answers: &[TimerAnswer]) -> Result<String, Flaw> {
-    match answers.first() {
-        Some(answer) => text_of(alloc, answer).map_err(Flaw::from),
-        None => Err(Flaw::Memory),
+    fn answer(&mut self, alloc: Global, command: Command<'_>, came: &mut Told) -> Result<(), Flaw> {
+        match *command.words {
+            ["reserve", wanted] => match self.timer.reserve(number(wanted)?) {
+                Ok(()) => came.word("reserved"),
+                Err(_) => came.word("no memory"),
+            },
+            ["room"] => came.number(self.timer.room() as u64),
+            ["len"] => came.number(self.timer.len() as u64),
+            ["get", slot] => came.moment(self.timer.get(number(slot)?)),
+            _ => {
+                let command = command_of(command.words)?;
+                let answers = run_timer(alloc, &mut self.timer, &[command])?;
+                tell(came, answers.first())
+            }
+        }
     }
 }
 
@@ -97,13 +66,14 @@ fn command_of(words: &[&str]) -> Result<TimerCommand, Flaw> {
     }
 }
 
-fn text_of(alloc: Global, answer: &TimerAnswer) -> Result<String, AllocError> {
+fn tell(came: &mut Told, answer: Option<&TimerAnswer>) -> Result<(), Flaw> {
     match answer {
-        TimerAnswer::Inserted => "inserted".to_string(alloc),
-        TimerAnswer::Removed(expiry) => format!(in alloc; "removed {expiry}"),
-        TimerAnswer::Entry(Some((slot, expiry))) => format!(in alloc; "{slot} {expiry}"),
-        TimerAnswer::Entry(None) => "none".to_string(alloc),
-        TimerAnswer::Cleared => "cleared".to_string(alloc),
-        TimerAnswer::Refused => "refused".to_string(alloc),
+        Some(TimerAnswer::Inserted) => came.word("inserted"),
+        Some(TimerAnswer::Removed(expiry)) => came.named("removed", *expiry),
+        Some(TimerAnswer::Entry(Some((slot, expiry)))) => came.numbers(&[*slot as u64, *expiry]),
+        Some(TimerAnswer::Entry(None)) => came.word("none"),
+        Some(TimerAnswer::Cleared) => came.word("cleared"),
+        Some(TimerAnswer::Refused) => came.word("refused"),
+        None => Err(Flaw::Memory),
     }
 }

@@ -18,11 +18,12 @@
 //! A POLICY is `delay N attempts N` or `rate N attempts N`. FILES are ` history "FILE"` and ` from "FILE"`, each only
 //! if it was given. There is no set-up.
 
+use crate::finding::Finding;
 use crate::flaw::Flaw;
-use crate::malformed::Malformed;
-use crate::row::Line;
-use crate::subject::{FromSetUp, Subject, refuse_set_up};
+use crate::subject::{Command, FromSetUp, Subject};
+use crate::table::Table;
 use crate::timers::timer_name;
+use crate::told::Told;
 use clap::Error;
 use rb_arguments::{Words, read_words};
 use rb_options::{ScriptOptions, ServeOptions};
@@ -34,24 +35,23 @@ use std::str;
 pub struct WordSubject;
 
 impl FromSetUp for WordSubject {
-    fn begin(_alloc: Global, set_up: &[Line]) -> Result<Self, Malformed> {
-        refuse_set_up(set_up)?;
+    fn begin(_: Global, _: &Table<'_>, _: &mut Finding) -> Result<Self, Flaw> {
         Ok(WordSubject)
     }
 }
 
 impl Subject for WordSubject {
-    fn answer(&mut self, alloc: Global, command: &[u8]) -> Result<String, Flaw> {
-        let words = words_of(alloc, str::from_utf8(command).unwrap_or_default())?;
-        answer_to(alloc, &words)
+    fn answer(&mut self, alloc: Global, command: Command<'_>, came: &mut Told) -> Result<(), Flaw> {
+        let words = words_of(alloc, str::from_utf8(command.bytes).unwrap_or_default())?;
+        answer_to(alloc, &words, came)
     }
 }
 
-fn answer_to(alloc: Global, words: &[&str]) -> Result<String, Flaw> {
+fn answer_to(alloc: Global, words: &[&str], came: &mut Told) -> Result<(), Flaw> {
     match *words {
-        ["rb_broker", ..] => asked_text(alloc, words).map_err(Flaw::from),
-        ["shows", part, ..] => shows(alloc, words, part).map_err(Flaw::from),
-        ["no", "word"] => asked_text(alloc, &[]).map_err(Flaw::from),
+        ["rb_broker", ..] => tell_asked(alloc, words, came),
+        ["no", "word"] => tell_asked(alloc, &[], came),
+        ["shows", part, ..] => tell_shown(alloc, words.get(2..).unwrap_or(&[]), part, came),
         _ => Err(Flaw::Command),
     }
 }
@@ -80,112 +80,100 @@ fn push_words<'a>(
     Ok(())
 }
 
-fn asked_text(alloc: Global, words: &[&str]) -> Result<String, AllocError> {
+fn tell_asked(alloc: Global, words: &[&str], came: &mut Told) -> Result<(), Flaw> {
     match read_words(alloc, words) {
-        Ok(
-            Words::Script {
-                options,
-                history,
-                from,
-            },
-        ) => script_text(alloc, &options, history.as_deref(), from.as_deref()),
-        Ok(Words::Replay { options, file }) => replay_text(alloc, &file, options.chains),
-        Ok(
-            Words::Serve {
-                options,
-                history,
-                from,
-            },
-        ) => serve_text(alloc, &options, history.as_deref(), from.as_deref()),
-        Err(error) => error_text(alloc, &error),
+        Ok(asked) => tell_words(&asked, came),
+        Err(error) => tell_error(&error, came),
     }
 }
 
-fn script_text(
-    alloc: Global,
-    options: &ScriptOptions,
-    history: Option<&str>,
-    from: Option<&str>,
-) -> Result<String, AllocError> {
-    let (timer, calls) = (timer_name(options.timer), options.calls);
-    let run = run_text(alloc, options.policy, history, from)?;
-    format!(in alloc; "script timer {timer} calls {calls} {run}")
+fn tell_words(asked: &Words, came: &mut Told) -> Result<(), Flaw> {
+    match asked {
+        Words::Script {
+            options,
+            history,
+            from,
+        } => {
+            tell_script(options, came)?;
+            tell_file("history", history, came)?;
+            tell_file("from", from, came)
+        }
+        Words::Replay { options, file } => {
+            came.value(format_args!("replay {file:?}"))?;
+            tell_chains(options.chains, came)
+        }
+        Words::Serve {
+            options,
+            history,
+            from,
+        } => {
+            tell_serve(options, came)?;
+            tell_file("history", history, came)?;
+            tell_file("from", from, came)
+        }
+    }
 }
 
-fn replay_text(alloc: Global, file: &str, chains: Option<Policy>) -> Result<String, AllocError> {
-    let Some(policy) = chains else {
-        return format!(in alloc; "replay {file:?}");
-    };
-    let policy = policy_text(alloc, policy)?;
-    format!(in alloc; "replay {file:?} chains {policy}")
+fn tell_chains(chains: Option<Policy>, came: &mut Told) -> Result<(), Flaw> {
+    match chains {
+        Some(policy) => {
+            came.word("chains")?;
+            tell_policy(policy, came)
+        }
+        None => Ok(()),
+    }
 }
 
-fn serve_text(
-    alloc: Global,
-    options: &ServeOptions,
-    history: Option<&str>,
-    from: Option<&str>,
-) -> Result<String, AllocError> {
-    let (port, timer) = (options.port, timer_name(options.timer));
-    let (sessions, turns) = (options.sessions, options.turns);
-    let (workers, calls) = (options.run.workers, options.run.calls);
-    let run = run_text(alloc, options.run.policy, history, from)?;
-    let door = format!(in alloc; "serve port {port} timer {timer} workers {workers}")?;
-    format!(in alloc; "{door} sessions {sessions} turns {turns} calls {calls} {run}")
+fn tell_script(options: &ScriptOptions, came: &mut Told) -> Result<(), Flaw> {
+    came.word("script timer")?;
+    came.word(timer_name(options.timer))?;
+    came.named("calls", options.calls)?;
+    tell_policy(options.policy, came)
 }
 
-// Returns the end of an answer: the policy, and the files that were given.
-fn run_text(
-    alloc: Global,
-    policy: Policy,
-    history: Option<&str>,
-    from: Option<&str>,
-) -> Result<String, AllocError> {
-    let policy = policy_text(alloc, policy)?;
-    let history = file_text(alloc, "history", history)?;
-    let from = file_text(alloc, "from", from)?;
-    format!(in alloc; "{policy}{history}{from}")
+fn tell_serve(options: &ServeOptions, came: &mut Told) -> Result<(), Flaw> {
+    came.named("serve port", u64::from(options.port))?;
+    came.word("timer")?;
+    came.word(timer_name(options.timer))?;
+    came.named("workers", options.run.workers)?;
+    came.named("sessions", options.sessions)?;
+    came.named("turns", options.turns)?;
+    came.named("calls", options.run.calls)?;
+    tell_policy(options.run.policy, came)
 }
 
-fn policy_text(alloc: Global, policy: Policy) -> Result<String, AllocError> {
-    let attempts = policy.attempts;
+fn tell_policy(policy: Policy, came: &mut Told) -> Result<(), Flaw> {
     match policy.pace {
-        Pace::Delay(delay) => format!(in alloc; "delay {delay} attempts {attempts}"),
-        Pace::Rate(period) => format!(in alloc; "rate {period} attempts {attempts}"),
+        Pace::Delay(delay) => came.named("delay", delay)?,
+        Pace::Rate(period) => came.named("rate", period)?,
     }
+    came.named("attempts", u64::from(policy.attempts))
 }
 
-fn file_text(alloc: Global, word: &str, file: Option<&str>) -> Result<String, AllocError> {
+fn tell_file(word: &str, file: &Option<String>, came: &mut Told) -> Result<(), Flaw> {
     match file {
-        Some(file) => format!(in alloc; " {word} {file:?}"),
-        None => Ok(String::new(alloc)),
+        Some(file) => came.value(format_args!("{word} {file:?}")),
+        None => Ok(()),
     }
 }
 
-fn error_text(alloc: Global, error: &Error) -> Result<String, AllocError> {
+fn tell_error(error: &Error, came: &mut Told) -> Result<(), Flaw> {
     let told = if error.use_stderr() {
         "refused"
     } else {
         "shown"
     };
     let (kind, status) = (error.kind(), error.exit_code());
-    format!(in alloc; "{told} {kind:?} {status}")
+    came.value(format_args!("{told} {kind:?} {status}"))
 }
 
-// Answers whether `part` is in the text that is shown for the words after it.
-fn shows(alloc: Global, words: &[&str], part: &str) -> Result<String, AllocError> {
-    let line = words.get(2..).unwrap_or(&[]);
-    match read_words(alloc, line) {
-        Ok(_) => "nothing is shown".to_string(alloc),
-        Err(error) => contains(alloc, &error, part),
-    }
-}
-
-fn contains(alloc: Global, error: &Error, part: &str) -> Result<String, AllocError> {
-    let text = error.to_string(alloc)?;
-    if text.contains(part) {
-        "yes".to_string(alloc)
-    } else {
-        "no".to_string(alloc)
+// Tells whether `part` is in the text that is shown for these words.
+fn tell_shown(alloc: Global, words: &[&str], part: &str, came: &mut Told) -> Result<(), Flaw> {
+    match read_words(alloc, words) {
+        Ok(_) => came.word("nothing is shown"),
+        Err(error) => {
+            let text = error.to_string(alloc)?;
+            came.word(if text.contains(part) { "yes" } else { "no" })
+        }
     }
 }
