@@ -45,10 +45,10 @@ def free_port() -> int:
 
 
 def wait_until(is_so: Callable[[], object], what: str, patience: float = PATIENCE) -> None:
-    """Waits until it is so. A Redis that is away is not."""
+    """Waits until it is so. While a Redis is away, or a gateway whose lease is over cuts its sessions, it is not."""
     until = time.monotonic() + patience
     while time.monotonic() < until:
-        with contextlib.suppress(redis.RedisError):
+        with contextlib.suppress(redis.RedisError, ConnectionError):
             if is_so():
                 return
         time.sleep(0.02)
