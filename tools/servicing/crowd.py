@@ -52,10 +52,13 @@ class Crowd:
             self._hear(TICK if self._begin() else SOON)
             for _ in range(pacing.due(time.monotonic(), self.size, len(self._served))):
                 self._leave(self._served.pop(0))
-        for it in self._served:
-            self._leave(it)
+        # A session that is closed with an answer unread is a fault to the server, so those that wait go before a worker
+        # is free for them.
+        self._hear(0)
         for it in self._waiting:
             it.close()
+        for it in self._served:
+            self._leave(it)
 
     def _begin(self) -> bool:
         """Begins as many sessions as are missing. Returns whether it could: clients wait for the next server, too."""
