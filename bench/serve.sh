@@ -15,6 +15,8 @@
 # there is a second echo server, which sends each line by a write of its own.
 set -euo pipefail
 export LC_ALL=C
+# Every server gets what ./broker and the service set, so that a history is in huge pages.
+export GLIBC_TUNABLES=${GLIBC_TUNABLES-glibc.malloc.hugetlb=1}
 
 CLIENTS=${CLIENTS:-1 4 16} ROUNDS=${ROUNDS:-60000} BATCH_ROUNDS=${BATCH_ROUNDS:-320000} OFFERS=${OFFERS:-60000} RUNS=${RUNS:-3}
 if ((ROUNDS < 1600 || ROUNDS > 400000 || BATCH_ROUNDS < 1600 || BATCH_ROUNDS > 400000 ||

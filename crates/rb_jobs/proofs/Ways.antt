@@ -34,7 +34,8 @@ use Rattle.rb_session.proofs.DeskParts.{of_bool, of_found}
 use Rattle.rb_session.specs.Held.{place_of}
 use Rattle.rb_session.specs.Session.{Turn, Serves}
 use Rattle.rb_session.specs.Turn.{Point, IsTurn, IsServed, IsCall, IsFetch, IsFailure, IsFirstDraft, AnswersAlone, fetched_by}
-use Rattle.rb_session.specs.Turn.{fault_line, lines_for, moment_line, word_for}
+use Rattle.rb_protocol.specs.FaultWord.{word_for}
+use Rattle.rb_session.specs.Turn.{fault_line, lines_for, moment_line}
 use Rattle.rb_session.specs.declared.held_jobs.TheConstants.{MOST_HELD}
 
 -- the element at the place that is found has the id

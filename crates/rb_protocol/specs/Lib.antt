@@ -5,5 +5,6 @@ pub mod Reading
 pub mod Keywords
 pub mod Words
 pub mod ReplyText
+pub mod FaultWord
 pub mod Sending
 pub mod Reads

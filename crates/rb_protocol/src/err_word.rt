@@ -1,3 +1,7 @@
+ghost use Rattle.std.specs.Prelude.{◌≡◌};
+
+use crate::line_fault::LineFault;
+
 /// Why a request was refused.
 #[derive(Clone, Copy, Debug, PartialEq, Eq)]
 pub enum ErrWord {
@@ -19,4 +23,20 @@ pub enum ErrWord {
     Line,
     /// The session holds as many jobs as it may.
     Held,
+}
+
+/// The word for a line that is no request.
+impl From<LineFault> for ErrWord {
+    ghost use Rattle.rb_protocol.specs.FaultWord.{word_for};
+
+    ghost from_gives = { λ fault answer. answer ≡ word_for fault };
+
+    fn from(fault: LineFault) -> ErrWord {
+        match fault {
+            LineFault::Line => ErrWord::Line,
+            LineFault::Syntax => ErrWord::Syntax,
+            LineFault::Number => ErrWord::Number,
+            LineFault::Payload => ErrWord::Payload,
+        }
+    }
 }

@@ -2,7 +2,6 @@ ghost use Rattle.std.specs.Prelude.{◌≡◌, ◌≤◌};
 ghost use Rattle.std.specs.Io.KnownBytes.{IsAtEnd};
 ghost use Rattle.rb_session.specs.Exchange.{Exchanges};
 ghost use Rattle.rb_session.specs.Reasons.{IsReason};
-ghost use Rattle.rb_session.specs.declared.delivery.Delivery.TheVariants.{AtOnce};
 ghost use Rattle.rb_ending.specs.Recording.{lent, given_back};
 ghost use Rattle.rb_runs.specs.Script.{EndsScript, RanScript, script_terms, device_of};
 
@@ -25,8 +24,7 @@ use std::io::{Read, Write};
 /// line is served. The history is also written after a session that ended with a fault, which is
 /// then returned; but not after `Memory`, since nothing was read. Other faults are those of the
 /// session, `WriteHistory` if the device failed, and `Memory` if there is not enough for the
-/// history's text. `run_script_delivered` also tells what became of the history after a session's
-/// fault, and over its reader why the session ended.
+/// history's text.
 pub fn run_script<R: Read, W: Write, H: Write>(
     alloc: Global,
     options: &ScriptOptions,
@@ -37,7 +35,7 @@ pub fn run_script<R: Read, W: Write, H: Write>(
 ) -> Result<Ended, BrokerFault>
     ensures { Exchanges
         (R.remaining reader.old) (R.remaining reader.new) (W.contents writer.old) (W.contents writer.new) (λ came sent.
-        EndsScript (script_terms W.contents (W.contents writer.old) options.now.policy options.now.calls AtOnce opening)
+        EndsScript (script_terms W.contents (W.contents writer.old) options.now.policy options.now.calls Delivery.AtOnce opening)
         (IsAtEnd (R.remaining reader.new)) came sent result
         (device_of H.contents (lent history.entry) (given_back history.exit))) }
 {

@@ -1,5 +1,4 @@
 ghost use Rattle.std.specs.Prelude.{◌≡◌, Err};
-ghost use Rattle.rb_session.specs.declared.session_fault.SessionFault.TheVariants.{Memory};
 ghost use Rattle.rb_runs.specs.Script.{result_of};
 
 use crate::recording::Recording;
@@ -18,7 +17,7 @@ pub struct ScriptReport {
 impl ScriptReport {
     // Of a session that found no memory, so that nothing was read.
     pub(crate) fn unbegun(recording: Recording) -> ScriptReport
-        ensures { result ≡ record { session = Err Memory; recording = recording } }
+        ensures { result ≡ record { session = Err SessionFault.Memory; recording = recording } }
     {
         ScriptReport {
             session: Err(SessionFault::Memory),

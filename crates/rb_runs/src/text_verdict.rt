@@ -30,16 +30,13 @@ impl TextVerdict {
     {
         match self {
             TextVerdict::Unreadable { line, reason } => {
-                let word = reason.as_str();
-                Ok(format!(in alloc; "unreadable {line} {word}\n")?)
+                Ok(format!(in alloc; "unreadable {line} {}\n", reason.as_str())?)
             }
             TextVerdict::Refused { index, reason } => {
-                let word = reason.as_str();
-                Ok(format!(in alloc; "refused {index} {word}\n")?)
+                Ok(format!(in alloc; "refused {index} {}\n", reason.as_str())?)
             }
             TextVerdict::Unchained { index, reason } => {
-                let word = reason.as_str();
-                Ok(format!(in alloc; "unchained {index} {word}\n")?)
+                Ok(format!(in alloc; "unchained {index} {}\n", reason.as_str())?)
             }
             TextVerdict::Accepted(audit) => audit_line(alloc, audit),
         }

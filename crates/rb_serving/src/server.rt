@@ -2,9 +2,6 @@ ghost use Rattle.std.specs.Prelude.{◌≡◌, [], IfOk, IfErr};
 ghost use Rattle.rb_lock.specs.Passes.{first_pass};
 ghost use Rattle.rb_serving.specs.Serving.{EndsServing, IsReport, IsServersRun};
 ghost use Rattle.rb_serving.specs.Terms.{terms_of};
-ghost use Rattle.rb_ending.specs.declared.broker_fault.BrokerFault.TheVariants.{Memory, NotGathered};
-ghost use Rattle.rb_session.specs.declared.delivery.Delivery.TheVariants.{AtOnce, Gathered};
-ghost use Rattle.rb_session.specs.declared.hands_on.HandsOn.TheVariants.{BeforeReadsAndWaits};
 
 use crate::door::Door;
 use crate::serve_report::ServeReport;
@@ -48,7 +45,7 @@ pub fn serve_door<
 ) -> Result<ServeReport<T>, BrokerFault>
     ensures served { IfOk result (λ report. IsServersRun
         (terms_of D.Door D.Reader.Read D.Writer.Write D.Gate.Gate C.Clock
-        door.now clock.now options.now.policy AtOnce)
+        door.now clock.now options.now.policy Delivery.AtOnce)
         opening options.now report) }
     ensures fault { IfErr result EndsServing }
 {
@@ -75,7 +72,7 @@ pub fn serve_door_gathered<
 ) -> Result<ServeReport<T>, BrokerFault>
     ensures served { IfOk result (λ report. IsServersRun
         (terms_of D.Door D.Reader.Read D.Writer.Write D.Gate.Gate C.Clock
-        door.now clock.now options.now.policy (Gathered BeforeReadsAndWaits))
+        door.now clock.now options.now.policy (Delivery.Gathered HandsOn.BeforeReadsAndWaits))
         opening options.now report) }
     ensures fault { IfErr result EndsServing }
 {
@@ -127,7 +124,7 @@ fn opened<T: Timer>(
 ) -> Result<(Shared<T>, Pass<T>), BrokerFault>
     ensures pass { IfOk result (λ opened. opened.1 ≡ first_pass opened.0
         (record { opening = opening; history = []; capacity = options.now.calls })) }
-    ensures fault { IfErr result (λ fault. fault ≡ Memory) }
+    ensures fault { IfErr result (λ fault. fault ≡ BrokerFault.Memory) }
 {
     let (kept, tally) = Kept::<T>::new_from(alloc, options.calls, opening).map_err(
         |_| BrokerFault::Memory,
@@ -144,7 +141,7 @@ fn report_of<T: Timer, R: Wait>(
 ) -> Result<ServeReport<T>, BrokerFault>
     requires pass { pass.table ≡ shared }
     ensures report { IfOk result (λ report. IsReport pass visits report) }
-    ensures fault { IfErr result (λ fault. fault ≡ NotGathered) }
+    ensures fault { IfErr result (λ fault. fault ≡ BrokerFault.NotGathered) }
 {
     let (kept, _, audit) = shared
         .close(rt, pass)

@@ -1,11 +1,11 @@
 ghost use Rattle.std.specs.Prelude.{◌≡◌};
-ghost use Rattle.rb_serving.specs.VisitCounts.{no_visit, refused_visit, ended_visit, both_counts};
+ghost use Rattle.rb_serving.specs.VisitCounts.{refused_visit, ended_visit, both_counts};
 ghost use Rattle.rb_session.specs.Served.{lost_in};
 
 use rb_session::{Ended, SessionFault};
 
 /// The counts of visits, each at most 2^64 - 1.
-#[derive(Clone, Copy, Debug, PartialEq, Eq)]
+#[derive(Clone, Copy, Debug, Default, PartialEq, Eq)]
 pub(crate) struct VisitCounts {
     /// How many visits there were.
     pub(crate) sessions: u64,
@@ -16,17 +16,6 @@ pub(crate) struct VisitCounts {
 }
 
 impl VisitCounts {
-    /// No visit.
-    pub(crate) fn none() -> VisitCounts
-        ensures { result ≡ no_visit }
-    {
-        VisitCounts {
-            sessions: 0,
-            faults: 0,
-            lost: 0,
-        }
-    }
-
     /// A visit that was refused at the door.
     pub(crate) fn of_refusal() -> VisitCounts
         ensures { result ≡ refused_visit }

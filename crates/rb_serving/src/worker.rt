@@ -34,7 +34,7 @@ pub(crate) fn work<T: Timer, D: Door, C: Clock, R: Wait + time::Clock>(
         (service_terms D.Door D.Reader.Read D.Writer.Write D.Gate.Gate C.Clock service.now)
         pass.capacity pass.opening worker result.0 result.1 }
 {
-    let mut counts = VisitCounts::none();
+    let mut counts = VisitCounts::default();
     for _ in rt.forever() {
         let number = VisitNumber {
             worker,

@@ -2,7 +2,6 @@ ghost use Rattle.std.specs.Prelude.{◌≡◌, IfOk, IfErr};
 ghost use Rattle.rb_serving.specs.Serving.{FoldsWorkers, IsWorkerResult};
 ghost use Rattle.rb_serving.specs.Terms.{service_terms};
 ghost use Rattle.rb_serving.specs.Visits.{IsUnused};
-ghost use Rattle.rb_ending.specs.declared.broker_fault.BrokerFault.TheVariants.{Worker};
 
 use crate::door::Door;
 use crate::service::Service;
@@ -52,7 +51,7 @@ pub(crate) fn serve_all<
     ensures folds { IfOk result (λ served. FoldsWorkers
         (service_terms D.Door D.Reader.Read D.Writer.Write D.Gate.Gate C.Clock service.now)
         count pass served.0 served.1) }
-    ensures fault { IfErr result (λ fault. fault ≡ Worker) }
+    ensures fault { IfErr result (λ fault. fault ≡ BrokerFault.Worker) }
 {
     thread::scope(
         thread::scope_env(),
@@ -61,7 +60,7 @@ pub(crate) fn serve_all<
             requires { pass.table ≡ service.now.shared.now }
             ensures { IfOk result (λ served. FoldsWorkers
                 (service_terms D.Door D.Reader.Read D.Writer.Write D.Gate.Gate C.Clock service.entry.now)
-                count pass served.0 served.1) × IfErr result (λ fault. fault ≡ Worker) }
+                count pass served.0 served.1) × IfErr result (λ fault. fault ≡ BrokerFault.Worker) }
         { start_all(rt, scope, service, pass, count) },
     )
 }
@@ -86,10 +85,10 @@ fn start_all<
     ensures folds { IfOk result (λ served. FoldsWorkers
         (service_terms D.Door D.Reader.Read D.Writer.Write D.Gate.Gate C.Clock service.now)
         count pass served.0 served.1) }
-    ensures fault { IfErr result (λ fault. fault ≡ Worker) }
+    ensures fault { IfErr result (λ fault. fault ≡ BrokerFault.Worker) }
 {
     if count == 0 {
-        return Ok((pass, VisitCounts::none()));
+        return Ok((pass, VisitCounts::default()));
     }
     let Ok(child) = service.shared.split(rt, &mut pass) else {
         return Err(BrokerFault::Worker);

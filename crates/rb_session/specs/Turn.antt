@@ -20,20 +20,12 @@ use Rattle.rb_retry.specs.declared.verdict.Verdict.TheVariants.{Again, Dead}
 use Rattle.rb_protocol.specs.declared.request.Request.{Request}
 use Rattle.rb_protocol.specs.declared.request.Request.TheVariants as requests
 use Rattle.rb_protocol.specs.declared.line_fault.LineFault.{LineFault}
-use Rattle.rb_protocol.specs.declared.line_fault.LineFault.TheVariants as faults
 use Rattle.rb_protocol.specs.declared.line_reply.LineReply.{LineReply}
 use Rattle.rb_protocol.specs.declared.line_reply.LineReply.TheVariants as lines
-use Rattle.rb_protocol.specs.declared.err_word.ErrWord.{ErrWord}
 use Rattle.rb_protocol.specs.declared.err_word.ErrWord.TheVariants as words
+use Rattle.rb_protocol.specs.FaultWord.{word_for}
 use Rattle.rb_session.specs.Held.{place_of}
 use Rattle.rb_session.specs.declared.held_jobs.TheConstants.{MOST_HELD}
-
--- the word for a line that is no request
-abbrev pub word_for : LineFault → ErrWord
-word_for faults.Line = words.Line
-word_for faults.Syntax = words.Syntax
-word_for faults.Number = words.Number
-word_for faults.Payload = words.Payload
 
 -- the line for a fault of the desk
 abbrev pub fault_line : DeskFault → LineReply

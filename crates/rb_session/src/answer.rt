@@ -1,7 +1,7 @@
 ghost use Rattle.std.specs.Prelude.{◌≡◌, ℕ, ◌<◌, ◌≤◌, ◌++◌, [], ◌∷◌, List, length, Option, Result};
 ghost use Rattle.rb_queue.specs.declared.reply.Reply.{Reply};
 ghost use Rattle.rb_retry.specs.DeskRules.{desk_rules};
-ghost use Rattle.rb_session.specs.Turn.{word_for, point, moment_line, IsTurn};
+ghost use Rattle.rb_session.specs.Turn.{point, moment_line, IsTurn};
 ghost use Rattle.rb_session.specs.Progress.{replies_of};
 
 use crate::calls::{call, offer, offer_at};
@@ -27,22 +27,17 @@ pub(crate) fn answer<D: Desk>(
 {
     let request = match reading {
         Ok(request) => request,
-        Err(fault) => return LineReply::Err(word_for(fault)),
+        Err(fault) => return LineReply::Err(ErrWord::from(fault)),
     };
     let now = desk.now();
     match request {
         Request::Offer { delay, payload } => offer(desk, now, delay, payload),
         Request::OfferAt { expiry, payload } => offer_at(desk, now, expiry, payload),
         Request::Poll => fetch_job(desk, held, now, Ask::Poll),
-        Request::PollFor(timeout) => fetch_job(
-            desk,
-            held,
-            now,
-            Ask::PollFor {
-                start: now,
-                timeout,
-            },
-        ),
+        Request::PollFor(timeout) => {
+            let start = now;
+            fetch_job(desk, held, now, Ask::PollFor { start, timeout })
+        }
         Request::Take => fetch_job(desk, held, 0, Ask::Take),
         Request::Peek => call(desk, now, Ask::Peek),
         Request::Remove(id) => call(desk, now, Ask::Remove(id)),
@@ -64,17 +59,5 @@ fn set_moment<D: Desk>(desk: &mut D, moment: u64) -> LineReply
     match desk.set(moment) {
         Some(now) => LineReply::Now(now),
         None => LineReply::Err(ErrWord::Syntax),
-    }
-}
-
-// The word for a line that is no request.
-fn word_for(fault: LineFault) -> ErrWord
-    ensures { result ≡ word_for fault }
-{
-    match fault {
-        LineFault::Line => ErrWord::Line,
-        LineFault::Syntax => ErrWord::Syntax,
-        LineFault::Number => ErrWord::Number,
-        LineFault::Payload => ErrWord::Payload,
     }
 }

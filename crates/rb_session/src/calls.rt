@@ -1,13 +1,10 @@
 ghost use Rattle.std.specs.Prelude.{◌≡◌, ℕ, ◌+◌, List, [], ◌∷◌, Result, MatchBool, nat_le};
-ghost use Rattle.rb_delayed.specs.declared.moment.TheConstants.{GREATEST_MOMENT};
 ghost use Rattle.rb_queue.specs.declared.reply.Reply.{Reply};
 ghost use Rattle.rb_retry.specs.declared.desk_fault.DeskFault.{DeskFault};
-ghost use Rattle.rb_protocol.specs.declared.line_reply.LineReply.TheVariants as lines;
-ghost use Rattle.rb_protocol.specs.declared.err_word.ErrWord.TheVariants as words;
 ghost use Rattle.rb_session.specs.Turn.{fault_line, reply_line};
 ghost use Rattle.rb_session.specs.Progress.{answer_line, OffersAt};
 
-use rb_delayed::{Payload, add_delay};
+use rb_delayed::{Element, GREATEST_MOMENT, Payload, add_delay};
 use rb_protocol::{ErrWord, LineReply};
 use rb_queue::{Ask, Draft, Reply};
 use rb_retry::{Desk, DeskFault};
@@ -27,7 +24,7 @@ pub(crate) fn call<D: Desk>(desk: &mut D, now: u64, ask: Ask) -> LineReply
 pub(crate) fn offer<D: Desk>(desk: &mut D, now: u64, delay: u64, payload: Payload) -> LineReply
     ensures { MatchBool (nat_le (now + delay) GREATEST_MOMENT)
         (OffersAt D.Steps (D.state desk.old) now (now + delay) payload result (D.state desk.new))
-        ((result ≡ lines.Err words.Range) × (D.state desk.new ≡ D.state desk.old)) }
+        ((result ≡ LineReply.Err ErrWord.Range) × (D.state desk.new ≡ D.state desk.old)) }
 {
     match add_delay(now, delay) {
         Some(expiry) => offer_at(desk, now, expiry, payload),
@@ -40,10 +37,7 @@ pub(crate) fn offer_at<D: Desk>(desk: &mut D, now: u64, expiry: u64, payload: Pa
     ensures { OffersAt D.Steps (D.state desk.old) now expiry payload result (D.state desk.new) }
 {
     match desk.offer(now, Draft::first(expiry, payload)) {
-        Ok(element) => LineReply::Offered {
-            id: element.id,
-            expiry: element.expiry,
-        },
+        Ok(Element { id, expiry, .. }) => LineReply::Offered { id, expiry },
         Err(fault) => fault_line(DeskFault::from(fault)),
     }
 }
@@ -64,10 +58,7 @@ fn reply_line(reply: Reply) -> LineReply
     ensures { result ≡ reply_line reply }
 {
     match reply {
-        Reply::Offered(element) => LineReply::Offered {
-            id: element.id,
-            expiry: element.expiry,
-        },
+        Reply::Offered(Element { id, expiry, .. }) => LineReply::Offered { id, expiry },
         Reply::Item(element) => LineReply::Item(element),
         Reply::Nothing => LineReply::Nothing,
         Reply::Head(element) => LineReply::Head(element),

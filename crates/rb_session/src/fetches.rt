@@ -1,12 +1,10 @@
 ghost use Rattle.std.specs.Prelude.{◌≡◌, ℕ, ◌-◌, ◌<◌, min, length};
-ghost use Rattle.rb_queue.specs.declared.ask.Ask.TheVariants as asks;
 ghost use Rattle.rb_retry.specs.Jobs.{answer_with};
 ghost use Rattle.rb_session.specs.Turn.{point, IsCall, IsFetch};
 ghost use Rattle.rb_session.specs.Progress.{replies_of, FetchesOne, IsHolding};
-ghost use Rattle.rb_session.specs.declared.held_jobs.TheConstants.{MOST_HELD};
 
 use crate::calls::fault_line;
-use crate::held_jobs::HeldJobs;
+use crate::held_jobs::{HeldJobs, MOST_HELD};
 use rb_protocol::{ErrWord, LineReply};
 use rb_queue::Ask;
 use rb_retry::{Desk, DeskFault, Job, poll, poll_for, take};
@@ -42,7 +40,7 @@ pub(crate) fn drain_jobs<D: Desk>(
     most: u64,
 ) -> LineReply
     ensures { IsCall D.Steps
-        (point (D.state desk.old) held.old) now (asks.Drain (min most (MOST_HELD - length held.old)))
+        (point (D.state desk.old) held.old) now (Ask.Drain (min most (MOST_HELD - length held.old)))
         (replies_of result held.new) (point (D.state desk.new) held.new) }
 {
     let free = held.free();

@@ -1,7 +1,5 @@
 ghost use Rattle.std.specs.Prelude.{◌≡◌, ◌∷◌, [], MatchOption, remove};
 ghost use Rattle.rb_retry.specs.DeskRules.{desk_rules};
-ghost use Rattle.rb_protocol.specs.declared.line_reply.LineReply.TheVariants as lines;
-ghost use Rattle.rb_protocol.specs.declared.err_word.ErrWord.TheVariants as words;
 ghost use Rattle.rb_session.specs.Held.{place_of};
 ghost use Rattle.rb_session.specs.Turn.{point, AnswersAlone, IsFailure};
 ghost use Rattle.rb_session.specs.Closing.{Closes};
@@ -9,14 +7,15 @@ ghost use Rattle.rb_session.specs.Progress.{replies_of};
 
 use crate::calls::fault_line;
 use crate::held_jobs::HeldJobs;
+use rb_delayed::Element;
 use rb_protocol::{ErrWord, LineReply};
 use rb_retry::{Desk, DeskFault, Policy, Verdict, done, fail};
 
 /// The job of this id is done, if it is held.
 pub(crate) fn finish_job(held: &mut HeldJobs, id: u64) -> LineReply
     ensures { MatchOption (place_of held.old id)
-        ((result ≡ lines.Err words.NotHeld) × (held.new ≡ held.old))
-        (λ place. (result ≡ lines.Done id) × (held.new ≡ remove held.old place)) }
+        ((result ≡ LineReply.Err ErrWord.NotHeld) × (held.new ≡ held.old))
+        (λ place. (result ≡ LineReply.Done id) × (held.new ≡ remove held.old place)) }
 {
     let Some(place) = held.place_of(id) else {
         return LineReply::Err(ErrWord::NotHeld);
@@ -35,7 +34,7 @@ pub(crate) fn fail_job<D: Desk>(
     id: u64,
 ) -> LineReply
     ensures { MatchOption (place_of held.old id)
-        (AnswersAlone (lines.Err words.NotHeld)
+        (AnswersAlone (LineReply.Err ErrWord.NotHeld)
         (point (D.state desk.old) held.old) (replies_of result held.new) (point (D.state desk.new) held.new))
         (λ place. IsFailure (desk_rules D.Desk policy.now) (point (D.state desk.old) held.old) now place
         (replies_of result held.new) (point (D.state desk.new) held.new)) }
@@ -44,10 +43,7 @@ pub(crate) fn fail_job<D: Desk>(
         return LineReply::Err(ErrWord::NotHeld);
     };
     match fail(desk, policy, held.take_out(place), now) {
-        Ok(Verdict::Again(again)) => LineReply::Again {
-            id: again.id,
-            expiry: again.expiry,
-        },
+        Ok(Verdict::Again(Element { id, expiry, .. })) => LineReply::Again { id, expiry },
         Ok(Verdict::Dead(dead)) => LineReply::Dead(dead.id),
         Err((job, fault)) => {
             held.put_back(place, job);

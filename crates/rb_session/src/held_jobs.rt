@@ -1,10 +1,9 @@
 ghost use Rattle.std.specs.Prelude.{◌≡◌, ℕ, ◌+◌, ◌-◌, ◌<◌, ◌≤◌, ◌∷◌, ◌++◌, [], List, Ok, Err};
 ghost use Rattle.std.specs.Prelude.{length, drop, insert, remove, slice_get, IfOk, MatchResult, Some};
 ghost use Rattle.rb_delayed.specs.declared.element.Element.{Element};
-ghost use Rattle.rb_queue.specs.declared.ask.Ask.TheVariants as asks;
-ghost use Rattle.rb_queue.specs.declared.reply.Reply.TheVariants as replies;
 ghost use Rattle.rb_session.specs.Held.{place_of};
 
+use rb_queue::{Ask, Reply};
 use rb_retry::{Desk, DeskFault, Job, drain};
 use std::alloc::{AllocError, Global};
 use std::marker::Model;
@@ -107,9 +106,9 @@ impl HeldJobs {
         requires few { length self.old + max ≤ MOST_HELD }
         ensures { MatchResult result
             (λ _. (items : List Element) × (self.new ≡ self.old ++ items)
-            × D.Steps (D.state desk.old) asked (asks.Drain max) (Ok (replies.Drained items)) (D.state desk.new))
+            × D.Steps (D.state desk.old) asked (Ask.Drain max) (Ok (Reply.Drained items)) (D.state desk.new))
             (λ fault. (self.new ≡ self.old)
-            × D.Steps (D.state desk.old) asked (asks.Drain max) (Err fault) (D.state desk.new)) }
+            × D.Steps (D.state desk.old) asked (Ask.Drain max) (Err fault) (D.state desk.new)) }
     {
         drain(desk, asked, max, &mut self.jobs)
     }

@@ -4,7 +4,6 @@ ghost use Rattle.rb_protocol.specs.Line.{HasNoLineFeed};
 ghost use Rattle.rb_protocol.specs.Reads.{IsAfterRead};
 ghost use Rattle.rb_session.specs.Lines.{line_of};
 ghost use Rattle.rb_protocol.specs.Reading.{IsReading};
-ghost use Rattle.rb_protocol.specs.declared.format.TheConstants.{LINE_FEED};
 ghost use Rattle.rb_protocol.specs.declared.limits.TheConstants.{BUFFER_BYTES};
 ghost use Rattle.rb_session.specs.declared.line_buffer.TheConstants.{MOST_RAW_BYTES};
 
@@ -60,7 +59,7 @@ impl LineBuffer {
         ensures shorter { IfSome result (λ _. self.new.end - self.new.start < self.old.end - self.old.start) }
     {
         let held = &self.bytes[self.start..self.end];
-        let len = find_feed(held)?;
+        let len = memchr(LINE_FEED, held)?;
         let reading = if self.is_long {
             Err(LineFault::Line)
         } else {
@@ -122,15 +121,6 @@ impl LineBuffer {
             self.end = held;
         }
     }
-}
-
-// How many bytes stand before the first line feed.
-#[tactic(auto, using(crate::proofs::LineFeeds::first_feed))]
-fn find_feed(held: &[u8]) -> Option<usize>
-    ensures { MatchOption result (HasNoLineFeed held.now) (λ len.
-        (len < length held.now) × HasNoLineFeed (take len held.now) × (slice_index held.now len ≡ LINE_FEED)) }
-{
-    memchr(LINE_FEED, held)
 }
 
 // The line, without a carriage return that belongs to its end.

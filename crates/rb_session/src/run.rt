@@ -6,7 +6,6 @@ ghost use Rattle.rb_session.specs.Rules.{session_rules, HadGotBehind};
 ghost use Rattle.rb_session.specs.Ran.{Ran};
 ghost use Rattle.rb_session.specs.Progress.{end_of};
 ghost use Rattle.rb_session.specs.Reasons.{IsReason};
-ghost use Rattle.rb_session.specs.declared.delivery.Delivery.TheVariants.{AtOnce};
 
 use crate::delivery::Delivery;
 use crate::ended::Ended;
@@ -37,7 +36,7 @@ pub fn run_session<R: Read, W: Write, D: Desk>(
         (R.remaining reader.old) (R.remaining reader.new)
         (W.contents writer.old) (W.contents writer.new)
         (λ came sent. Ran
-        (session_rules (desk_rules D.Desk policy.now) AtOnce (HadGotBehind W.contents (W.contents writer.old)))
+        (session_rules (desk_rules D.Desk policy.now) Delivery.AtOnce (HadGotBehind W.contents (W.contents writer.old)))
         (IsAtEnd (R.remaining reader.new))
         (D.state desk.old) (record { came = came; sent = sent; ended = result }) (D.state desk.new)) }
     ensures name { D.name (D.state desk.new) ≡ D.name (D.state desk.old) }

@@ -6,7 +6,6 @@ ghost use Rattle.rb_protocol.specs.Line.{HasNoLineFeed};
 ghost use Rattle.rb_protocol.specs.Reads.{HasNotFailed};
 ghost use Rattle.rb_session.specs.Buffer.{IsUnserved};
 ghost use Rattle.rb_session.specs.Outlet.{sent_to, rules_at, Becomes};
-ghost use Rattle.rb_protocol.specs.declared.request.Request.TheVariants.{Quit};
 ghost use Rattle.rb_session.specs.Turn.{point};
 ghost use Rattle.rb_session.specs.Exchange.{Exchanges};
 ghost use Rattle.rb_session.specs.Reasons.{IsReason};
@@ -69,13 +68,11 @@ impl Session {
     {
         loop {
             let Some(reading) = self.buffer.next_request() else {
-                match read_more(&mut self.buffer, reader, outlet)? {
-                    Some(stop) => {
-                        outlet.hand_on()?;
-                        return Ok(stop);
-                    }
-                    None => continue,
-                }
+                let Some(stop) = read_more(&mut self.buffer, reader, outlet)? else {
+                    continue;
+                };
+                outlet.hand_on()?;
+                return Ok(stop);
             };
             outlet.before_line(&reading)?;
             let quits = is_quit(&reading);
@@ -130,7 +127,7 @@ fn read_more<R: Read, W: Write>(
 
 // Whether a line ends the session.
 fn is_quit(reading: &Result<Request, LineFault>) -> bool
-    ensures { IsTrue result ↔ (reading.now ≡ Ok Quit) }
+    ensures { IsTrue result ↔ (reading.now ≡ Ok Request.Quit) }
 {
     matches!(reading, Ok(Request::Quit))
 }

@@ -25,14 +25,12 @@ use std::time;
 /// desk takes no memory of its own.
 pub struct SharedDesk<'a, T: Timer, C: Clock, G: Gate, R: Wait + time::Clock> {
     rt: &'a R,
-    shared: &'a Shared<T>,
+    waiter: Waiter<'a, T, C>,
     pass: &'a mut Pass<T>,
-    clock: &'a C,
     gate: &'a mut G,
-    bell: &'a Bell,
     // The pass as it was when the desk was made, which only proofs read.
     start: Snapshot<Pass<T>>,
-    ghost of: { pass.now.table ≡ shared.now },
+    ghost of: { pass.now.table ≡ waiter.shared.now },
     ghost earlier: { length start.value.mine ≤ length pass.now.mine },
 }
 
@@ -61,13 +59,16 @@ impl<'a, T: Timer, C: Clock, G: Gate, R: Wait + time::Clock> SharedDesk<'a, T, C
         // For the proof: the pass has seen a legal history.
         let _ = pass.name();
         let start = Snapshot::of(&*pass);
+        let waiter = Waiter {
+            shared,
+            clock,
+            bell,
+        };
         SharedDesk {
             rt,
-            shared,
+            waiter,
             pass,
-            clock,
             gate,
-            bell,
             start,
         }
     }
@@ -90,11 +91,9 @@ impl<'a, T: Timer, C: Clock, G: Gate, R: Wait + time::Clock> Drop for SharedDesk
     {
         let SharedDesk {
             rt: _,
-            shared: _,
+            waiter: _,
             pass: _,
-            clock: _,
             gate: _,
-            bell: _,
             start: _,
         } = self;
     }
@@ -106,7 +105,7 @@ impl<'a, T: Timer, C: Clock, G: Gate, R: Wait + time::Clock> Desk for SharedDesk
     ghost state = { λ desk. record {
       reference = desk.pass.ghost_name;
       pass = desk.pass.now;
-      clock = desk.clock.now;
+      clock = desk.waiter.clock.now;
       gate = desk.gate.now;
       before = length desk.start.value.mine;
     } };
@@ -124,7 +123,7 @@ impl<'a, T: Timer, C: Clock, G: Gate, R: Wait + time::Clock> Desk for SharedDesk
     ghost Steps = { SharedSteps (wait_rules C.Clock G.Gate) };
 
     fn now(&self) -> u64 {
-        self.clock.now()
+        self.waiter.clock.now()
     }
 
     fn set(&mut self, _moment: u64) -> Option<u64> {
@@ -137,15 +136,11 @@ impl<'a, T: Timer, C: Clock, G: Gate, R: Wait + time::Clock> Desk for SharedDesk
         let _ = self.pass.name();
         match ask {
             Ask::Take | Ask::PollFor { .. } => {
-                let waiter = Waiter {
-                    shared: self.shared,
-                    clock: self.clock,
-                    bell: self.bell,
-                };
-                call_and_wait(self.rt, &waiter, self.pass, self.gate, &ask).map_err(desk_fault_of)
+                call_and_wait(self.rt, &self.waiter, self.pass, self.gate, &ask)
+                    .map_err(desk_fault_of)
             }
             Ask::Offer(draft) => Ok(Reply::Offered(self.offer(asked, draft)?)),
-            _ => match self.shared.call(self.rt, self.pass, asked, ask)? {
+            _ => match self.waiter.shared.call(self.rt, self.pass, asked, ask)? {
                 Outcome::Done(reply) => Ok(reply),
                 Outcome::Later(_) => unreachable!(),
             },
@@ -156,7 +151,7 @@ impl<'a, T: Timer, C: Clock, G: Gate, R: Wait + time::Clock> Desk for SharedDesk
     fn offer(&mut self, asked: u64, draft: Draft) -> Result<Element, CallFault> {
         // For the proof: the pass has seen a legal history.
         let _ = self.pass.name();
-        offer_ring(self.rt, self.shared, self.pass, asked, draft, self.bell)
+        offer_ring(self.rt, self.waiter.shared, self.pass, asked, draft, self.waiter.bell)
     }
 
     ghost makes = { shared_makes (wait_rules C.Clock G.Gate) };

@@ -52,7 +52,7 @@ returns-in-Ok-Again g c =
     at_place _ c.in-Some.place (sym c.place_of.ensures ∙ c.in-Some.is) _ _ (
       c.take_out.result,
       c.take_out.ensures.job,
-      Ok (Again c.in-Ok-Again.again),
+      Ok (Again c.in-Ok-Again.field-0-0),
       failed g (goal.at.returns-in-Ok-Again g c).After-fail _ (c.in-Ok-Again.is ∙ ap Ok c.in-Ok-Again.field-0-is),
       refl,
       c.take_out.ensures.rest,

@@ -1,6 +1,6 @@
 -- The first line feed ends the first line, which is read as it stands or was too long already.
 use Rattle.std.proofs.Common.{◌≡◌, ◌+◌, ◌<◌, List, ℕ, Err, ◌-◌, length, length-drop, length-take, take, drop, ap, refl}
-use Rattle.std.proofs.Common.{sym, subst, ◌∙◌, arith, Bool, true, false, Result}
+use Rattle.std.proofs.Common.{sym, subst, ◌∙◌, arith, Bool, true, false, Result, Some}
 use Rattle.std.specs.Prelude.{slice_range, MatchBool}
 use Rattle.rb_session.specs.Buffer.{held_by}
 use Rattle.rb_session.specs.Lines.{line_of}
@@ -10,6 +10,7 @@ use Rattle.rb_protocol.specs.declared.request.Request.{Request}
 use Rattle.rb_protocol.specs.Reading.{IsReading}
 use Rattle.rb_session.specs.declared.line_buffer.TheConstants.{MOST_RAW_BYTES}
 use Rattle.rb_session.proofs.Buffers.{first_line, range_after, length-line_of}
+use Rattle.rb_session.proofs.LineFeeds.{first_feed}
 use Rattle.rb_session.proofs.line_buffer.LineBuffer.next_request.Goals as goal
 use Rattle.rb_session.proofs.line_buffer.LineBuffer.next_request.Goals.{then-self, else-self}
 
@@ -30,7 +31,7 @@ reading_is false raw front reading same long short =
 pub returns-clause-line : goal.returns-clause-line
 returns-clause-line c bytes unserved =
     let self = c.args.self.now in
-    let feed = rw c.deref.ensures.value at c.in_ok-len.ensures in
+    let feed = first_feed (held_by self) (Some c.in_ok-len.len) (rw c.deref.ensures.value at c.in_ok-len.ensures) in
     let found = first_line self.is_long MOST_RAW_BYTES (held_by self) bytes c.in_ok-len.len feed.0 feed.1 feed.2
     unserved in
     let left = range_after self.bytes.items self.start (c.in_ok-len.len + 1) self.end

@@ -70,16 +70,16 @@ returns-in_err-stop-clause-becomes g c =
     becomes_on g.W.Write _ _ _ c.loop-reading.invariant.becomes c.read_more.ensures.becomes
 
 -- a read, or that there may be none, stopped the session
-pub loop-reading-preserved-in-None : goal.loop-reading-preserved-in-None
-loop-reading-preserved-in-None g c =
+pub loop-reading-preserved-in_default-2 : goal.loop-reading-preserved-in_default-2
+loop-reading-preserved-in_default-2 g c =
     let s = c.loop-reading.invariant.served in
     let rest = c.in_default.ensures.line s.holds.0.unserved s.holds.1 in
-    let read = rw c.in-None.is at (c.in_ok-stop.ensures.came s.holds.0.unserved rest.1 rest.0) in
+    let read = rw c.in_default-2.is at (c.in_ok-stop.ensures.came s.holds.0.unserved rest.1 rest.0) in
     record {
       served = exchanges_more s _ (Keeps-refl _) read.came read.sent _ read.consumed read.appended
           (reads_more _ s.holds.0 read.came read.sent read.holds.0 c.read_more.new.buffer read.holds.1);
       counted = omega (arith, c.loop-reading.invariant.counted, c.read_more.ensures.counted);
-      still = λ failed. c.loop-reading.invariant.still ((rw c.in-None.is at c.in_ok-stop.ensures.reason) failed);
+      still = λ failed. c.loop-reading.invariant.still ((rw c.in_default-2.is at c.in_ok-stop.ensures.reason) failed);
       same_reference = c.read_more.ensures.same_reference ∙ c.loop-reading.invariant.same_reference;
       becomes = becomes_on g.W.Write _ _ _ c.loop-reading.invariant.becomes c.read_more.ensures.becomes;
     }
@@ -99,30 +99,30 @@ stopped g c =
     (stops_reading _ _ s.holds.0 rest.0 read.came read.sent c.loop-reading.outlet.delivery c.in-Some-2.stop
     c.read_more.new.buffer read.holds)
 
-pub returns-in-Some-2-clause-stops : goal.returns-in-Some-2-clause-stops
-returns-in-Some-2-clause-stops g c =
-    let s = stopped g (goal.at.returns-in-Some-2-clause-stops g c).In-Some-2 in
+pub returns-in_default-clause-stops : goal.returns-in_default-clause-stops
+returns-in_default-clause-stops g c =
+    let s = stopped g (goal.at.returns-in_default-clause-stops g c).In-Some-2 in
     exchanges_same s _ c.hand_on.ensures.kept (Keeps-refl _) s.holds
 
-pub returns-in-Some-2-clause-becomes : goal.returns-in-Some-2-clause-becomes
-returns-in-Some-2-clause-becomes g c =
+pub returns-in_default-clause-becomes : goal.returns-in_default-clause-becomes
+returns-in_default-clause-becomes g c =
     becomes_on g.W.Write _ _ _
     (becomes_on g.W.Write _ _ _ c.loop-reading.invariant.becomes c.read_more.ensures.becomes)
     c.hand_on.ensures.becomes
 
 -- and then a reply could not be handed on
-pub returns-in_err-hand_on-in-Some-2-clause-stops : goal.returns-in_err-hand_on-in-Some-2-clause-stops
-returns-in_err-hand_on-in-Some-2-clause-stops g c =
-    let s = stopped g (goal.at.returns-in_err-hand_on-in-Some-2-clause-stops g c).In-Some-2 in
+pub returns-in_err-hand_on-clause-stops : goal.returns-in_err-hand_on-clause-stops
+returns-in_err-hand_on-clause-stops g c =
+    let s = stopped g (goal.at.returns-in_err-hand_on-clause-stops g c).In-Some-2 in
     let late = subst (λ (d : Delivery). IsGathered d)
     (c.read_more.ensures.becomes.delivery ∙ c.loop-reading.invariant.becomes.delivery)
-    (gathers _ _ c.in_err-hand_on-in-Some-2.ensures.late c.read_more.new.outlet.few) in
+    (gathers _ _ c.in_err-hand_on.ensures.late c.read_more.new.outlet.few) in
     exchanges_same s _ c.hand_on.ensures.kept (Keeps-refl _)
-    (stops_failed _ _ _ _ _ c.from_residual-in_err-hand_on-in-Some-2.result
-    c.from_residual-in_err-hand_on-in-Some-2.ensures.0 (stops_late _ _ late _ _ _ c.in-Some-2.stop s.holds))
+    (stops_failed _ _ _ _ _ c.from_residual-in_err-hand_on.result
+    c.from_residual-in_err-hand_on.ensures.0 (stops_late _ _ late _ _ _ c.in-Some-2.stop s.holds))
 
-pub returns-in_err-hand_on-in-Some-2-clause-becomes : goal.returns-in_err-hand_on-in-Some-2-clause-becomes
-returns-in_err-hand_on-in-Some-2-clause-becomes g c =
+pub returns-in_err-hand_on-clause-becomes : goal.returns-in_err-hand_on-clause-becomes
+returns-in_err-hand_on-clause-becomes g c =
     becomes_on g.W.Write _ _ _
     (becomes_on g.W.Write _ _ _ c.loop-reading.invariant.becomes c.read_more.ensures.becomes)
     c.hand_on.ensures.becomes
@@ -208,19 +208,19 @@ returns-then-quits-clause-becomes g c =
     c.send_replies.ensures.becomes) c.hand_on-then-quits.ensures.becomes
 
 -- and then a reply could not be handed on
-pub returns-in_err-hand_on-clause-stops : goal.returns-in_err-hand_on-clause-stops
-returns-in_err-hand_on-clause-stops g c =
-    let s = ended g (goal.at.returns-in_err-hand_on-clause-stops g c).Then-quits in
+pub returns-in_err-hand_on-2-clause-stops : goal.returns-in_err-hand_on-2-clause-stops
+returns-in_err-hand_on-2-clause-stops g c =
+    let s = ended g (goal.at.returns-in_err-hand_on-2-clause-stops g c).Then-quits in
     let late = subst (λ (d : Delivery). IsGathered d)
     (c.send_replies.ensures.becomes.delivery ∙ c.before_line.ensures.becomes.delivery
     ∙ c.loop-reading.invariant.becomes.delivery)
-    (gathers _ _ c.in_err-hand_on.ensures.late c.send_replies.new.outlet.few) in
+    (gathers _ _ c.in_err-hand_on-2.ensures.late c.send_replies.new.outlet.few) in
     exchanges_same s _ c.hand_on-then-quits.ensures.kept (Keeps-refl _)
-    (stops_failed _ _ _ _ _ c.from_residual-in_err-hand_on.result c.from_residual-in_err-hand_on.ensures.0
+    (stops_failed _ _ _ _ _ c.from_residual-in_err-hand_on-2.result c.from_residual-in_err-hand_on-2.ensures.0
     (inr (late, inl s.holds)))
 
-pub returns-in_err-hand_on-clause-becomes : goal.returns-in_err-hand_on-clause-becomes
-returns-in_err-hand_on-clause-becomes g c =
+pub returns-in_err-hand_on-2-clause-becomes : goal.returns-in_err-hand_on-2-clause-becomes
+returns-in_err-hand_on-2-clause-becomes g c =
     becomes_on g.W.Write _ _ _
     (becomes_on g.W.Write _ _ _
     (becomes_on g.W.Write _ _ _ c.loop-reading.invariant.becomes c.before_line.ensures.becomes)
