@@ -25,7 +25,8 @@ pub fn opening_in(alloc: Global, text: &[u8]) -> Result<Opening, BrokerFault>
     };
     match opening_of(alloc, &history) {
         Ok(opening) => Ok(opening),
-        Err(OpeningFault::At { .. } | OpeningFault::TooLarge) => Err(BrokerFault::BadOpening),
+        Err(OpeningFault::At { .. }) => Err(BrokerFault::BadOpening),
+        Err(OpeningFault::TooLarge) => Err(BrokerFault::BadOpening),
         Err(OpeningFault::Memory) => Err(BrokerFault::Memory),
     }
 }

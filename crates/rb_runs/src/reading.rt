@@ -14,8 +14,7 @@ use std::io::{ErrorKind, Read};
 pub fn read_all<R: Read>(alloc: Global, reader: &mut R) -> Result<Vec<u8>, BrokerFault>
     ensures { ReadsAll (R.remaining reader.old) result (R.remaining reader.new) }
 {
-    let mut limited = LimitedReader::new(reader);
-    read_all_limited(alloc, &mut limited)
+    read_all_limited(alloc, &mut LimitedReader::new(reader))
 }
 
 /// Everything that a reader with a limited number of reads gives, like `read_all`.
@@ -34,13 +33,27 @@ pub fn read_all_limited<R: Read>(
     ensures same_reference { reader.new.inner.ghost_name ≡ reader.old.inner.ghost_name }
 {
     let mut piece = vec![in alloc; 0; BUFFER_BYTES]?;
+    read_pieces(alloc, reader, &mut piece)
+}
+
+// Reads piece after piece, until there is no more.
+fn read_pieces<R: Read>(
+    alloc: Global,
+    reader: &mut LimitedReader<'_, R>,
+    piece: &mut [u8],
+) -> Result<Vec<u8>, BrokerFault>
+    requires { 0 < length piece.old }
+    ensures reads { ReadsAll (R.remaining reader.old.inner.now) result (R.remaining reader.new.inner.now) }
+    ensures used_up { result ≡ Err BrokerFault.ReadTurns → reader.new.left ≡ 0 }
+    ensures reason { IsReadReason reader.old.state reader.new.state result }
+    ensures counted { reader.new.left ≤ reader.old.left }
+    ensures same_reference { reader.new.inner.ghost_name ≡ reader.old.inner.ghost_name }
+{
     let mut text = Vec::new(alloc);
     while reader.may_read() {
-        match reader.read(&mut piece) {
+        match reader.read(piece) {
             Ok(0) => return Ok(text),
-            Ok(count) => {
-                text.extend_from_slice(&piece[..count])?;
-            }
+            Ok(count) => text.extend_from_slice(&piece[..count])?,
             Err(fault) if fault.kind() == ErrorKind::Interrupted => {}
             Err(_) => return Err(BrokerFault::ReadHistory),
         }

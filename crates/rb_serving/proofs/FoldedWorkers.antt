@@ -6,20 +6,21 @@ use Rattle.rb_lock.specs.Passes.{PassState, Learns, record_of, folded_with}
 use Rattle.rb_lock.specs.declared.pass_record.PassRecord.{PassRecord}
 use Rattle.rb_serving.specs.Terms.{Terms}
 use Rattle.rb_serving.specs.Serving.{FoldsWorkers, IsWorkerResult}
-use Rattle.rb_serving.specs.VisitCounts.{no_visit, both_counts}
+use Rattle.rb_serving.specs.VisitCounts.{both_counts}
 use Rattle.rb_serving.specs.Visits.{IsWorker, AreWorkers, all_visits, counts_of}
 use Rattle.rb_serving.specs.declared.visit_counts.VisitCounts.{VisitCounts}
 use Rattle.rb_serving.proofs.ServedVisits.{counts_both, workers_more}
 
 module _ {I O G C : Type 0} (terms : Terms I O G C) where
   -- no worker leaves the pass as it is
-  pub folds_none : (count : ℕ) (pass : PassState) → count ≡ 0 → FoldsWorkers terms count pass pass no_visit
-  folds_none count pass none = record {
+  pub folds_none : (count : ℕ) (pass : PassState) (counts : VisitCounts) → count ≡ 0 → counts ≡ counts_of []
+      → FoldsWorkers terms count pass pass counts
+  folds_none count pass counts none uncounted = record {
     records = [];
     many = sym none;
     visits = [];
     served = tt;
-    counted = refl;
+    counted = uncounted;
     folded = sym (append-nil pass.folded);
     table = refl;
     capacity = refl;

@@ -11,9 +11,6 @@ use Rattle.rb_serving.specs.declared.visit_counts.VisitCounts.{VisitCounts}
 abbrev pub counts_in : {T : Type 0} → ServeReport T → VisitCounts
 counts_in report = record { sessions = report.sessions; faults = report.faults; lost = report.lost }
 
-abbrev pub no_visit : VisitCounts
-no_visit = record { sessions = 0; faults = 0; lost = 0 }
-
 -- a visit that was refused at the door
 abbrev pub refused_visit : VisitCounts
 refused_visit = record { sessions = 1; faults = 1; lost = 0 }

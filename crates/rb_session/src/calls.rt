@@ -1,4 +1,4 @@
-ghost use Rattle.std.specs.Prelude.{◌≡◌, ℕ, ◌+◌, List, [], ◌∷◌, Result, MatchBool, nat_le};
+ghost use Rattle.std.specs.Prelude.{◌≡◌, ◌+◌, Result, MatchBool, nat_le};
 ghost use Rattle.rb_queue.specs.declared.reply.Reply.{Reply};
 ghost use Rattle.rb_retry.specs.declared.desk_fault.DeskFault.{DeskFault};
 ghost use Rattle.rb_session.specs.Turn.{fault_line, reply_line};

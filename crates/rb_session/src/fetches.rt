@@ -1,4 +1,4 @@
-ghost use Rattle.std.specs.Prelude.{◌≡◌, ℕ, ◌-◌, ◌<◌, min, length};
+ghost use Rattle.std.specs.Prelude.{◌-◌, ◌<◌, min, length};
 ghost use Rattle.rb_retry.specs.Jobs.{answer_with};
 ghost use Rattle.rb_session.specs.Turn.{point, IsCall, IsFetch};
 ghost use Rattle.rb_session.specs.Progress.{replies_of, FetchesOne, IsHolding};

@@ -1,4 +1,4 @@
-ghost use Rattle.std.specs.Prelude.{◌≡◌, ◌∷◌, [], MatchOption, remove};
+ghost use Rattle.std.specs.Prelude.{◌≡◌, MatchOption, remove};
 ghost use Rattle.rb_retry.specs.DeskRules.{desk_rules};
 ghost use Rattle.rb_session.specs.Held.{place_of};
 ghost use Rattle.rb_session.specs.Turn.{point, AnswersAlone, IsFailure};

@@ -1,5 +1,4 @@
-ghost use Rattle.std.specs.Prelude.{◌≡◌, ℕ, ◌+◌, ◌-◌, ◌<◌, ◌≤◌, ◌∷◌, ◌++◌, [], List, Ok, Err};
-ghost use Rattle.std.specs.Prelude.{length, drop, insert, remove, slice_get, IfOk, MatchResult, Some};
+ghost use Rattle.std.specs.Prelude.{◌≡◌, ◌+◌, ◌-◌, ◌<◌, ◌≤◌, ◌∷◌, ◌++◌, [], List, length, drop, insert, remove, slice_get, IfOk, MatchResult};
 ghost use Rattle.rb_delayed.specs.declared.element.Element.{Element};
 ghost use Rattle.rb_session.specs.Held.{place_of};
 

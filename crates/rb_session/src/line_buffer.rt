@@ -1,9 +1,7 @@
-ghost use Rattle.std.specs.Prelude.{◌≡◌, ℕ, ◌+◌, ◌-◌, ◌<◌, ◌≤◌, List, [], ◌∷◌, ◌++◌, ◌↔◌};
-ghost use Rattle.std.specs.Prelude.{length, take, slice_index, vec_len, IfOk, IfSome, IsTrue, MatchOption};
+ghost use Rattle.std.specs.Prelude.{◌≡◌, ℕ, ◌+◌, ◌-◌, ◌<◌, ◌≤◌, ◌↔◌, List, [], length, vec_len, IfOk, IfSome, IsTrue};
 ghost use Rattle.rb_protocol.specs.Line.{HasNoLineFeed};
 ghost use Rattle.rb_protocol.specs.Reads.{IsAfterRead};
 ghost use Rattle.rb_session.specs.Lines.{line_of};
-ghost use Rattle.rb_protocol.specs.Reading.{IsReading};
 ghost use Rattle.rb_protocol.specs.declared.limits.TheConstants.{BUFFER_BYTES};
 ghost use Rattle.rb_session.specs.declared.line_buffer.TheConstants.{MOST_RAW_BYTES};
 
@@ -89,13 +87,9 @@ impl LineBuffer {
     {
         self.make_room();
         let end = self.end;
-        match reader.read(&mut self.bytes[end..]) {
-            Ok(count) => {
-                self.end += count;
-                Ok(count)
-            }
-            Err(error) => Err(error),
-        }
+        let count = reader.read(&mut self.bytes[end..])?;
+        self.end += count;
+        Ok(count)
     }
 
     /// Whether there are bytes after the last line feed.

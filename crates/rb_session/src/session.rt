@@ -1,5 +1,4 @@
-ghost use Rattle.std.specs.Prelude.{◌≡◌, ◌≤◌, ◌+◌, ◌↔◌, ℕ, List, [], Ok, Some, None, IfOk, OnOk};
-ghost use Rattle.std.specs.Prelude.{IsTrue, MatchOption, MatchResult};
+ghost use Rattle.std.specs.Prelude.{◌≡◌, ◌≤◌, ◌+◌, ℕ, List, [], IfOk, OnOk, MatchOption, MatchResult};
 ghost use Rattle.std.specs.Io.KnownBytes.{IsAtEnd};
 ghost use Rattle.rb_retry.specs.DeskRules.{desk_rules};
 ghost use Rattle.rb_protocol.specs.Line.{HasNoLineFeed};
@@ -17,7 +16,7 @@ use crate::line_buffer::LineBuffer;
 use crate::outlet::Outlet;
 use crate::replies::send_replies;
 use crate::stop::Stop;
-use rb_protocol::{ErrWord, LimitedReader, LineFault, LineReply, Request, WriteFault};
+use rb_protocol::{ErrWord, LimitedReader, LineReply, Request, WriteFault};
 use rb_retry::{Desk, Policy};
 use std::alloc::{AllocError, Global};
 use std::io::{ErrorKind, Read, Write};
@@ -75,7 +74,7 @@ impl Session {
                 return Ok(stop);
             };
             outlet.before_line(&reading)?;
-            let quits = is_quit(&reading);
+            let quits = matches!(reading, Ok(Request::Quit));
             let reply = answer(desk, &mut self.held, policy, reading);
             send_replies(outlet, &reply, &self.held)?;
             if quits {
@@ -123,11 +122,4 @@ fn read_more<R: Read, W: Write>(
         Err(error) if error.kind() == ErrorKind::Interrupted => Ok(None),
         Err(_) => Ok(Some(Stop::Read)),
     }
-}
-
-// Whether a line ends the session.
-fn is_quit(reading: &Result<Request, LineFault>) -> bool
-    ensures { IsTrue result ↔ (reading.now ≡ Ok Request.Quit) }
-{
-    matches!(reading, Ok(Request::Quit))
 }

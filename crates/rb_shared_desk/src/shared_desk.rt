@@ -1,5 +1,4 @@
 ghost use Rattle.std.specs.Prelude.{◌≡◌, ◌≤◌, length};
-ghost use Rattle.rb_kept.specs.declared.kept.TheConstants.{MOST_CALLS};
 ghost use Rattle.rb_shared_desk.specs.WaitRules.{wait_rules};
 ghost use Rattle.rb_shared_desk.specs.SharedSteps.{SharedState, SharedName, SharedSteps, SetsShared};
 ghost use Rattle.rb_shared_desk.specs.SharedSteps.{fault_of_wait, made_through, name_of};
@@ -8,7 +7,7 @@ ghost use Rattle.rb_shared_desk.specs.SharedLaws.{shared_keeps_name, shared_sets
 
 use rb_blocking::{Bell, Clock, Gate, WaitFault, Waiter, call_and_wait, offer_ring};
 use rb_delayed::Element;
-use rb_kept::{CallFault, Outcome};
+use rb_kept::{CallFault, MOST_CALLS, Outcome};
 use rb_lock::{Pass, Shared};
 use rb_queue::{Ask, Draft, Reply};
 use rb_retry::{Desk, DeskFault};
@@ -74,16 +73,6 @@ impl<'a, T: Timer, C: Clock, G: Gate, R: Wait + time::Clock> SharedDesk<'a, T, C
     }
 }
 
-// The desk's fault for a wait that got no reply.
-fn desk_fault_of(fault: WaitFault) -> DeskFault
-    ensures { result ≡ fault_of_wait fault }
-{
-    match fault {
-        WaitFault::Full => DeskFault::Full,
-        WaitFault::Stopped => DeskFault::Stopped,
-    }
-}
-
 // Written by hand, to say that what the pass has seen stays with its owner.
 impl<'a, T: Timer, C: Clock, G: Gate, R: Wait + time::Clock> Drop for SharedDesk<'a, T, C, G, R> {
     fn drop(self)
@@ -136,8 +125,12 @@ impl<'a, T: Timer, C: Clock, G: Gate, R: Wait + time::Clock> Desk for SharedDesk
         let _ = self.pass.name();
         match ask {
             Ask::Take | Ask::PollFor { .. } => {
-                call_and_wait(self.rt, &self.waiter, self.pass, self.gate, &ask)
-                    .map_err(desk_fault_of)
+                call_and_wait(self.rt, &self.waiter, self.pass, self.gate, &ask).map_err(
+                    |fault| match fault {
+                        WaitFault::Full => DeskFault::Full,
+                        WaitFault::Stopped => DeskFault::Stopped,
+                    },
+                )
             }
             Ask::Offer(draft) => Ok(Reply::Offered(self.offer(asked, draft)?)),
             _ => match self.waiter.shared.call(self.rt, self.pass, asked, ask)? {
@@ -151,7 +144,8 @@ impl<'a, T: Timer, C: Clock, G: Gate, R: Wait + time::Clock> Desk for SharedDesk
     fn offer(&mut self, asked: u64, draft: Draft) -> Result<Element, CallFault> {
         // For the proof: the pass has seen a legal history.
         let _ = self.pass.name();
-        offer_ring(self.rt, self.waiter.shared, self.pass, asked, draft, self.waiter.bell)
+        let (shared, bell) = (self.waiter.shared, self.waiter.bell);
+        offer_ring(self.rt, shared, self.pass, asked, draft, bell)
     }
 
     ghost makes = { shared_makes (wait_rules C.Clock G.Gate) };

@@ -8,6 +8,6 @@ returns g c =
     let pieces = c.read_all_limited in
     let left = g.R.Read.remaining pieces.new.reader.inner.now in
     let all : ReadsAll (g.R.Read.remaining c.args.reader.now) pieces.result left =
-    subst (λ (old : Option (List ℕ)). ReadsAll old pieces.result left) (ap g.R.Read.remaining c.new-limited.ensures.same) pieces.ensures.reads in
-    let name = sym (pieces.ensures.same_reference ∙ c.new-limited.ensures.same_reference) in
+    subst (λ (old : Option (List ℕ)). ReadsAll old pieces.result left) (ap g.R.Read.remaining c.new.ensures.same) pieces.ensures.reads in
+    let name = sym (pieces.ensures.same_reference ∙ c.new.ensures.same_reference) in
     search rules

@@ -6,6 +6,7 @@ use Rattle.rb_session.specs.Buffer.{held_by}
 use Rattle.rb_session.specs.declared.line_buffer.TheConstants.{MOST_RAW_BYTES}
 use Rattle.rb_session.proofs.Buffers.{range_more, unserved_more, unserved_same, length-written}
 use Rattle.std.proofs.lemmas.List.{with_items_is, length-take-le, append-nil}
+use Rattle.std.proofs.lemmas.Result.{err_from_is_err_and}
 use Rattle.rb_session.proofs.line_buffer.LineBuffer.read_from.Given.{Over}
 use Rattle.rb_session.proofs.line_buffer.LineBuffer.read_from.Goals as goal
 use Rattle.rb_session.proofs.line_buffer.LineBuffer.read_from.Goals.{After-read}
@@ -34,26 +35,27 @@ held_more g c count end is fits =
     ∙ ap (λ (ys : List ℕ). slice_range ys before.start before.end ++ take count c.read.new.buf)
     c.deref_mut.ensures.value
 
-pub returns-in-Ok-clause-taken : goal.returns-in-Ok-clause-taken
-returns-in-Ok-clause-taken g c bytes unserved none =
+pub returns-clause-taken : goal.returns-clause-taken
+returns-clause-taken g c bytes unserved none =
     let before = c.make_room.new.self in
     let room : 0 < length c.read.new.buf = omega (arith, c.make_room.ensures.room, c.deref_mut.ensures.len) in
-    let grows = held_more g (goal.at.returns-in-Ok-clause-taken g c).After-read c.in-Ok.count _ refl
-    c.in-Ok.ensures.bound.0 in (
-      take c.in-Ok.count c.read.new.buf,
-      c.in-Ok.ensures.bytes.0,
+    let grows = held_more g (goal.at.returns-clause-taken g c).After-read c.in_ok-count.count _ refl
+    c.in_ok-count.ensures.bound.0 in (
+      take c.in_ok-count.count c.read.new.buf,
+      c.in_ok-count.ensures.bytes.0,
       unserved_more before.is_long MOST_RAW_BYTES (held_by before) _ _ bytes grows
           (c.make_room.ensures.kept bytes unserved none),
-      length-take-le c.in-Ok.count c.read.new.buf c.in-Ok.ensures.bound.0,
-      λ zero. c.in-Ok.ensures.bytes.1 zero room,
+      length-take-le c.in_ok-count.count c.read.new.buf c.in_ok-count.ensures.bound.0,
+      λ zero. c.in_ok-count.ensures.bytes.1 zero room,
     )
 
-pub returns-in-Err-clause-taken : goal.returns-in-Err-clause-taken
-returns-in-Err-clause-taken g c bytes unserved none =
+pub returns-in_err-count-clause-taken : goal.returns-in_err-count-clause-taken
+returns-in_err-count-clause-taken g c bytes unserved none =
     let before = c.make_room.new.self in
-    let same = held_more g (goal.at.returns-in-Err-clause-taken g c).After-read 0 before.end (omega arith) (omega arith)
-    ∙ append-nil (held_by before) in (
-      c.in-Err.ensures.bytes,
+    let same = held_more g (goal.at.returns-in_err-count-clause-taken g c).After-read 0 before.end (omega arith) (omega arith)
+    ∙ append-nil (held_by before) in
+    rw (err_from_is_err_and c.from_residual.result c.from_residual.ensures.1).1 (
+      c.in_err-count.ensures.bytes,
       unserved_same before.is_long MOST_RAW_BYTES (held_by before) _ bytes same
           (c.make_room.ensures.kept bytes unserved none),
     )

@@ -1,5 +1,5 @@
 -- Each line adds its turn to those before it, each read adds bytes behind them, and each way out is an end.
-use Rattle.std.proofs.Common.{◌≡◌, refl, [], Ok, inl, inr, sym, subst, ◌∙◌, true, false, arith}
+use Rattle.std.proofs.Common.{rules, ◌≡◌, refl, [], Ok, inl, inr, sym, subst, ◌∙◌, true, false, arith}
 use Rattle.std.proofs.KnownBytes.{Appends-nil, Appends-kept, Consumes-nil, Keeps-refl}
 use Rattle.std.specs.Io.KnownBytes.{IsAtEnd}
 use Rattle.rb_retry.specs.DeskRules.{desk_rules}
@@ -17,6 +17,7 @@ use Rattle.rb_session.proofs.Turns.{serves_none, reads_more, goes_on, quits, fai
 use Rattle.rb_session.proofs.session.Session.serve.Given.{Over}
 use Rattle.rb_session.proofs.session.Session.serve.Goals as goal
 use Rattle.rb_session.proofs.session.Session.serve.Goals.{After-next_request, After-answer-reply, In-Some-2, Then-quits}
+use Rattle.rb_session.proofs.session.Session.serve.Goals.{in-Ok-Quit, in_default-matches, in_default-matches-2}
 
 abbrev own : (g : Over) → After-next_request g → SessionRules g.D.Desk.State
 own g c = rules_at (desk_rules g.D.Desk c.args.policy.now) g.W.Write c.args.outlet.now
@@ -169,7 +170,11 @@ loop-reading-preserved g c =
           (texts_of (replies_of c.answer-reply.result c.answer-reply.new.held)) _ c.in_ok-send_replies.ensures.sent
           (goes_on _ s.holds.0 (after g on) line.0 line.1 c.in-Some.reading _ line.2 (line.3, line.4) (waits g on)
           c.answer-reply.ensures
-          (λ quit. let clash : true ≡ false = sym (c.is_quit-quits.ensures.1 quit) ∙ c.if-quits.false in absurd (cc))
+          (λ quit. elim c.match-matches.branch [
+            | in-Ok-Quit w ↦ let clash : true ≡ false = sym w.matches-is ∙ c.if-quits.false in absurd (cc)
+            | in_default-matches w ↦ let arm = w.in_default-matches in search rules
+            | in_default-matches-2 w ↦ let arm = w.in_default-matches in search rules
+          ])
           c.next_request.new.self line.5);
       counted = c.loop-reading.invariant.counted;
       still = c.loop-reading.invariant.still;
@@ -193,7 +198,11 @@ ended g c =
     exchanges_sent s _ c.before_line.ensures.kept
     (texts_of (replies_of c.answer-reply.result c.answer-reply.new.held)) _ c.in_ok-send_replies.ensures.sent
     (quits _ s.holds.0 (after g on) line.0 line.1 c.in-Some.reading _ line.2 (line.3, line.4) (waits g on)
-    c.answer-reply.ensures line.6 (c.is_quit-quits.ensures.0 c.if-quits.true))
+    c.answer-reply.ensures line.6 (elim c.match-matches.branch [
+      | in-Ok-Quit w ↦ let arm = w.in-Ok-Quit in search rules
+      | in_default-matches w ↦ let clash : true ≡ false = sym c.if-quits.true ∙ w.matches-is in absurd (cc)
+      | in_default-matches-2 w ↦ let clash : true ≡ false = sym c.if-quits.true ∙ w.matches-is in absurd (cc)
+    ]))
 
 pub returns-then-quits-clause-stops : goal.returns-then-quits-clause-stops
 returns-then-quits-clause-stops g c =

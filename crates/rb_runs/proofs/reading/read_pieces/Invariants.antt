@@ -1,17 +1,15 @@
 -- The text is what was read of the stream so far, no read was given back, and the piece has kept its length.
-use Rattle.std.proofs.Common.{◌≡◌, ◌≤◌}
-use Rattle.std.specs.Prelude.{vec_len}
-use Rattle.rb_protocol.specs.declared.limits.TheConstants.{BUFFER_BYTES}
+use Rattle.std.proofs.Common.{◌≡◌, ◌≤◌, length}
 use Rattle.std.specs.Io.KnownBytes.{Consumes}
 use Rattle.rb_protocol.specs.Reads.{HasNotFailed}
-use Rattle.rb_runs.proofs.reading.read_all_limited.Given as goal
+use Rattle.rb_runs.proofs.reading.read_pieces.Given as goal
 
 abbrev pub invariant-loop-reader : goal.invariant-loop-reader
 invariant-loop-reader g l = record {
   consumed : Consumes (g.R.Read.remaining l.fn.reader.inner.now) (g.R.Read.remaining l.reader.inner.now) l.text.items;
   fewer : l.reader.left ≤ l.fn.reader.left;
   still : HasNotFailed l.fn.reader.state l.reader.state;
-  len : vec_len l.piece ≡ BUFFER_BYTES;
+  len : length l.piece ≡ length l.fn.piece;
   same_reference : l.reader.inner.ghost_name ≡ l.fn.reader.inner.ghost_name;
 }
 
