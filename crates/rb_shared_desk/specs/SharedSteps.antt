@@ -10,8 +10,6 @@ use Rattle.rb_lock.specs.Passes.{PassState, IsSoundPass, Learns, log_of}
 use Rattle.rb_lock.specs.SharedCalls.{Replied}
 use Rattle.rb_lock.specs.declared.pass_record.PassRecord.{PassRecord}
 use Rattle.rb_blocking.specs.WaitingCalls.{try_of, IsStopped, EndsFull}
-use Rattle.rb_blocking.specs.declared.fault.WaitFault.{WaitFault}
-use Rattle.rb_blocking.specs.declared.fault.WaitFault.TheVariants as waits
 use Rattle.rb_retry.specs.Made.{Made, made_by}
 use Rattle.rb_retry.specs.Asked.{IsMomentOf}
 use Rattle.rb_retry.specs.declared.desk_fault.DeskFault.{DeskFault}
@@ -36,11 +34,6 @@ pub record SharedName : Type 0 where
   pub capacity : ℕ
   pub opening : Opening
   pub folded : List PassRecord
-
--- the fault of a wait that was not answered
-abbrev pub fault_of_wait : WaitFault → DeskFault
-fault_of_wait waits.Full = Full
-fault_of_wait waits.Stopped = Stopped
 
 module _ {C G : Type 0} where
   abbrev pub name_of : SharedState C G → SharedName

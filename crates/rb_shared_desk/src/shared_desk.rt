@@ -1,7 +1,6 @@
 ghost use Rattle.std.specs.Prelude.{◌≡◌, ◌≤◌, length};
 ghost use Rattle.rb_shared_desk.specs.WaitRules.{wait_rules};
-ghost use Rattle.rb_shared_desk.specs.SharedSteps.{SharedState, SharedName, SharedSteps, SetsShared};
-ghost use Rattle.rb_shared_desk.specs.SharedSteps.{fault_of_wait, made_through, name_of};
+ghost use Rattle.rb_shared_desk.specs.SharedSteps.{SharedState, SharedName, SharedSteps, SetsShared, made_through, name_of};
 ghost use Rattle.rb_shared_desk.specs.SharedLaws.{shared_makes, shared_gives_once, shared_refuses, shared_stays};
 ghost use Rattle.rb_shared_desk.specs.SharedLaws.{shared_keeps_name, shared_sets_no_name};
 
