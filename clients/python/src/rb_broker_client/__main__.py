@@ -9,7 +9,6 @@ replies as docs/PROTOCOL.md has them, such as `SIZE 3`. COMMAND --help has an ex
 Exit status: 0; 1 if there is no server, or it refuses, or something else fails; 2 if a word is
 wrong, or an option names a file that can't be used. Standard error says why.
 """
-from __future__ import annotations
 
 import argparse
 import asyncio

@@ -1,5 +1,4 @@
 """Sessions with a server: `Broker` blocks, and `AsyncBroker` is for asyncio."""
-from __future__ import annotations
 
 import json
 import logging

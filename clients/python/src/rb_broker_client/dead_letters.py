@@ -1,5 +1,4 @@
 """Jobs that failed in their last attempt, kept in a file or in a queue of their own."""
-from __future__ import annotations
 
 import json
 import os

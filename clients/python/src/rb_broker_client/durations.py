@@ -1,5 +1,4 @@
 """Durations as callers give them; those of pauses between tries, and those of sessions."""
-from __future__ import annotations
 
 import math
 import random

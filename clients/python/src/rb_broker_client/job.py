@@ -1,5 +1,4 @@
 """The values of requests and replies: their limits, jobs, and what became of jobs."""
-from __future__ import annotations
 
 from dataclasses import dataclass
 from typing import Any, ClassVar

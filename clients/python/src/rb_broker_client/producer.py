@@ -1,5 +1,4 @@
 """Offers jobs to a server that may be replaced by another."""
-from __future__ import annotations
 
 import asyncio
 import copy

@@ -1,5 +1,4 @@
 """What a client has seen of its server: whether it is there, and still has its run."""
-from __future__ import annotations
 
 import logging
 

@@ -3,7 +3,6 @@
 A turn does what is to be done now, and waits for nothing. It gives within how many seconds the next one is due though
 nothing happens, or None when all is done. Each kind takes the next one as soon as something happens.
 """
-from __future__ import annotations
 
 import asyncio
 import contextvars

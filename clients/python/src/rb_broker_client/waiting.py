@@ -1,5 +1,4 @@
 """How clients of both kinds wait, which are made of the same coroutines: those of one that blocks never suspend."""
-from __future__ import annotations
 
 import asyncio
 import selectors

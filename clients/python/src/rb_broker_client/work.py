@@ -3,7 +3,6 @@
 No socket, thread or event loop is here: a worker sends what a `Work` asks, gives it the answers, and runs the jobs that
 it was given.
 """
-from __future__ import annotations
 
 import logging
 import math

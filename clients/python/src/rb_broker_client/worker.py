@@ -1,5 +1,4 @@
 """Takes jobs and runs a handler on each."""
-from __future__ import annotations
 
 import asyncio
 import inspect
