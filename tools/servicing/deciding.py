@@ -150,5 +150,5 @@ def runs_to_drop(records: Sequence[Run], keep: Keep, now: float) -> list[int]:
     """The runs that are kept no longer, at this date. The last two are always kept, and one that has not ended."""
     ended = [it for it in records[:-2] if it.end is not None]
     if keep.runs is not None:
-        return [it.number for it in ended[:max(len(records) - keep.runs, 0)]]
+        return [it.number for it in ended[:max(len(records) - 1 - keep.runs, 0)]]
     return [it.number for it in ended if it.end and now - it.end.date > (keep.age or 0) / 1e9]

@@ -94,9 +94,9 @@ class DecidingTest(unittest.TestCase):
         self.assertEqual(left_until_end(QUIET), (3500, Reason.TIME))
 
     def test_which_runs_are_dropped(self) -> None:
-        """The last two never are."""
+        """The present one and the one before never are."""
         records = [record(it, End(1000.0 * it, Reason.TIME)) for it in range(1, 10)] + [record(10)]
-        for keep, now, last in ((Keep(4, None), 0, 6), (Keep(1, None), 0, 8), (Keep(50, None), 0, 0),
+        for keep, now, last in ((Keep(4, None), 0, 5), (Keep(1, None), 0, 8), (Keep(50, None), 0, 0),
                                 (Keep(None, 3000 * 10**9), 7500, 4), (Keep(None, 1), 10**6, 8)):
             self.assertEqual(runs_to_drop(records, keep, now), [*range(1, last + 1)], keep)
 

@@ -101,9 +101,9 @@ class RunsTest(ServiceTest):
         self.assertIn("--from begins an empty folder", service.lines[-1])
 
     def test_old_runs_are_compressed_and_dropped(self) -> None:
-        with self.serving("--every", "1s", "--keep", "3") as service:
+        with self.serving("--every", "1s", "--keep", "2") as service:
             service.wait("serving", 6)
-        last = int(self.begin("--keep", "3").all("serving")[0]["run"])
+        last = int(self.begin("--keep", "2").all("serving")[0]["run"])
         wanted = {f"run-{last - 1}.json", f"run-{last - 1}.txt.gz", f"run-{last - 2}.json", f"run-{last - 2}.txt.gz",
                   f"run-{last}.json", f"opening-{last}.txt", "id", "lock", "status"}
         until(lambda: set(os.listdir(self.path("runs"))) <= wanted, "old files are gone")
