@@ -4,6 +4,7 @@ from dataclasses import replace
 from typing import Iterator, Sequence
 
 from histories.grammar import MOST_OPENING_ELEMENTS
+from reporting.units import counted
 from servicing.looking import Looks
 from servicing.metrics import span_of
 from servicing.runs import Runs
@@ -89,5 +90,5 @@ class Showing:
 def lost_text(run: Run) -> str:
     """What the loss of a run means."""
     return (f"run {run.number} was lost after {span_of(run.lasted)}: what was offered, taken and done in it is gone, "
-            f"and the {run.opening:,} elements that it began with are in the queue again")
+            f"and the next one begins with the same {counted(run.opening, 'element')}")
 

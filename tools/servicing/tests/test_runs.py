@@ -61,7 +61,7 @@ class RunsTest(ServiceTest):
             service.wait("serving", 2)
             told = service.all("lost-run")[0]
             self.assertEqual((told["run"], told["opening"], told["level"]), ("2", "500", "error"))
-            self.assertIn("the 500 elements that it began with are in the queue again", told["text"])
+            self.assertIn("and the next one begins with the same 500 elements", told["text"])
             self.has_left(500)
             offered = self.numbers(self.ask("OFFER 0 other")[0])[0]
             self.assertGreaterEqual(offered, max(500 + 5000, lost + 1))
