@@ -90,6 +90,12 @@ class Runs:
         self._greatest = number
         return record
 
+    def drop(self, record: Run) -> None:
+        """Removes a run whose server could not be started, so that no service takes it for one that was lost."""
+        self.folder.drop(record.number)
+        del self.records[record.number]
+        self._greatest = record.number - 1
+
     def see(self, record: Run, began: Reading) -> Run:
         """Writes down when a server really began. It is no harm if that can't be written."""
         self.records[record.number] = seen = replace(record, began=began, is_seen=True)

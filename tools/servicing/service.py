@@ -80,6 +80,8 @@ def _started(parts: Parts, following: Next, before: Current | None) -> Current |
             record = replace(record, began=read_clock())  # its clock goes since about now; a look tells exactly
             return Current(parts, record, server, opening.first_aside, before)
         except (NotStarted, KeeperLost) as fault:
+            if isinstance(fault, NotStarted):
+                parts.runs.drop(record)
             if before is None:
                 raise Unusable(f"no server at port {parts.settings.port}: {fault}") from None
             parts.showing.raise_alert("not-listening", f"no server can be started: {fault}", "error")

@@ -150,7 +150,12 @@ class KilledTest(ServiceTest):
         second = Service(self.path("runs"), port=self.port)
         self.assertEqual((second.end(), len(second.lines)), (1, 1))
         self.assertIn(f"is in use by the service of process {service.process.pid} at port {self.port}", second.lines[0])
-        other = self.start(folder=self.path("others"))
-        self.assertEqual(other.end(), 1)
-        self.assertIn(f"no server at port {self.port}: rb_broker: cannot listen", other.lines[-1])
+        history = self.file("other.txt", "history 3\nopen 0 0 0\n1 5 5 offer 0 9 0 9 1 mail\nend 1\n")
+        for _ in range(2):  # a run that could not begin leaves nothing behind
+            other = self.start("--from", history, folder=self.path("others"))
+            self.assertEqual(other.end(), 1)
+            self.assertIn(f"no server at port {self.port}: rb_broker: cannot listen", other.lines[-1])
         self.has_left(0)
+        self.ends(service)
+        with self.serving("--from", history, folder=self.path("others")):
+            self.has_left(1)
