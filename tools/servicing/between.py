@@ -32,6 +32,8 @@ def resumed(parts: Parts) -> Current | Next:
     if server is not None and start in (Start.GO_ON, Start.COLLECT):
         current = Current(parts, last, server)
         if start is Start.GO_ON:
+            if server.listens and f":{settings.port}\n" not in server.says:
+                raise Unusable(f"run {last.number} is served at another port ({server.says.strip()}): name that one")
             return current
         parts.showing.run = current.record
         return saved(parts, current)

@@ -6,6 +6,7 @@ import threading
 import time
 from collections.abc import Callable
 
+from serving.server import free_port
 from serving.session import Session
 from servicing.tests.process import Service, ServiceTest, until
 
@@ -159,3 +160,11 @@ class KilledTest(ServiceTest):
         self.ends(service)
         with self.serving("--from", history, folder=self.path("others")):
             self.has_left(1)
+
+    def test_a_server_at_another_port_is_left_to_a_service_there(self) -> None:
+        self.begin().kill()
+        other = Service(self.path("runs"), port=free_port())
+        self.assertEqual(other.end(), 1)
+        self.assertIn(f"run 1 is served at another port (listening 127.0.0.1:{self.port})", other.lines[-1])
+        with self.serving() as service:
+            self.assertEqual(service.all("resume")[0]["how"], "go on")
