@@ -115,6 +115,7 @@ class EndsTest(GatewayTest):
             (["--lease", "5ms"], "--lease is at least 1s"),
             (["--bind", "0.0.0.0"], "other machines reach 0.0.0.0: serve them over TLS with --cert, or say --plain"),
             (["--key", "x"], "--key and --client-ca need --cert"),
+            (["--cert", "nowhere"], "--cert, --key or --client-ca: [Errno 2] No such file or directory"),
             (["--wait", "5 s"], "argument --wait: 5 s is no duration: write 30s, 2m or 1h (ns, us, ms, s, m, h, d), or"
                                 " nanoseconds"),
             (["--redis", "redis://:secret@127.0.0.1:1"],

@@ -1,17 +1,21 @@
 """Passwords, and TLS between clients, gateways and the Redis."""
 from __future__ import annotations
 
+import argparse
 import contextlib
 import shutil
 import tempfile
 import unittest
 from pathlib import Path
+from unittest import mock
 
 from encryption import Certificates  # of the tests of clients/python
 from gateway_test import GatewayTest
 from gateways import Gateway
 from nodes import Node, free_port
 from rb_broker_redis.address import read_address
+from rb_broker_redis.ending import Failed
+from rb_broker_redis.words import address_in
 from serving import HOST
 from talker import Talker
 
@@ -38,9 +42,16 @@ class PasswordTest(GatewayTest):
         file = self.room / "redis.url"
         file.write_text(f"{self.url}\n")
         self.assert_serves_in_secret(self.gateway(redis=f"@{file}"))
+        self.assert_serves_in_secret(self.gateway(redis="", RB_BROKER_REDIS=f"@{file}"))
 
     def test_the_environment_has_the_password(self) -> None:
         self.assert_serves_in_secret(self.gateway(redis="", RB_BROKER_REDIS=self.url))
+
+    def test_a_wrong_environment_is_named(self) -> None:
+        for wrong, why in (("localhost", "this is no address of a Redis"), ("@nowhere", "No such file or directory")):
+            with self.subTest(wrong), mock.patch.dict("os.environ", RB_BROKER_REDIS=wrong):
+                with self.assertRaisesRegex(Failed, f"^RB_BROKER_REDIS: .*{why}"):
+                    address_in(argparse.Namespace(redis=None))
 
     def test_a_wrong_password_is_not_told(self) -> None:
         file = self.room / "redis.url"

@@ -8,6 +8,7 @@ import logging
 import os
 import resource
 import signal
+import socket
 import ssl
 
 from .ending import Failed
@@ -76,11 +77,14 @@ def check(asked: argparse.Namespace) -> None:
 
 
 def tls_of(asked: argparse.Namespace) -> ssl.SSLContext | None:
-    """What clients are served with, if that is TLS. Raises `OSError` if a certificate can't be read."""
+    """What clients are served with, if that is TLS."""
     if not asked.cert:
         return None
-    context = ssl.create_default_context(ssl.Purpose.CLIENT_AUTH, cafile=asked.client_ca)
-    context.load_cert_chain(asked.cert, asked.key)
+    try:
+        context = ssl.create_default_context(ssl.Purpose.CLIENT_AUTH, cafile=asked.client_ca)
+        context.load_cert_chain(asked.cert, asked.key)
+    except OSError as fault:  # which names no file
+        raise Failed(f"--cert, --key or --client-ca: {fault}", 2) from None
     if asked.client_ca:
         context.verify_mode = ssl.CERT_REQUIRED
     return context
@@ -133,9 +137,9 @@ def sentence_about(fault: Exception, asked: argparse.Namespace) -> str:
 
 
 def reason_of(fault: Exception) -> str:
-    """The system's word for it, if there is one: a loop wraps it."""
+    """The system's word for it, if there is one: a loop wraps it. TLS and the search for a host have their own."""
     number = getattr(fault, "errno", None)
-    return os.strerror(number) if number else str(fault)
+    return os.strerror(number) if number and not isinstance(fault, (ssl.SSLError, socket.gaierror)) else str(fault)
 
 
 def raise_limit_of_files() -> None:

@@ -7,7 +7,7 @@ from typing import NoReturn
 
 from .address import DEFAULT, VARIABLE, Address, address_of
 from .dates import read_duration
-from .ending import NAME
+from .ending import NAME, Failed
 from .keys import checked_name
 from .protocol import MOST_ATTEMPTS
 from .queue import Queue, connect
@@ -69,7 +69,10 @@ def add_redis_word(parser: argparse.ArgumentParser) -> None:
 
 def address_in(asked: argparse.Namespace) -> Address:
     """The address that --redis names, or the environment."""
-    return asked.redis or address_of(None)
+    try:
+        return asked.redis or address_of(None)
+    except (ValueError, OSError) as fault:
+        raise Failed(f"{VARIABLE}: {fault}", 2) from None
 
 
 def add_queue_words(parser: argparse.ArgumentParser) -> None:
