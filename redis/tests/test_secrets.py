@@ -114,9 +114,15 @@ class TlsTest(GatewayTest):
         self.till_end(Node(self.room / "node", [
             "--appendonly", "no", "--tls-port", port, "--tls-cert-file", keys.path("server"),
             "--tls-key-file", keys.key("server"), "--tls-ca-cert-file", keys.path("ca")]))
-        client = f"ssl_certfile={keys.path('client')}&ssl_keyfile={keys.key('client')}"
-        served = self.serve("--redis", f"rediss://{HOST}:{port}?ssl_ca_certs={keys.path('ca')}&{client}")
+        trust = f"ssl_ca_certs={keys.path('ca')}&ssl_certfile={keys.path('client')}&ssl_keyfile={keys.key('client')}"
+        served = self.serve("--redis", f"rediss://{HOST}:{port}?{trust}")
         self.assert_talk(self.talker(served), "SIZE = SIZE 0")
+        for host, options, why in ((HOST, "", "certificate verify failed"), ("localhost", trust, "Hostname mismatch"),
+                                   (HOST, "ssl_certfile=nowhere", "No such file or directory")):
+            for words in (["serve", "--port", 0], ["dead"]):
+                with self.subTest(words=words, why=why):
+                    status, _, errors = self.ran(*words, "--redis", f"rediss://{host}:{port}?{options}")
+                    self.assertEqual((status, why in errors), (3, True), errors)
 
     def test_plain_is_said_loudly(self) -> None:
         self.assertIn("PLAIN: whoever reaches 127.0.0.1:", self.serve("--plain").said)

@@ -122,6 +122,5 @@ def tls_of(address: Address) -> ssl.SSLContext | None:
     certificate = address.options.get("ssl_certfile")
     if certificate:
         context.load_cert_chain(certificate, address.options.get("ssl_keyfile"))
-    if address.options.get("ssl_check_hostname") in ("false", "False", "0", "no"):
-        context.check_hostname = False
+    context.check_hostname = address.checks_name
     return context

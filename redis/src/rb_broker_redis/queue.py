@@ -28,6 +28,7 @@ def connect(address: Address) -> Client:
     if address.is_tls:
         login["ssl"] = True
         login.update((name, value) for name, value in address.options.items() if name.startswith("ssl_"))
+        login["ssl_check_hostname"] = address.checks_name
     if address.kind is Kind.CLUSTER:
         return RedisCluster(startup_nodes=[ClusterNode(*host) for host in address.hosts], **login)
     if address.kind is Kind.SENTINEL:
