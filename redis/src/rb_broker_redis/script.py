@@ -29,7 +29,7 @@ BUFFER_BYTES = 64 * 1024
 
 def add_to(commands: argparse._SubParsersAction[Parser]) -> None:
     """Adds the command."""
-    parser = add_command(commands, "script", "one session at standard input", run)
+    parser = add_command(commands, "script", "one session at standard input, on a queue of its own", run)
     add_redis_word(parser)
     add_policy_words(parser, "1us", 3)
     add = parser.add_argument

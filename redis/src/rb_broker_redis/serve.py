@@ -37,7 +37,7 @@ def add_to(commands: argparse._SubParsersAction[Parser]) -> None:
     add("--wait", metavar="TIME", type=duration, default=SECOND,
         help="a TAKE or POLLFOR waits so long at most (default: 1s)")
     add("--lease", metavar="TIME", type=duration, default=15 * SECOND,
-        help="the jobs of a gateway that dies come back after this time, 1s or more (default: 15s)")
+        help="the sessions of a gateway that dies end after this time, 1s or more (default: 15s)")
     add("--timeout", metavar="TIME", type=duration, default=5 * SECOND,
         help="a Redis that does not answer for so long is given up (default: 5s)")
     add("--replicas", metavar="N", type=whole(0, 100), default=0,
