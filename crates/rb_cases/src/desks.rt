@@ -1,5 +1,7 @@
 //! The desks at which a table of jobs is run.
 
+ghost use Rattle.std.specs.Prelude.{◌≡◌};
+
 use crate::finding::Finding;
 use crate::fixed_clock::FixedClock;
 use crate::flaw::Flaw;
@@ -10,7 +12,7 @@ use crate::tables::run_rows;
 use rb_binary::BinaryTimer;
 use rb_blocking::{Bell, TurnGate};
 use rb_kept::Kept;
-use rb_lock::Shared;
+use rb_lock::{Pass, Shared};
 use rb_retry::{Desk, KeptDesk};
 use rb_shared_desk::SharedDesk;
 use rb_timer::{ListTimer, Timer};
@@ -69,13 +71,14 @@ fn over_kept<T: Timer>(
     found: &mut Finding,
 ) -> Result<(), Flaw> {
     found.begin(table.line, place)?;
-    let Ok((mut kept, mut tally)) = Kept::<T>::new(alloc, set_up.capacity) else {
-        return Err(Flaw::Capacity);
-    };
-    let mut desk = KeptDesk::new(&mut kept, &mut tally);
-    let _ = desk.set(set_up.clock);
-    let mut subject = JobSubject::new(alloc, desk);
-    run_rows(alloc, &mut subject, table, found)
+    match Kept::<T>::new(alloc, set_up.capacity) {
+        Ok((mut kept, mut tally)) => {
+            let mut desk = KeptDesk::new(&mut kept, &mut tally);
+            let _ = desk.set(set_up.clock);
+            at_desk(alloc, desk, table, found)
+        }
+        Err(_) => Err(Flaw::Capacity),
+    }
 }
 
 fn over_shared<R: Wait + time::Clock>(
@@ -89,11 +92,34 @@ fn over_shared<R: Wait + time::Clock>(
     let Ok((kept, tally)) = Kept::<ListTimer>::new(alloc, set_up.capacity) else {
         return Err(Flaw::Capacity);
     };
-    let Ok((shared, mut pass)) = Shared::open(alloc, kept, tally) else {
-        return Err(Flaw::Memory);
-    };
+    match Shared::open(alloc, kept, tally) {
+        Ok((shared, mut pass)) => with_pass(rt, alloc, &shared, &mut pass, table, set_up, found),
+        Err(_) => Err(Flaw::Memory),
+    }
+}
+
+fn with_pass<R: Wait + time::Clock>(
+    rt: &R,
+    alloc: Global,
+    shared: &Shared<ListTimer>,
+    pass: &mut Pass<ListTimer>,
+    table: &Table<'_>,
+    set_up: SetUp,
+    found: &mut Finding,
+) -> Result<(), Flaw>
+    requires pass { pass.old.table ≡ shared.now }
+{
     let (clock, bell, mut gate) = (FixedClock(set_up.clock), Bell::new(), TurnGate { limit: 0 });
-    let desk = SharedDesk::new(rt, &shared, &mut pass, &clock, &mut gate, &bell);
+    let desk = SharedDesk::new(rt, shared, pass, &clock, &mut gate, &bell);
+    at_desk(alloc, desk, table, found)
+}
+
+fn at_desk<D: Desk + Drop>(
+    alloc: Global,
+    desk: D,
+    table: &Table<'_>,
+    found: &mut Finding,
+) -> Result<(), Flaw> {
     let mut subject = JobSubject::new(alloc, desk);
     run_rows(alloc, &mut subject, table, found)
 }

@@ -31,7 +31,7 @@ use crate::queue_subject::{ask_of, tell_given, tell_reply};
 use crate::subject::{Command, Subject};
 use crate::told::{Told, payload_text};
 use rb_kept::CallFault;
-use rb_queue::{Draft, Items, Reply};
+use rb_queue::{Draft, Items};
 use rb_retry::{Desk, DeskFault, Job, Policy, Verdict, done, drain, fail, poll, poll_for, take};
 use std::alloc::Global;
 use std::collections::VecDeque;
@@ -60,45 +60,85 @@ impl<D: Desk> JobSubject<D> {
 impl<D: Desk + Drop> Subject for JobSubject<D> {
     fn answer(&mut self, alloc: Global, command: Command<'_>, came: &mut Told) -> Result<(), Flaw> {
         match *command.words {
-            ["now"] => came.number(self.desk.now()),
-            ["set", moment] => came.moment(self.desk.set(number(moment)? as u64)),
-            ["call", asked, ..] => self.call(asked, command.words.get(2..).unwrap_or(&[]), came),
-            ["given", place] => tell_given(came, &self.given, place),
-            ["job"] => self.tell_first(came),
-            ["done"] => self.end_first(came),
-            ["fail", now] => self.fail_first(number(now)? as u64, came),
-            ["retry", now, ..] => self.retry(now, command.words.get(2..).unwrap_or(&[]), came),
-            ["policy", pace, count, attempts] => self.set_policy(pace, count, attempts, came),
-            ["drain", asked, most] => self.drain(alloc, asked, most, came),
-            _ => self.fetch(command.words, came),
+            [word] => self.answer_word(word, came),
+            [word, value] => self.answer_value(word, value, came),
+            [word, value, ..] => {
+                let rest = command.words.get(2..).unwrap_or(&[]);
+                self.answer_more(alloc, word, value, rest, came)
+            }
+            [] => Err(Flaw::Command),
         }
     }
 }
 
 impl<D: Desk + Drop> JobSubject<D> {
+    fn answer_word(&mut self, word: &str, came: &mut Told) -> Result<(), Flaw> {
+        match word {
+            "now" => came.number(self.desk.now()),
+            "job" => self.tell_first(came),
+            "done" => self.end_first(came),
+            "take" => self.fetch(came),
+            _ => Err(Flaw::Command),
+        }
+    }
+
+    fn answer_value(&mut self, word: &str, value: &str, came: &mut Told) -> Result<(), Flaw> {
+        match word {
+            "set" => self.set(value, came),
+            "given" => tell_given(came, &self.given, value),
+            "fail" => self.fail_first(value, came),
+            "poll" => self.fetch_expired(value, came),
+            _ => Err(Flaw::Command),
+        }
+    }
+
+    // Answers a command of at least three words.
+    fn answer_more(
+        &mut self,
+        alloc: Global,
+        word: &str,
+        value: &str,
+        rest: &[&str],
+        came: &mut Told,
+    ) -> Result<(), Flaw> {
+        match word {
+            "call" => self.call(value, rest, came),
+            "retry" => self.retry(value, rest, came),
+            "drain" => self.drain(alloc, value, rest, came),
+            "pollfor" => self.fetch_for(value, rest, came),
+            "policy" => self.set_policy(value, rest, came),
+            _ => Err(Flaw::Command),
+        }
+    }
+
+    fn set(&mut self, moment: &str, came: &mut Told) -> Result<(), Flaw> {
+        came.moment(self.desk.set(number(moment)? as u64))
+    }
+
     fn call(&mut self, asked: &str, ask: &[&str], came: &mut Told) -> Result<(), Flaw> {
         let (asked, ask) = (number(asked)? as u64, ask_of(ask)?);
         match self.desk.call(asked, ask) {
-            Ok(Reply::Drained(items)) => {
-                came.named("drained", items.as_slice().len() as u64)?;
-                self.given = items;
-                Ok(())
-            }
-            Ok(reply) => tell_reply(came, &reply),
+            Ok(reply) => tell_reply(came, reply, &mut self.given),
             Err(fault) => came.value(fault),
         }
     }
 
-    fn fetch(&mut self, words: &[&str], came: &mut Told) -> Result<(), Flaw> {
-        let fetched = match *words {
-            ["poll", asked] => poll(&mut self.desk, number(asked)? as u64),
-            ["take"] => take(&mut self.desk).map(Some),
-            ["pollfor", start, timeout] => {
-                let (start, timeout) = (number(start)? as u64, number(timeout)? as u64);
-                poll_for(&mut self.desk, start, timeout)
-            }
-            _ => return Err(Flaw::Command),
+    fn fetch(&mut self, came: &mut Told) -> Result<(), Flaw> {
+        let fetched = take(&mut self.desk).map(Some);
+        self.tell_fetched(fetched, came)
+    }
+
+    fn fetch_expired(&mut self, asked: &str, came: &mut Told) -> Result<(), Flaw> {
+        let fetched = poll(&mut self.desk, number(asked)? as u64);
+        self.tell_fetched(fetched, came)
+    }
+
+    fn fetch_for(&mut self, start: &str, rest: &[&str], came: &mut Told) -> Result<(), Flaw> {
+        let [timeout] = *rest else {
+            return Err(Flaw::Command);
         };
+        let (start, timeout) = (number(start)? as u64, number(timeout)? as u64);
+        let fetched = poll_for(&mut self.desk, start, timeout);
         self.tell_fetched(fetched, came)
     }
 
@@ -124,9 +164,12 @@ impl<D: Desk + Drop> JobSubject<D> {
         &mut self,
         alloc: Global,
         asked: &str,
-        most: &str,
+        rest: &[&str],
         came: &mut Told,
     ) -> Result<(), Flaw> {
+        let [most] = *rest else {
+            return Err(Flaw::Command);
+        };
         let (asked, most) = (number(asked)? as u64, number(most)?);
         let mut jobs = Vec::with_capacity(alloc, most)?;
         match drain(&mut self.desk, asked, most as u64, &mut jobs) {
@@ -157,13 +200,10 @@ impl<D: Desk + Drop> JobSubject<D> {
         }
     }
 
-    fn set_policy(
-        &mut self,
-        pace: &str,
-        count: &str,
-        attempts: &str,
-        came: &mut Told,
-    ) -> Result<(), Flaw> {
+    fn set_policy(&mut self, pace: &str, rest: &[&str], came: &mut Told) -> Result<(), Flaw> {
+        let [count, attempts] = *rest else {
+            return Err(Flaw::Command);
+        };
         self.policy = policy_of(pace, number(count)? as u64, number(attempts)?)?;
         match self.policy {
             Some(_) => came.word("made"),
@@ -171,7 +211,8 @@ impl<D: Desk + Drop> JobSubject<D> {
         }
     }
 
-    fn fail_first(&mut self, now: u64, came: &mut Told) -> Result<(), Flaw> {
+    fn fail_first(&mut self, now: &str, came: &mut Told) -> Result<(), Flaw> {
+        let now = number(now)? as u64;
         let Some(policy) = self.policy else {
             return Err(Flaw::Early);
         };

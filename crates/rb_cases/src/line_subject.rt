@@ -60,25 +60,47 @@ impl Subject for LineSubject {
             return tell_reading(came, line.unwrap_or(&[]));
         }
         match *command.words {
-            ["reply", ..] => self.reply(alloc, &reply_behind(command.words)?, came),
-            ["behind", ..] => behind(alloc, &reply_behind(command.words)?, came),
             ["length"] => came.number(self.text.len() as u64),
-            ["part", from, length] => {
-                let from = number(from)?;
-                let end = from.saturating_add(number(length)?);
-                tell_bytes(alloc, self.text.get(from..end), came)
+            [word, ..] => {
+                let rest = command.words.get(1..).unwrap_or(&[]);
+                self.answer_words(alloc, word, rest, came)
             }
-            ["constant", name] => came.number(constant(name)? as u64),
-            _ => Err(Flaw::Command),
+            [] => Err(Flaw::Command),
         }
     }
 }
 
 impl LineSubject {
-    fn reply(&mut self, alloc: Global, reply: &LineReply, came: &mut Told) -> Result<(), Flaw> {
+    fn answer_words(
+        &mut self,
+        alloc: Global,
+        word: &str,
+        rest: &[&str],
+        came: &mut Told,
+    ) -> Result<(), Flaw> {
+        match word {
+            "reply" => self.reply(alloc, rest, came),
+            "behind" => behind(alloc, rest, came),
+            "part" => self.tell_part(alloc, rest, came),
+            "constant" => tell_constant(rest, came),
+            _ => Err(Flaw::Command),
+        }
+    }
+
+    fn reply(&mut self, alloc: Global, words: &[&str], came: &mut Told) -> Result<(), Flaw> {
+        let reply = reply_of(words)?;
         let before = self.text.len();
-        write_reply(reply, &mut self.text)?;
+        write_reply(&reply, &mut self.text)?;
         tell_bytes(alloc, self.text.get(before..), came)
+    }
+
+    fn tell_part(&self, alloc: Global, words: &[&str], came: &mut Told) -> Result<(), Flaw> {
+        let [from, length] = *words else {
+            return Err(Flaw::Command);
+        };
+        let from = number(from)?;
+        let end = from.saturating_add(number(length)?);
+        tell_bytes(alloc, self.text.get(from..end), came)
     }
 }
 
@@ -87,11 +109,12 @@ fn tell_bytes(alloc: Global, bytes: Option<&[u8]>, came: &mut Told) -> Result<()
     came.word(&text)
 }
 
-fn behind(alloc: Global, reply: &LineReply, came: &mut Told) -> Result<(), Flaw> {
+fn behind(alloc: Global, words: &[&str], came: &mut Told) -> Result<(), Flaw> {
+    let reply = reply_of(words)?;
     let mut line = Vec::new(alloc);
-    write_reply(reply, &mut line)?;
+    write_reply(&reply, &mut line)?;
     for room in [0, REPLY_ROOM] {
-        if let Some(length) = length_not_so(alloc, reply, &line, room)? {
+        if let Some(length) = length_not_so(alloc, &reply, &line, room)? {
             came.named("not so behind", length as u64)?;
             return came.named("bytes, with room for", room as u64);
         }
@@ -131,6 +154,13 @@ fn stands_behind(
     let is_kept = room == 0 || text.capacity() == before;
     let is_exact = before == length.saturating_add(room);
     Ok(is_exact && is_kept && text.get(length..) == Some(line))
+}
+
+fn tell_constant(words: &[&str], came: &mut Told) -> Result<(), Flaw> {
+    match *words {
+        [name] => came.number(constant(name)? as u64),
+        _ => Err(Flaw::Command),
+    }
 }
 
 fn constant(name: &str) -> Result<usize, Flaw> {
@@ -178,21 +208,39 @@ fn tell_offer(came: &mut Told, word: &str, number: u64, payload: &Payload) -> Re
     came.word(payload_text(payload))
 }
 
-// Returns the reply whose words follow the first word.
-fn reply_behind(words: &[&str]) -> Result<LineReply, Flaw> {
-    let words = words.get(1..).unwrap_or(&[]);
+fn reply_of(words: &[&str]) -> Result<LineReply, Flaw> {
     match *words {
-        ["item", ..] => Ok(LineReply::Item(element_of(words.get(1..).unwrap_or(&[]))?)),
-        ["head", ..] => Ok(LineReply::Head(element_of(words.get(1..).unwrap_or(&[]))?)),
-        ["nothing"] => Ok(LineReply::Nothing),
-        ["cleared"] => Ok(LineReply::Cleared),
-        ["stopped"] => Ok(LineReply::Stopped),
-        ["bye"] => Ok(LineReply::Bye),
-        ["removed", "yes"] => Ok(LineReply::Removed(true)),
-        ["removed", "no"] => Ok(LineReply::Removed(false)),
-        ["error", word] => Ok(LineReply::Err(error_of(word)?)),
-        [word, value] => numbered(word, number(value)? as u64),
+        [word] => bare(word),
+        [word, value] => reply_of_one(word, value),
         [word, id, expiry] => reply_of_two(word, number(id)? as u64, number(expiry)? as u64),
+        [word, ..] => reply_of_element(word, words.get(1..).unwrap_or(&[])),
+        [] => Err(Flaw::Command),
+    }
+}
+
+fn bare(word: &str) -> Result<LineReply, Flaw> {
+    match word {
+        "nothing" => Ok(LineReply::Nothing),
+        "cleared" => Ok(LineReply::Cleared),
+        "stopped" => Ok(LineReply::Stopped),
+        "bye" => Ok(LineReply::Bye),
+        _ => Err(Flaw::Command),
+    }
+}
+
+fn reply_of_one(word: &str, value: &str) -> Result<LineReply, Flaw> {
+    match (word, value) {
+        ("error", word) => Ok(LineReply::Err(error_of(word)?)),
+        ("removed", "yes") => Ok(LineReply::Removed(true)),
+        ("removed", "no") => Ok(LineReply::Removed(false)),
+        _ => numbered(word, number(value)? as u64),
+    }
+}
+
+fn reply_of_element(word: &str, element: &[&str]) -> Result<LineReply, Flaw> {
+    match word {
+        "item" => Ok(LineReply::Item(element_of(element)?)),
+        "head" => Ok(LineReply::Head(element_of(element)?)),
         _ => Err(Flaw::Command),
     }
 }

@@ -108,20 +108,17 @@ impl<T: Timer> QueueSubject<T> {
     fn begin_run(&mut self, alloc: Global, capacity: u64, came: &mut Told) -> Result<(), Flaw> {
         let opening = self.next_opening(alloc)?;
         match Kept::new_from(alloc, capacity, opening) {
-            Ok((kept, share)) => {
-                self.run = Some(Run {
-                    kept,
-                    share,
-                    other_share: None,
-                    given: Items::new(Vec::new(alloc)),
-                });
-                came.word("begun")
-            }
+            Ok((kept, share)) => self.begin_with(Run::new(alloc, kept, share), came),
             Err((opening, fault)) => {
                 self.handed_back = Some(opening);
                 came.value(fault)
             }
         }
+    }
+
+    fn begin_with(&mut self, run: Run<T>, came: &mut Told) -> Result<(), Flaw> {
+        self.run = Some(run);
+        came.word("begun")
     }
 
     fn next_opening(&mut self, alloc: Global) -> Result<Opening, Flaw> {
@@ -139,41 +136,68 @@ impl<T: Timer> QueueSubject<T> {
 }
 
 impl<T: Timer> Run<T> {
+    fn new(alloc: Global, kept: Kept<T>, share: Tally) -> Run<T> {
+        Run {
+            kept,
+            share,
+            other_share: None,
+            given: Items::new(Vec::new(alloc)),
+        }
+    }
+
     fn answer(&mut self, alloc: Global, words: &[&str], came: &mut Told) -> Result<(), Flaw> {
         match *words {
-            ["audit"] => tell_audit(came, self.kept.audit()),
-            ["share"] => tell_share(came, &self.share),
-            ["other", "share"] => match &self.other_share {
-                Some(other) => tell_share(came, other),
-                None => Err(Flaw::Early),
-            },
-            ["split"] => {
-                self.other_share = Some(self.share.split());
-                came.word("split")
-            }
-            ["join"] => self.join(came),
-            ["capacity"] => came.number(self.kept.capacity()),
-            ["events"] => came.number(self.kept.history().len() as u64),
-            ["last"] => self.tell_last(alloc, came),
-            ["line", line] => {
-                let before = number(line)?.saturating_sub(1);
-                self.tell_line(alloc, self.kept.history(), before, came)
-            }
-            ["given", place] => tell_given(came, &self.given, place),
-            ["no", "try"] => {
-                let steps = self.kept.run_tries(&mut self.share, Vec::new(alloc))?;
-                came.number(steps.len() as u64)
-            }
+            [word] => self.answer_word(alloc, word, came),
+            [word, value] => self.answer_value(alloc, word, value, came),
             [seat, asked, ..] => {
-                let one = Try {
-                    seat: number(seat)? as u64,
-                    asked: number(asked)? as u64,
-                    ask: ask_of(words.get(2..).unwrap_or(&[]))?,
-                };
-                self.make(alloc, one, came)
+                self.make(alloc, seat, asked, words.get(2..).unwrap_or(&[]), came)
             }
+            [] => Err(Flaw::Command),
+        }
+    }
+
+    fn answer_word(&mut self, alloc: Global, word: &str, came: &mut Told) -> Result<(), Flaw> {
+        match word {
+            "audit" => tell_audit(came, self.kept.audit()),
+            "share" => tell_share(came, &self.share),
+            "split" => self.split(came),
+            "join" => self.join(came),
+            "capacity" => came.number(self.kept.capacity()),
+            "events" => came.number(self.kept.history().len() as u64),
+            "last" => self.tell_last(alloc, came),
             _ => Err(Flaw::Command),
         }
+    }
+
+    fn answer_value(
+        &mut self,
+        alloc: Global,
+        word: &str,
+        value: &str,
+        came: &mut Told,
+    ) -> Result<(), Flaw> {
+        match word {
+            "line" => self.tell_numbered(alloc, value, came),
+            "given" => tell_given(came, &self.given, value),
+            "other" => self.tell_other(value, came),
+            "no" => self.make_none(alloc, value, came),
+            _ => Err(Flaw::Command),
+        }
+    }
+
+    fn tell_other(&self, word: &str, came: &mut Told) -> Result<(), Flaw> {
+        if word != "share" {
+            return Err(Flaw::Command);
+        }
+        match &self.other_share {
+            Some(other) => tell_share(came, other),
+            None => Err(Flaw::Early),
+        }
+    }
+
+    fn split(&mut self, came: &mut Told) -> Result<(), Flaw> {
+        self.other_share = Some(self.share.split());
+        came.word("split")
     }
 
     fn join(&mut self, came: &mut Told) -> Result<(), Flaw> {
@@ -186,23 +210,45 @@ impl<T: Timer> Run<T> {
         }
     }
 
-    // Makes one try, and tells its step.
-    fn make(&mut self, alloc: Global, one: Try, came: &mut Told) -> Result<(), Flaw> {
+    // Makes a run without tries, and tells how many steps it has.
+    fn make_none(&mut self, alloc: Global, word: &str, came: &mut Told) -> Result<(), Flaw> {
+        if word != "try" {
+            return Err(Flaw::Command);
+        }
+        let steps = self.kept.run_tries(&mut self.share, Vec::new(alloc))?;
+        came.number(steps.len() as u64)
+    }
+
+    // Makes the try that the words spell, and tells its step.
+    fn make(
+        &mut self,
+        alloc: Global,
+        seat: &str,
+        asked: &str,
+        ask: &[&str],
+        came: &mut Told,
+    ) -> Result<(), Flaw> {
+        let one = Try {
+            seat: number(seat)? as u64,
+            asked: number(asked)? as u64,
+            ask: ask_of(ask)?,
+        };
         let is_other = one.seat > 0;
         let mut steps = self.run_try(is_other, vec![in alloc; one]?)?;
         match steps.pop() {
-            Some(Ok(Outcome::Done(Reply::Drained(items)))) => {
-                came.named("drained", items.as_slice().len() as u64)?;
-                self.given = items;
-                Ok(())
-            }
-            Some(Ok(Outcome::Done(reply))) => tell_reply(came, &reply),
-            Some(Ok(Outcome::Later(next))) => {
+            Some(step) => self.tell_step(step, came),
+            None => Err(Flaw::Memory),
+        }
+    }
+
+    fn tell_step(&mut self, step: Step, came: &mut Told) -> Result<(), Flaw> {
+        match step {
+            Ok(Outcome::Done(reply)) => tell_reply(came, reply, &mut self.given),
+            Ok(Outcome::Later(next)) => {
                 came.word("later")?;
                 came.moment(next)
             }
-            Some(Err(fault)) => came.value(fault),
-            None => Err(Flaw::Memory),
+            Err(fault) => came.value(fault),
         }
     }
 
@@ -231,6 +277,11 @@ impl<T: Timer> Run<T> {
         self.tell_line(alloc, last, elements.saturating_add(2), came)
     }
 
+    fn tell_numbered(&self, alloc: Global, line: &str, came: &mut Told) -> Result<(), Flaw> {
+        let before = number(line)?.saturating_sub(1);
+        self.tell_line(alloc, self.kept.history(), before, came)
+    }
+
     // Tells the line that has `before` lines before it in the text of these events, or `none`.
     fn tell_line(
         &self,
@@ -254,33 +305,66 @@ impl<T: Timer> Run<T> {
 /// Returns the ask that `words` spell.
 pub fn ask_of(words: &[&str]) -> Result<Ask, Flaw> {
     match *words {
-        ["poll"] => Ok(Ask::Poll),
-        ["take"] => Ok(Ask::Take),
-        ["peek"] => Ok(Ask::Peek),
-        ["clear"] => Ok(Ask::Clear),
-        ["size"] => Ok(Ask::Size),
-        ["remove", id] => Ok(Ask::Remove(number(id)? as u64)),
-        ["drain", max] => Ok(Ask::Drain(number(max)? as u64)),
-        ["pollfor", start, timeout] => Ok(Ask::PollFor {
-            start: number(start)? as u64,
-            timeout: number(timeout)? as u64,
-        }),
-        ["offer", ..] => Ok(Ask::Offer(draft_of(words.get(1..).unwrap_or(&[]))?)),
+        [word] => ask_of_word(word),
+        [word, ..] => ask_with(word, words.get(1..).unwrap_or(&[])),
+        [] => Err(Flaw::Command),
+    }
+}
+
+fn ask_with(word: &str, rest: &[&str]) -> Result<Ask, Flaw> {
+    match word {
+        "offer" => Ok(Ask::Offer(draft_of(rest)?)),
+        "pollfor" => poll_for_of(rest),
+        "remove" => Ok(Ask::Remove(only_number(rest)?)),
+        "drain" => Ok(Ask::Drain(only_number(rest)?)),
         _ => Err(Flaw::Command),
     }
 }
 
-/// Tells a reply to any ask but a drain.
-pub fn tell_reply(came: &mut Told, reply: &Reply) -> Result<(), Flaw> {
+fn poll_for_of(words: &[&str]) -> Result<Ask, Flaw> {
+    match *words {
+        [start, timeout] => Ok(Ask::PollFor {
+            start: number(start)? as u64,
+            timeout: number(timeout)? as u64,
+        }),
+        _ => Err(Flaw::Command),
+    }
+}
+
+fn only_number(words: &[&str]) -> Result<u64, Flaw> {
+    match *words {
+        [word] => Ok(number(word)? as u64),
+        _ => Err(Flaw::Command),
+    }
+}
+
+fn ask_of_word(word: &str) -> Result<Ask, Flaw> {
+    match word {
+        "poll" => Ok(Ask::Poll),
+        "take" => Ok(Ask::Take),
+        "peek" => Ok(Ask::Peek),
+        "clear" => Ok(Ask::Clear),
+        "size" => Ok(Ask::Size),
+        _ => Err(Flaw::Command),
+    }
+}
+
+/// Tells a reply to any ask. What a drain gave is then in `given`.
+pub fn tell_reply(came: &mut Told, reply: Reply, given: &mut Items) -> Result<(), Flaw> {
     match reply {
-        Reply::Offered(element) => came.item("offered", element),
-        Reply::Item(element) => came.item("item", element),
-        Reply::Head(element) => came.item("head", element),
+        Reply::Drained(items) => {
+            came.named("drained", items.as_slice().len() as u64)?;
+            *given = items;
+            Ok(())
+        }
+        Reply::Offered(element) => came.item("offered", &element),
+        Reply::Item(element) => came.item("item", &element),
+        Reply::Head(element) => came.item("head", &element),
         Reply::Removed(true) => came.word("removed yes"),
         Reply::Removed(false) => came.word("removed no"),
         Reply::Cleared => came.word("cleared"),
-        Reply::Size(size) => came.named("size", *size),
-        Reply::Nothing | Reply::Drained(_) => came.word("nothing"),
+        Reply::Size(size) => came.named("size", size),
+        Reply::Nothing => came.word("nothing"),
     }
 }
 

@@ -39,30 +39,66 @@ impl<T: Timer> FromSetUp for TimerSubject<T> {
 impl<T: Timer> Subject for TimerSubject<T> {
     fn answer(&mut self, alloc: Global, command: Command<'_>, came: &mut Told) -> Result<(), Flaw> {
         match *command.words {
-            ["reserve", wanted] => match self.timer.reserve(number(wanted)?) {
-                Ok(()) => came.word("reserved"),
-                Err(_) => came.word("no memory"),
-            },
-            ["room"] => came.number(self.timer.room() as u64),
-            ["len"] => came.number(self.timer.len() as u64),
-            ["get", slot] => came.moment(self.timer.get(number(slot)?)),
-            _ => {
-                let command = command_of(command.words)?;
-                let answers = run_timer(alloc, &mut self.timer, &[command])?;
-                tell(came, answers.first())
-            }
+            [word] => self.answer_word(alloc, word, came),
+            [word, value] => self.answer_value(alloc, word, value, came),
+            [word, slot, expiry] => self.insert(alloc, word, slot, expiry, came),
+            _ => Err(Flaw::Command),
         }
     }
 }
 
-fn command_of(words: &[&str]) -> Result<TimerCommand, Flaw> {
-    match *words {
-        ["insert", slot, expiry] => Ok(TimerCommand::Insert(number(slot)?, number(expiry)? as u64)),
-        ["remove", slot] => Ok(TimerCommand::Remove(number(slot)?)),
-        ["least"] => Ok(TimerCommand::Least),
-        ["due", now] => Ok(TimerCommand::Due(number(now)? as u64)),
-        ["clear"] => Ok(TimerCommand::Clear),
-        _ => Err(Flaw::Command),
+impl<T: Timer> TimerSubject<T> {
+    fn answer_word(&mut self, alloc: Global, word: &str, came: &mut Told) -> Result<(), Flaw> {
+        match word {
+            "room" => came.number(self.timer.room() as u64),
+            "len" => came.number(self.timer.len() as u64),
+            "least" => self.run(alloc, TimerCommand::Least, came),
+            "clear" => self.run(alloc, TimerCommand::Clear, came),
+            _ => Err(Flaw::Command),
+        }
+    }
+
+    fn answer_value(
+        &mut self,
+        alloc: Global,
+        word: &str,
+        value: &str,
+        came: &mut Told,
+    ) -> Result<(), Flaw> {
+        match word {
+            "reserve" => self.reserve(value, came),
+            "get" => came.moment(self.timer.get(number(value)?)),
+            "remove" => self.run(alloc, TimerCommand::Remove(number(value)?), came),
+            "due" => self.run(alloc, TimerCommand::Due(number(value)? as u64), came),
+            _ => Err(Flaw::Command),
+        }
+    }
+
+    fn insert(
+        &mut self,
+        alloc: Global,
+        word: &str,
+        slot: &str,
+        expiry: &str,
+        came: &mut Told,
+    ) -> Result<(), Flaw> {
+        if word != "insert" {
+            return Err(Flaw::Command);
+        }
+        let (slot, expiry) = (number(slot)?, number(expiry)? as u64);
+        self.run(alloc, TimerCommand::Insert(slot, expiry), came)
+    }
+
+    fn reserve(&mut self, wanted: &str, came: &mut Told) -> Result<(), Flaw> {
+        match self.timer.reserve(number(wanted)?) {
+            Ok(()) => came.word("reserved"),
+            Err(_) => came.word("no memory"),
+        }
+    }
+
+    fn run(&mut self, alloc: Global, command: TimerCommand, came: &mut Told) -> Result<(), Flaw> {
+        let answers = run_timer(alloc, &mut self.timer, &[command])?;
+        tell(came, answers.first())
     }
 }
 
