@@ -3,10 +3,11 @@ ghost use Rattle.rb_retry.specs.KeptLaws.{kept_keeps_name, kept_sets_no_name};
 ghost use Rattle.rb_retry.specs.KeptSteps.{KeptState, KeptSteps, SetsKept, made_at};
 ghost use Rattle.std.specs.Prelude.{◌≡◌, ℕ};
 
-use crate::tests::devices::{NEVER, Sheet, expect_bytes, expect_end, expect_number};
+use crate::tests::devices::{NEVER, Sheet, expect_bytes, expect_end, expect_number, with_kept};
 use rb_binary::BinaryTimer;
 use rb_delayed::Element;
 use rb_kept::{CallFault, Kept};
+use rb_ledger::Tally;
 use rb_queue::{Ask, Draft, Reply};
 use rb_retry::{Desk, DeskFault, KeptDesk, Policy};
 use rb_session::{Ended, SessionFault, run_session};
@@ -79,20 +80,30 @@ struct Outcome {
 }
 
 fn ran(rt: &impl Abort, alloc: Global, script: &[u8]) -> Result<Outcome, Fail> {
-    let (mut kept, mut tally) = Kept::<BinaryTimer>::new(alloc, 100)?;
-    let mut writer = Sheet::new(alloc, NEVER);
-    let mut reader = script;
     let policy = Policy::fixed(1_000, 3).expect(rt, "a policy");
+    with_kept(alloc, 100, |kept, tally| {
+        ran_over(alloc, kept, tally, &policy, script)
+    })
+}
+
+fn ran_over(
+    alloc: Global,
+    kept: &mut Kept<BinaryTimer>,
+    tally: &mut Tally,
+    policy: &Policy,
+    script: &[u8],
+) -> Outcome {
+    let (mut reader, mut writer) = (script, Sheet::new(alloc, NEVER));
     let mut desk = CountingDesk {
-        desk: KeptDesk::new(&mut kept, &mut tally),
+        desk: KeptDesk::new(kept, tally),
         readings: Cell::new(0),
     };
-    let ended = run_session(alloc, &mut reader, &mut writer, &mut desk, &policy);
-    Ok(Outcome {
+    let ended = run_session(alloc, &mut reader, &mut writer, &mut desk, policy);
+    Outcome {
         ended,
         text: writer.bytes,
         readings: desk.readings.get(),
-    })
+    }
 }
 
 fn expect_readings(

@@ -1,4 +1,5 @@
-use rb_kept::Kept;
+use rb_binary::BinaryTimer;
+use rb_kept::{Kept, NewFault};
 use rb_ledger::Tally;
 use rb_retry::{KeptDesk, Policy};
 use rb_session::{Ended, SessionFault, run_session};
@@ -102,6 +103,26 @@ impl Write for Slip {
 
 /// The number of a call that never comes.
 pub const NEVER: usize = usize::MAX;
+
+/// Makes a kept queue with room for `calls` calls, and hands it to `work` with its tally.
+pub fn with_kept<T, F: FnOnce(&mut Kept<BinaryTimer>, &mut Tally) -> T>(
+    alloc: Global,
+    calls: u64,
+    work: F,
+) -> Result<T, Fail>
+    requires { F.IsAlwaysCallable work }
+{
+    let (mut kept, mut tally) = kept(alloc, calls)?;
+    Ok(work(&mut kept, &mut tally))
+}
+
+// Makes a kept queue, and tries once more if memory is refused: `dev/refuse_allocations` refuses these allocations too.
+fn kept(alloc: Global, calls: u64) -> Result<(Kept<BinaryTimer>, Tally), NewFault> {
+    match Kept::new(alloc, calls) {
+        Ok(made) => Ok(made),
+        Err(_) => Kept::new(alloc, calls),
+    }
+}
 
 /// Runs a session over the kept queue. A job has three attempts, and each retry expires 1,000
 /// nanoseconds after the failure.

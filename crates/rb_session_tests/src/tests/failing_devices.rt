@@ -1,6 +1,9 @@
-use crate::tests::devices::{Bytes, NEVER, Slip, expect_bytes, expect_count, expect_end, ran, run};
+use crate::tests::devices::{
+    Bytes, NEVER, Slip, expect_bytes, expect_count, expect_end, ran, run, with_kept,
+};
 use rb_binary::BinaryTimer;
 use rb_kept::Kept;
+use rb_ledger::Tally;
 use rb_session::{Ended, SessionFault};
 use std::alloc::Global;
 use std::process::Abort;
@@ -18,11 +21,23 @@ const REPLIES: &[u8] =
 type Slipped = (Result<Ended, SessionFault>, Vec<u8>);
 
 fn slipped(rt: &impl Abort, alloc: Global) -> Result<Slipped, Fail> {
-    let (mut kept, mut tally) = Kept::<BinaryTimer>::new(alloc, 100)?;
+    with_kept(
+        alloc,
+        100,
+        |kept, tally| slipped_over(rt, alloc, kept, tally),
+    )
+}
+
+fn slipped_over(
+    rt: &impl Abort,
+    alloc: Global,
+    kept: &mut Kept<BinaryTimer>,
+    tally: &mut Tally,
+) -> Slipped {
     let bytes = Vec::new(alloc);
     let (mut reader, mut writer) = (Bytes::of(JOB, NEVER), Slip { bytes });
-    let ended = run(rt, alloc, &mut kept, &mut tally, &mut reader, &mut writer);
-    Ok((ended, writer.bytes))
+    let ended = run(rt, alloc, kept, tally, &mut reader, &mut writer);
+    (ended, writer.bytes)
 }
 
 // What a write does not take is written again, as often as needed.

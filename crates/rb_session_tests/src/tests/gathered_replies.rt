@@ -1,6 +1,5 @@
-use crate::tests::devices::{Slip, expect_bytes, expect_end};
+use crate::tests::devices::{Slip, expect_bytes, expect_end, with_kept};
 use rb_binary::BinaryTimer;
-use rb_kept::Kept;
 use rb_protocol::LimitedReader;
 use rb_retry::{KeptDesk, Policy};
 use rb_session::{Delivery, Ended, HandsOn, SessionFault, run_limited};
@@ -20,21 +19,24 @@ fn repeated(alloc: Global, line: &[u8], count: usize) -> Result<Vec<u8>, AllocEr
 type Slipped = (Result<Ended, SessionFault>, Vec<u8>);
 
 fn slipped(rt: &impl Abort, alloc: Global, script: &[u8]) -> Result<Slipped, Fail> {
-    let (mut kept, mut tally) = Kept::<BinaryTimer>::new(alloc, 1)?;
+    let policy = Policy::fixed(1_000, 3).expect(rt, "a policy");
+    with_kept(alloc, 1, |kept, tally| {
+        slipped_at(alloc, &mut KeptDesk::new(kept, tally), &policy, script)
+    })
+}
+
+fn slipped_at(
+    alloc: Global,
+    desk: &mut KeptDesk<'_, BinaryTimer>,
+    policy: &Policy,
+    script: &[u8],
+) -> Slipped {
     let bytes = Vec::new(alloc);
     let (mut reader, mut writer) = (script, Slip { bytes });
-    let policy = Policy::fixed(1_000, 3).expect(rt, "a policy");
-    let mut desk = KeptDesk::new(&mut kept, &mut tally);
+    let mut reader = LimitedReader::new(&mut reader);
     let delivery = Delivery::Gathered(HandsOn::BeforeReads);
-    let ended = run_limited(
-        alloc,
-        &mut LimitedReader::new(&mut reader),
-        &mut writer,
-        &mut desk,
-        &policy,
-        delivery,
-    );
-    Ok((ended, writer.bytes))
+    let ended = run_limited(alloc, &mut reader, &mut writer, desk, policy, delivery);
+    (ended, writer.bytes)
 }
 
 // All replies are gathered, and go out in as many writes as they have bytes.

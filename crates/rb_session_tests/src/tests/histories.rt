@@ -1,8 +1,10 @@
 use crate::tests::devices::{
     Bytes, NEVER, Sheet, expect, expect_bytes, expect_count, expect_end, expect_number, run,
+    with_kept,
 };
 use rb_binary::BinaryTimer;
 use rb_kept::Kept;
+use rb_ledger::Tally;
 use rb_queue::{Act, Event};
 use rb_session::{Ended, SessionFault};
 use rb_timer::{ListTimer, Timer};
@@ -85,13 +87,24 @@ fn expect_retry(rt: &impl Abort, events: &[Event], expiry: u64) {
 #[test]
 fn what_is_held_after_a_write_fault_fails(rt: HostRuntime) -> Result<(), Fail> {
     let alloc = rt.alloc();
-    let (mut kept, mut tally) = Kept::<BinaryTimer>::new(alloc, 10)?;
+    with_kept(
+        alloc,
+        10,
+        |kept, tally| expect_write_fault(&rt, alloc, kept, tally),
+    )
+}
+
+fn expect_write_fault(
+    rt: &impl Abort,
+    alloc: Global,
+    kept: &mut Kept<BinaryTimer>,
+    tally: &mut Tally,
+) {
     let (mut reader, mut writer) = (Bytes::of(b"OFFER 0 a\nPOLL\n", NEVER), Sheet::new(alloc, 2));
-    let ended = run(&rt, alloc, &mut kept, &mut tally, &mut reader, &mut writer);
-    expect_end(&rt, ended, Err(SessionFault::Write { lost: 0 }), 0);
-    expect_bytes(&rt, &writer.bytes, b"OFFERED 0 0\n", 0);
-    expect_retry(&rt, kept.history(), 1_000);
-    Ok(())
+    let ended = run(rt, alloc, kept, tally, &mut reader, &mut writer);
+    expect_end(rt, ended, Err(SessionFault::Write { lost: 0 }), 0);
+    expect_bytes(rt, &writer.bytes, b"OFFERED 0 0\n", 0);
+    expect_retry(rt, kept.history(), 1_000);
 }
 
 #[test]

@@ -1,9 +1,9 @@
 use crate::tests::devices::{
     Bytes, Dialogue, NEVER, Sheet, expect, expect_bytes, expect_count, expect_end, expect_number,
-    push_line, run,
+    push_line, run, with_kept,
 };
 use rb_binary::BinaryTimer;
-use rb_kept::{Kept, NewFault};
+use rb_kept::Kept;
 use rb_ledger::Tally;
 use rb_queue::{Act, Event};
 use rb_session::{Ended, SessionFault};
@@ -16,6 +16,9 @@ use std::test::Fail;
 const REFUSALS: u32 = 0;
 
 const REFUSED: &[u8] = b"ERR 7 memory\n";
+
+// How many calls a queue has room for.
+const MOST_CALLS: u64 = 300;
 
 // The number of jobs that are held before the first of them fails.
 const JOBS: u64 = 64;
@@ -39,13 +42,6 @@ fn sheet(alloc: Global) -> Result<Sheet, AllocError> {
     })
 }
 
-fn kept(alloc: Global) -> Result<(Kept<BinaryTimer>, Tally), NewFault> {
-    match Kept::new(alloc, 300) {
-        Ok(made) => Ok(made),
-        Err(_) => Kept::new(alloc, 300),
-    }
-}
-
 fn is_memory(ended: &Result<Ended, SessionFault>) -> bool {
     matches!(ended, Err(SessionFault::Memory))
 }
@@ -53,12 +49,24 @@ fn is_memory(ended: &Result<Ended, SessionFault>) -> bool {
 // Runs a session with one offer. Returns the number of refusals: 1 if memory is refused for the
 // session itself or for the offer.
 fn refused_offer(rt: &impl Abort, alloc: Global) -> Result<u32, Fail> {
+    with_kept(
+        alloc,
+        MOST_CALLS,
+        |kept, tally| refused_offer_over(rt, alloc, kept, tally),
+    )?
+}
+
+fn refused_offer_over(
+    rt: &impl Abort,
+    alloc: Global,
+    kept: &mut Kept<BinaryTimer>,
+    tally: &mut Tally,
+) -> Result<u32, Fail> {
     let script = b"AT 100\nOFFER 50 a\nSIZE\nPOLL\nPEEK\n";
-    let (mut kept, mut tally) = kept(alloc)?;
     let (mut reader, mut writer) = (Bytes::of(script, NEVER), sheet(alloc)?);
-    let ended = run(rt, alloc, &mut kept, &mut tally, &mut reader, &mut writer);
+    let ended = run(rt, alloc, kept, tally, &mut reader, &mut writer);
     let calls = (reader.calls, writer.calls);
-    Ok(offers_refused(rt, ended, calls, &kept, &writer.bytes))
+    Ok(offers_refused(rt, ended, calls, kept, &writer.bytes))
 }
 
 // Returns the number of refusals. The queue and the text are borrowed, because a function drops
@@ -172,16 +180,28 @@ fn last_offer(kept: &Kept<BinaryTimer>) -> Option<(u64, u64, u32)> {
 }
 
 fn session_at_last(rt: &impl Abort, alloc: Global, script: &[u8]) -> Result<Session, Fail> {
-    let mut writer = sheet(alloc)?;
-    let (mut kept, mut tally) = kept(alloc)?;
-    let mut reader = Bytes::of(script, NEVER);
-    let ended = run(rt, alloc, &mut kept, &mut tally, &mut reader, &mut writer);
+    with_kept(
+        alloc,
+        MOST_CALLS,
+        |kept, tally| session_over(rt, alloc, kept, tally, script),
+    )?
+}
+
+fn session_over(
+    rt: &impl Abort,
+    alloc: Global,
+    kept: &mut Kept<BinaryTimer>,
+    tally: &mut Tally,
+    script: &[u8],
+) -> Result<Session, Fail> {
+    let (mut reader, mut writer) = (Bytes::of(script, NEVER), sheet(alloc)?);
+    let ended = run(rt, alloc, kept, tally, &mut reader, &mut writer);
     Ok(Session {
         ended,
         calls: (reader.calls, writer.calls),
         text: writer.bytes,
         offered: kept.audit().offered,
-        last: last_offer(&kept),
+        last: last_offer(kept),
     })
 }
 

@@ -1,6 +1,9 @@
-use crate::tests::devices::{Dialogue, NEVER, Sheet, expect_bytes, expect_end, push_line, run_by};
+use crate::tests::devices::{
+    Dialogue, NEVER, Sheet, expect_bytes, expect_end, push_line, run_by, with_kept,
+};
 use rb_binary::BinaryTimer;
 use rb_kept::Kept;
+use rb_ledger::Tally;
 use rb_retry::Policy;
 use rb_session::{Ended, SessionFault};
 use std::alloc::{AllocError, Global};
@@ -25,30 +28,27 @@ struct Outcome {
 }
 
 fn ran_twice(alloc: Global, script: &[u8], policy: &Policy) -> Result<Outcome, Fail> {
-    let (mut kept, mut tally) = Kept::<BinaryTimer>::new(alloc, 3_000)?;
+    with_kept(alloc, 3_000, |kept, tally| {
+        ran_both(alloc, kept, tally, script, policy)
+    })
+}
+
+fn ran_both(
+    alloc: Global,
+    kept: &mut Kept<BinaryTimer>,
+    tally: &mut Tally,
+    script: &[u8],
+    policy: &Policy,
+) -> Outcome {
     let mut writer = Sheet::new(alloc, NEVER);
     let (mut first, mut second) = (script, AFTER);
-    let ended = run_by(
-        alloc,
-        &mut kept,
-        &mut tally,
-        &mut first,
-        &mut writer,
-        policy,
-    );
-    let after = run_by(
-        alloc,
-        &mut kept,
-        &mut tally,
-        &mut second,
-        &mut writer,
-        policy,
-    );
-    Ok(Outcome {
+    let ended = run_by(alloc, kept, tally, &mut first, &mut writer, policy);
+    let after = run_by(alloc, kept, tally, &mut second, &mut writer, policy);
+    Outcome {
         ended,
         after,
         text: writer.bytes,
-    })
+    }
 }
 
 // Asserts that both sessions reach the end of their input, and that the text is `replies` followed
