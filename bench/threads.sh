@@ -20,7 +20,7 @@ fi
 
 top=$(readlink -f -- "${BASH_SOURCE[0]}") && top=${top%/*/*}
 program=$top/bench/threads/out/rb_bench
-below=(rb_delayed rb_timer rb_binary rb_ledger rb_queue rb_kept rb_lock rb_blocking)
+below=(rb_delayed rb_timer rb_binary rb_ledger rb_queue rb_kept rb_lock rb_bell rb_blocking)
 room=$(mktemp -d) && trap 'rm -rf -- "$room"' EXIT
 
 # Whether some source was changed since the program was built.

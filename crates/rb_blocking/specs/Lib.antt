@@ -1,4 +1,3 @@
 pub mod WaitingCalls
 pub mod WaitLaws
 pub mod RungOffers
-pub mod Places

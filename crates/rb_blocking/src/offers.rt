@@ -4,7 +4,7 @@ ghost use Rattle.rb_lock.specs.Passes.{Learns};
 ghost use Rattle.rb_blocking.specs.WaitingCalls.{try_of};
 ghost use Rattle.rb_blocking.specs.RungOffers.{OfferAnswered};
 
-use crate::bell::Bell;
+use rb_bell::Bell;
 use rb_delayed::Element;
 use rb_kept::{CallFault, Outcome};
 use rb_lock::{Pass, Shared};

@@ -2,8 +2,8 @@ ghost use Rattle.std.specs.Prelude.{◌≡◌, ℕ, false, Some, None};
 ghost use Rattle.rb_queue.specs.Calls.{deadline_of};
 ghost use Rattle.rb_queue.specs.declared.ask.Ask.TheVariants.{PollFor};
 
-use crate::bell::{Bell, longest_rest};
 use crate::fault::WaitFault;
+use rb_bell::{Bell, longest_rest};
 use rb_delayed::add_capped;
 use rb_queue::{Ask, Reply};
 use std::sync::Wait;
@@ -24,7 +24,7 @@ pub(crate) struct Rests {
     // How long the call rests after it, at most.
     most: Duration,
     // Whether another call ended the last rest.
-    pub(crate) woken: bool,
+    woken: bool,
 }
 
 impl Rests {

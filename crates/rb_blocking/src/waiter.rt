@@ -1,5 +1,5 @@
-use crate::bell::Bell;
 use crate::clock::Clock;
+use rb_bell::Bell;
 use rb_lock::Shared;
 use rb_timer::Timer;
 

@@ -4,12 +4,12 @@ ghost use Rattle.rb_kept.specs.Tries.{TakesMemory};
 ghost use Rattle.rb_lock.specs.Passes.{Learns};
 ghost use Rattle.rb_blocking.specs.WaitingCalls.{Waited, taken, polled};
 
-use crate::bell::Bell;
 use crate::clock::Clock;
 use crate::fault::WaitFault;
 use crate::gate::Gate;
 use crate::rests::Rests;
 use crate::waiter::Waiter;
+use rb_bell::Bell;
 use rb_delayed::Element;
 use rb_kept::{CallFault, Outcome};
 use rb_lock::{Pass, Shared};

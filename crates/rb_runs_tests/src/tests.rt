@@ -8,4 +8,5 @@ mod memory_refusals;
 mod reading_devices;
 mod replies_at_once;
 mod reports;
+mod word_refusals;
 mod writing_devices;

@@ -20,7 +20,18 @@ from checking.trying import built
 from common.program import TOP
 
 # The modules of tests that are built, of those that a crate has.
-KEPT = ("memory_refusals", "timer_refusals", "queue_refusals", "allocations", "devices", "fixtures")
+KEPT = (
+    "memory_refusals",
+    "timer_refusals",
+    "queue_refusals",
+    "word_refusals",
+    "allocations",
+    "devices",
+    "callers",
+    "fixtures",
+)
+# How many refusals a test of refusals meets: none until it is built here.
+REFUSALS = re.compile(r"^(const REFUSALS: u32 =) 0;$", re.M)
 # The allocation that the built program refuses: one that no test reaches, and a number that it has nowhere else.
 NONE = 987654321
 COMPARE, IF_OTHER, IF_LESS = b"\x48\x3d", b"\x75", b"\x72"
@@ -33,13 +44,11 @@ PATIENCE = 240
 # where a vector gives back the room that is left over. One more is a call that asks for memory in vain. Of the tests of
 # servers and of sessions nothing is said: the system allocates for threads too, and the latter take long.
 UNMET = {
-    "rb_arguments_tests": 92,
-    "rb_blocking": 4,
+    "rb_blocking_tests": 2,
     "rb_kept_tests": 7,
-    "rb_lock_tests": 1,
     "rb_replay_tests": 2,
     "rb_retry_tests": 14,
-    "rb_runs_tests": 9,
+    "rb_runs_tests": 101,
 }
 
 
@@ -122,18 +131,19 @@ class CrateTests:
         return f"{done}, which answer with all memory refused", ""
 
     def refuse_each(self) -> tuple[str, str]:
-        """Refuses one allocation of memory_refusals.rt after the other. Returns what was done, and what is wrong."""
-        [name] = re.findall(r"^#\[test\]\nfn (\w+)\(", source_of(self.crate, "memory_refusals"), re.M)
-        test = f"tests::memory_refusals::{name}"
-        whole = self.run(test)
-        if not whole.is_unmet:
-            return "with no allocation refused", whole.fault or "a refusal was counted"
-        every, met = self.allocations(whole), 0
-        for number in range(1, every + 1):
-            ran = self.run(test, number)
-            if ran.fault and not ran.is_unmet:
-                return f"with allocation {number} of {every} refused", ran.fault
-            met += not ran.fault
+        """Refuses one allocation after the other of each test of refusals. Returns what was done, and what is wrong."""
+        every = met = 0
+        for test in tests_of_refusals(self.crate):
+            whole = self.run(test)
+            if not whole.is_unmet:
+                return "with no allocation refused", whole.fault or "a refusal was counted"
+            made = self.allocations(whole)
+            for number in range(1, made + 1):
+                ran = self.run(test, number)
+                if ran.fault and not ran.is_unmet:
+                    return f"with allocation {number} of {made} refused", ran.fault
+                met += not ran.fault
+            every += made
         done = f"each of {every} allocations refused in turn, {met} refusals met"
         if not met:
             return done, "no call has met one"
@@ -155,20 +165,27 @@ def source_of(crate: str, module: str) -> str:
     return path.read_text("utf-8") if path.is_file() else ""
 
 
+def tests_of_refusals(crate: str) -> list[str]:
+    """The tests of which each allocation is refused, as the built program names them."""
+    tests = re.compile(r"^#\[test\]\nfn (\w+)\(", re.M)
+    texts = {module: source_of(crate, module) for module in KEPT}
+    return [f"tests::{it}::{name}" for it, text in texts.items() if REFUSALS.search(text) for name in tests.findall(text)]
+
+
 def copied(crate: str, room: str) -> str:
     """Copies the checkout, without the crate's other tests. Returns the folder of the crate in the copy."""
     copy_crates(TOP, Path(room), lambda _: ("out", "must-fail", "attacks"))
     tests = Path(room, "crates", crate, "src/tests")
-    replace(tests.with_suffix(".rt"), rf"^mod (?!(?:{'|'.join(KEPT)});)\w+;\n", "")
+    replace(tests.with_suffix(".rt"), re.compile(rf"^mod (?!(?:{'|'.join(KEPT)});)\w+;\n", re.M), "")
     for found in tests.iterdir():
         if found.is_dir():
             shutil.rmtree(found)
-        elif found.stem not in KEPT:
+        elif found.stem in KEPT:
+            replace(found, REFUSALS, r"\1 1;")
+        else:
             found.unlink()
-    if source_of(crate, "memory_refusals"):
-        replace(tests / "memory_refusals.rt", r"^(const REFUSALS: u32 =) 0;$", r"\1 1;")
     return f"{room}/crates/{crate}"
 
 
-def replace(path: Path, old: str, new: str) -> None:
-    path.write_text(re.sub(old, new, path.read_text("utf-8"), flags=re.M), "utf-8")
+def replace(path: Path, old: re.Pattern[str], new: str) -> None:
+    path.write_text(old.sub(new, path.read_text("utf-8")), "utf-8")

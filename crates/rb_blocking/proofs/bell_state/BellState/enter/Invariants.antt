@@ -1,7 +1,0 @@
--- The place with the fewest so far is one of them.
-use Rattle.std.proofs.Common.{◌<◌}
-use Rattle.rb_blocking.specs.declared.bell_state.TheConstants.{PLACES}
-use Rattle.rb_blocking.proofs.bell_state.BellState.enter.Given as goal
-
-abbrev pub invariant-loop-at : goal.invariant-loop-at
-invariant-loop-at l = l.least < PLACES

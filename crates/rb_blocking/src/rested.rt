@@ -1,8 +1,0 @@
-/// How a rest ended.
-#[derive(Clone, Copy, Debug)]
-pub(crate) struct Rested {
-    /// The bell's count at its end.
-    pub(crate) count: u64,
-    /// Whether another call woke this one, for an element that it may take.
-    pub(crate) woken: bool,
-}

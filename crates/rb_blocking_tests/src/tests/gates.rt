@@ -1,0 +1,72 @@
+// Gates that end a wait after a number of turns, each with its rest.
+
+use crate::tests::callers::{Caller, FixedClock, with_caller};
+use crate::tests::fixtures::{expect, expect_same};
+use rb_blocking::{Bell, Clock, Gate, MachineClock, WaitFault};
+use std::process::Abort;
+use std::sync::Wait;
+use std::test::Fail;
+use std::time;
+
+// More turns than a wait makes in a server that is started without `--turns`.
+const TURNS: u64 = 12_000;
+
+// The length of a rest that nothing ends, in nanoseconds.
+const REST: u64 = 20_000_000;
+
+// A gate that rings the bell at each turn, so that no rest lasts. It ends the wait after `TURNS`
+// turns, or at a turn whose number is not the next one.
+#[derive(Drop)]
+struct RingingGate<'a, R> {
+    rt: &'a R,
+    bell: &'a Bell,
+    next: u64,
+}
+
+impl<'a, R: Wait> Gate for RingingGate<'a, R> {
+    ghost answers = { λ _ _ _. Unit {0} };
+
+    fn turn(&mut self, turns: u64) -> bool {
+        if turns != self.next {
+            return false;
+        }
+        self.next = turns.saturating_add(1);
+        self.bell.ring(self.rt);
+        self.next < TURNS
+    }
+}
+
+// Makes a take whose rests don't last. Returns the number of its turns, counted while each turn has
+// the next number.
+fn turns_of<R: Wait + time::Clock>(rt: &R, caller: &mut Caller<'_>) -> u64 {
+    let bell = caller.bell;
+    let mut gate = RingingGate { rt, bell, next: 0 };
+    let _ = caller.take_by(rt, &FixedClock(7), &mut gate);
+    gate.next
+}
+
+#[test]
+fn each_turn_is_counted(rt: HostRuntime) -> Result<(), Fail> {
+    let turns = with_caller(rt.alloc(), 1, |caller| turns_of(&rt, caller))?;
+    expect_same(&rt, turns, TURNS);
+    Ok(())
+}
+
+// Makes takes that find nothing, with gates of several limits. Asserts how often each take asked
+// its gate, at least how long it lasted, and how it ended.
+fn expect_stops<R: Wait + time::Clock + Abort>(rt: &R, caller: &mut Caller<'_>) {
+    for limit in 0..6_u64 {
+        let watch = MachineClock::new(rt);
+        let taken = caller.take(rt, &FixedClock(7), limit);
+        let lasted = watch.now();
+        expect_same(rt, taken, Err(WaitFault::Stopped));
+        expect_same(rt, caller.asked(), limit.saturating_add(1));
+        expect(rt, limit.saturating_mul(REST) <= lasted);
+    }
+    expect_same(rt, caller.pass.calls(), 0);
+}
+
+#[test]
+fn stops_after_so_many_turns(rt: HostRuntime) -> Result<(), Fail> {
+    with_caller(rt.alloc(), 1, |caller| expect_stops(&rt, caller))
+}

@@ -1,0 +1,92 @@
+// Two takers that wait for one element.
+
+use crate::tests::callers::{Caller, Counts, FixedClock, in_threads, with_caller};
+use crate::tests::fixtures::{await_more, expect, expect_same};
+use rb_blocking::{Gate, WaitFault};
+use std::alloc::Global;
+use std::process::Abort;
+use std::sync::Wait;
+use std::sync::atomic::Ordering;
+use std::test::Fail;
+use std::thread::Threads;
+use std::time::Clock;
+
+// A gate that ends a wait `left` turns after another taker was served. `left` counts those turns
+// down.
+#[derive(Drop)]
+struct LosersGate<'a> {
+    counts: &'a Counts,
+    left: u64,
+}
+
+impl<'a> Gate for LosersGate<'a> {
+    ghost answers = { λ _ _ _. Unit {0} };
+
+    fn turn(&mut self, turns: u64) -> bool {
+        if turns == 0 {
+            self.counts.waits.fetch_add(1, Ordering::SeqCst);
+        }
+        if self.counts.taken.load(Ordering::SeqCst) > 0 {
+            self.left = self.left.saturating_sub(1);
+        }
+        self.left > 0
+    }
+}
+
+// The work of thread `number`. The first two take one element, and tell each other who got one. The
+// gate ends the wait three turns after the other taker was served. Each asserts that it got the
+// element or was stopped by its gate. The third thread offers one element, once both takers wait.
+// Returns how often the thread was served.
+fn take_or_offer<R: Wait + Clock + Abort>(
+    rt: &R,
+    caller: &mut Caller<'_>,
+    counts: &Counts,
+    number: usize,
+) -> u64 {
+    if number == 2 {
+        await_more(rt, &counts.waits, 1);
+        let _ = caller.offer(rt, 9, 9);
+        return 0;
+    }
+    let mut gate = LosersGate { counts, left: 3 };
+    let ended = caller.take_by(rt, &FixedClock(9), &mut gate).err();
+    let served = u64::from(ended.is_none());
+    counts.taken.fetch_add(served, Ordering::SeqCst);
+    let wanted = if served == 1 {
+        (None, 3)
+    } else {
+        (Some(WaitFault::Stopped), 0)
+    };
+    expect_same(rt, (ended, gate.left), wanted);
+    served
+}
+
+// Runs two takers and a giver, ten times, each with a pass of its own. Asserts that one taker is
+// served.
+fn expect_one_served<R: Threads + Wait + Clock + Abort + Sync>(
+    rt: &R,
+    alloc: Global,
+    first: &mut Caller<'_>,
+) {
+    for _ in 0..10 {
+        let counts = &Counts::new();
+        let served = in_threads(
+            rt,
+            alloc,
+            3,
+            first,
+            &|caller, number| take_or_offer(rt, caller, counts, number),
+        );
+        expect(rt, served.is_ok());
+        expect_same(rt, counts.taken.load(Ordering::SeqCst), 1);
+    }
+}
+
+#[test]
+fn one_of_two_takers_gets_it_and_the_other_waits_on(rt: HostRuntime) -> Result<(), Fail> {
+    with_caller(
+        rt.alloc(),
+        40,
+        |first| expect_one_served(&rt, rt.alloc(), first),
+    )
+}

@@ -1,6 +1,0 @@
--- The first pass stays at its table while each name is given and folded, so it may split again.
-use Rattle.std.proofs.Common.{◌≡◌}
-use Rattle.rb_lock_tests.proofs.tests.names.expect_names.Given as goal
-
-abbrev pub invariant-loop-name : goal.invariant-loop-name
-invariant-loop-name g l = l.first.table ≡ l.initial.first.table
