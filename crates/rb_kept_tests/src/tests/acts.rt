@@ -1,15 +1,15 @@
 use super::fixtures::{element, expect, expect_number};
 use rb_queue::{Act, Ids};
-use std::alloc::{AllocError, Global};
+use std::alloc::Global;
 use std::process::Abort;
-use std::test::Fail;
 
-fn ids_of(alloc: Global, values: &[u64]) -> Result<Ids, AllocError> {
-    Ok(Ids::new(values.to_vec(alloc)?))
+fn ids_of(rt: &impl Abort, alloc: Global, values: &[u64]) -> Ids {
+    let values = values.to_vec(alloc);
+    Ids::new(values.ok().expect(rt, "memory for numbers"))
 }
 
 // Asserts how many elements an act offered, gave and removed, and how many of seven it cleared.
-fn expect_counts(rt: &impl Abort, act: &Act, counts: [u64; 4]) {
+fn expect_counts(rt: &impl Abort, act: Act, counts: [u64; 4]) {
     let [offered, given, removed, cleared] = counts;
     expect_number(rt, act.offered(), offered);
     expect_number(rt, act.given(), given);
@@ -17,50 +17,41 @@ fn expect_counts(rt: &impl Abort, act: &Act, counts: [u64; 4]) {
     expect_number(rt, act.cleared(7), cleared);
 }
 
-fn timed(got: Option<u64>) -> Act {
-    Act::PollFor {
-        start: 3,
-        timeout: 4,
+fn expect_timed(rt: &impl Abort, got: Option<u64>, given: u64) {
+    let (start, timeout) = (3, 4);
+    let act = Act::PollFor {
+        start,
+        timeout,
         got,
-    }
+    };
+    expect_counts(rt, act, [0, given, 0, 0]);
 }
 
-fn expect_acts(rt: &impl Abort, acts: &[(Act, [u64; 4])]) {
-    for (act, counts) in acts {
-        expect_counts(rt, act, *counts);
-    }
-}
-
-fn plain_acts(rt: &impl Abort) -> [(Act, [u64; 4]); 11] {
-    let (id, found) = (0, true);
-    [
-        (Act::Offer(element(rt, 0, 3, b"job")), [1, 0, 0, 0]),
-        (Act::Poll(Some(0)), [0, 1, 0, 0]),
-        (Act::Poll(None), [0, 0, 0, 0]),
-        (Act::Take(0), [0, 1, 0, 0]),
-        (timed(Some(0)), [0, 1, 0, 0]),
-        (timed(None), [0, 0, 0, 0]),
-        (Act::Peek(Some(0)), [0, 0, 0, 0]),
-        (Act::Peek(None), [0, 0, 0, 0]),
-        (Act::Remove { id, found }, [0, 0, 1, 0]),
-        (Act::Clear, [0, 0, 0, 7]),
-        (Act::Size(1), [0, 0, 0, 0]),
-    ]
+fn expect_removal(rt: &impl Abort, found: bool, removed: u64) {
+    expect_counts(rt, Act::Remove { id: 0, found }, [0, 0, removed, 0]);
 }
 
 fn expect_drain(rt: &impl Abort, max: u64, ids: Ids, given: u64) {
-    expect_counts(rt, &Act::Drain { max, ids }, [0, given, 0, 0]);
+    expect_counts(rt, Act::Drain { max, ids }, [0, given, 0, 0]);
 }
 
 #[test]
-fn what_each_act_counts(rt: HostRuntime) -> Result<(), Fail> {
-    let (id, found) = (0, false);
-    expect_acts(&rt, &plain_acts(&rt));
-    expect_counts(&rt, &Act::Remove { id, found }, [0, 0, 0, 0]);
-    expect_drain(&rt, 9, ids_of(rt.alloc(), &[1, 2, 5])?, 3);
-    expect_drain(&rt, 0, ids_of(rt.alloc(), &[])?, 0);
+fn what_each_act_counts(rt: HostRuntime) {
+    expect_counts(&rt, Act::Offer(element(&rt, 0, 3, b"job")), [1, 0, 0, 0]);
+    expect_counts(&rt, Act::Poll(Some(0)), [0, 1, 0, 0]);
+    expect_counts(&rt, Act::Poll(None), [0, 0, 0, 0]);
+    expect_counts(&rt, Act::Take(0), [0, 1, 0, 0]);
+    expect_timed(&rt, Some(0), 1);
+    expect_timed(&rt, None, 0);
+    expect_counts(&rt, Act::Peek(Some(0)), [0, 0, 0, 0]);
+    expect_counts(&rt, Act::Peek(None), [0, 0, 0, 0]);
+    expect_removal(&rt, true, 1);
+    expect_removal(&rt, false, 0);
+    expect_counts(&rt, Act::Clear, [0, 0, 0, 7]);
+    expect_counts(&rt, Act::Size(1), [0, 0, 0, 0]);
+    expect_drain(&rt, 9, ids_of(&rt, rt.alloc(), &[1, 2, 5]), 3);
+    expect_drain(&rt, 0, ids_of(&rt, rt.alloc(), &[]), 0);
     expect_number(&rt, Act::Clear.cleared(0), 0);
-    Ok(())
 }
 
 fn expect_values(rt: &impl Abort, values: &[u64]) {
@@ -72,22 +63,20 @@ fn expect_sequence(rt: &impl Abort, ids: Ids) {
     expect_values(rt, ids.into_vec().as_slice());
 }
 
-fn are_equal(alloc: Global, one: &[u64], other: &[u64]) -> Result<bool, AllocError> {
-    let (one, other) = (ids_of(alloc, one)?, ids_of(alloc, other)?);
-    Ok(one == other)
+fn expect_equality(rt: &impl Abort, one: &Ids, other: Ids, are_equal: bool) {
+    expect(rt, (*one == other) == are_equal, "whether two are equal");
 }
 
 #[test]
-fn a_sequence_is_its_values_in_order(rt: HostRuntime) -> Result<(), Fail> {
-    expect_sequence(&rt, ids_of(rt.alloc(), &[4, 1, 1])?);
-    for (other, is_equal) in [
+fn a_sequence_is_its_values_in_order(rt: HostRuntime) {
+    expect_sequence(&rt, ids_of(&rt, rt.alloc(), &[4, 1, 1]));
+    let ids = &ids_of(&rt, rt.alloc(), &[4, 1, 1]);
+    for (other, are_equal) in [
         ([4, 1, 1].as_slice(), true),
         ([1, 4, 1].as_slice(), false),
         ([4, 1].as_slice(), false),
         ([4, 1, 1, 0].as_slice(), false),
     ] {
-        let are_equal = are_equal(rt.alloc(), &[4, 1, 1], other)?;
-        expect(&rt, are_equal == is_equal, "whether two are equal");
+        expect_equality(&rt, ids, ids_of(&rt, rt.alloc(), other), are_equal);
     }
-    Ok(())
 }
