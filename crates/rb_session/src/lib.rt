@@ -19,6 +19,7 @@ mod replies;
 mod run;
 mod session;
 mod session_fault;
+mod session_room;
 mod stop;
 
 pub use delivery::Delivery;
@@ -26,5 +27,6 @@ pub use ended::Ended;
 pub use hands_on::HandsOn;
 pub use held_jobs::MOST_HELD;
 pub use laws::{came_first, sent_last, session_limits_have_their_values};
-pub use run::{run_limited, run_session};
+pub use run::{run_in, run_limited, run_session};
 pub use session_fault::SessionFault;
+pub use session_room::SessionRoom;

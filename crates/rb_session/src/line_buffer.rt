@@ -1,4 +1,4 @@
-ghost use Rattle.std.specs.Prelude.{◌≡◌, ℕ, ◌+◌, ◌-◌, ◌<◌, ◌≤◌, ◌↔◌, List, [], length, vec_len, IfOk, IfSome, IsTrue};
+ghost use Rattle.std.specs.Prelude.{◌≡◌, ℕ, ◌+◌, ◌-◌, ◌<◌, ◌≤◌, ◌↔◌, List, [], length, vec_len, false, IfOk, IfSome, IsTrue};
 ghost use Rattle.rb_protocol.specs.Line.{HasNoLineFeed};
 ghost use Rattle.rb_protocol.specs.Reads.{IsAfterRead};
 ghost use Rattle.rb_session.specs.Lines.{line_of};
@@ -41,7 +41,8 @@ impl LineBuffer {
 
     /// An empty buffer, whose memory is taken at once.
     pub(crate) fn new(alloc: Global) -> Result<Self, AllocError>
-        ensures { IfOk result (λ buffer. IsUnserved buffer []) }
+        ensures short { IfOk result (λ buffer. buffer.is_long ≡ false) }
+        ensures unread { IfOk result (λ buffer. buffer.start ≡ buffer.end) }
     {
         Ok(LineBuffer {
             bytes: vec![in alloc; 0; BUFFER_BYTES]?,

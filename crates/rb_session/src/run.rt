@@ -1,4 +1,4 @@
-ghost use Rattle.std.specs.Prelude.{◌≡◌, ◌≤◌};
+ghost use Rattle.std.specs.Prelude.{◌≡◌, ◌≢◌, ◌≤◌, Err};
 ghost use Rattle.std.specs.Io.KnownBytes.{IsAtEnd};
 ghost use Rattle.rb_retry.specs.DeskRules.{desk_rules};
 ghost use Rattle.rb_session.specs.Exchange.{Exchanges};
@@ -11,8 +11,8 @@ use crate::delivery::Delivery;
 use crate::ended::Ended;
 use crate::held_job_ends::fail_all;
 use crate::outlet::Outlet;
-use crate::session::Session;
 use crate::session_fault::SessionFault;
+use crate::session_room::SessionRoom;
 use crate::stop::Stop;
 use rb_protocol::{LimitedReader, WriteFault};
 use rb_retry::{Desk, Policy};
@@ -77,13 +77,39 @@ pub fn run_limited<R: Read, W: Write, D: Desk>(
     ensures same_reference { reader.new.inner.ghost_name ≡ reader.old.inner.ghost_name }
     ensures name { D.name (D.state desk.new) ≡ D.name (D.state desk.old) }
 {
-    let Ok(room) = Vec::with_capacity(alloc, delivery.most_held_back()) else {
+    let Ok(room) = SessionRoom::new(alloc, delivery) else {
         return Err(SessionFault::Memory);
     };
-    let Ok(mut session) = Session::new(alloc) else {
-        return Err(SessionFault::Memory);
-    };
-    let mut outlet = Outlet::new(writer, room, delivery);
+    run_in(room, reader, writer, desk, policy)
+}
+
+/// Runs a session like `run_limited`, in memory that was taken before. So it is never answered by `Memory`.
+pub fn run_in<R: Read, W: Write, D: Desk>(
+    room: SessionRoom,
+    reader: &mut LimitedReader<'_, R>,
+    writer: &mut W,
+    desk: &mut D,
+    policy: &Policy,
+) -> Result<Ended, SessionFault>
+    ensures ran { Exchanges
+        (R.remaining reader.old.inner.now) (R.remaining reader.new.inner.now)
+        (W.contents writer.old) (W.contents writer.new)
+        (λ came sent. Ran
+        (session_rules (desk_rules D.Desk policy.now) room.delivery (HadGotBehind W.contents (W.contents writer.old)))
+        (IsAtEnd (R.remaining reader.new.inner.now))
+        (D.state desk.old) (record { came = came; sent = sent; ended = result }) (D.state desk.new)) }
+    ensures begun { result ≢ Err SessionFault.Memory }
+    ensures reason { IsReason reader.old.state reader.new result }
+    ensures counted { reader.new.left ≤ reader.old.left }
+    ensures same_reference { reader.new.inner.ghost_name ≡ reader.old.inner.ghost_name }
+    ensures name { D.name (D.state desk.new) ≡ D.name (D.state desk.old) }
+{
+    let SessionRoom {
+        gathered,
+        mut session,
+        delivery,
+    } = room;
+    let mut outlet = Outlet::new(writer, gathered, delivery);
     let stopped = session.serve(reader, &mut outlet, desk, policy);
     let lost = fail_all(desk, policy, session.held);
     // For the proof: what the writer has got.

@@ -1,4 +1,4 @@
-ghost use Rattle.std.specs.Prelude.{◌≡◌, ◌≤◌, ◌+◌, ℕ, List, [], IfOk, OnOk, MatchOption, MatchResult};
+ghost use Rattle.std.specs.Prelude.{◌≡◌, ◌≤◌, ◌+◌, ℕ, List, [], false, IfOk, OnOk, MatchOption, MatchResult};
 ghost use Rattle.std.specs.Io.KnownBytes.{IsAtEnd};
 ghost use Rattle.rb_retry.specs.DeskRules.{desk_rules};
 ghost use Rattle.rb_protocol.specs.Line.{HasNoLineFeed};
@@ -25,14 +25,15 @@ use std::io::{ErrorKind, Read, Write};
 /// yet, and the jobs that it holds.
 #[derive(Drop)]
 pub(crate) struct Session {
-    buffer: LineBuffer,
+    pub(crate) buffer: LineBuffer,
     pub(crate) held: HeldJobs,
 }
 
 impl Session {
     /// A session before its first read, whose memory is taken at once.
     pub(crate) fn new(alloc: Global) -> Result<Self, AllocError>
-        ensures unserved { IfOk result (λ session. IsUnserved session.buffer []) }
+        ensures short { IfOk result (λ session. session.buffer.is_long ≡ false) }
+        ensures unread { IfOk result (λ session. session.buffer.start ≡ session.buffer.end) }
         ensures held { IfOk result (λ session. session.held ≡ []) }
     {
         Ok(Session {

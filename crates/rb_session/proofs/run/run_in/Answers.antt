@@ -24,9 +24,9 @@ use Rattle.rb_session.specs.declared.stop.Stop.TheVariants as stops
 use Rattle.rb_session.proofs.Gatherings.{known_at_first, all_sent, is_shared}
 use Rattle.rb_session.proofs.Outlets.{reason_to_end}
 use Rattle.rb_session.proofs.DeskParts.{stays}
-use Rattle.rb_session.proofs.run.run_limited.Given.{Over}
-use Rattle.rb_session.proofs.run.run_limited.Goals as goal
-use Rattle.rb_session.proofs.run.run_limited.Goals.{After-end_of}
+use Rattle.rb_session.proofs.run.run_in.Given.{Over}
+use Rattle.rb_session.proofs.run.run_in.Goals as goal
+use Rattle.rb_session.proofs.run.run_in.Goals.{After-end_of}
 
 module _ {S : Type 0} (rules : SessionRules S) (Over : Type 0) (from last to : S) (held : List Element)
     (lost : ℕ) (closes : Closes rules.desk last held lost to) (left left' old new : Option (List ℕ))
@@ -93,7 +93,7 @@ whole : (g : Over) (c : After-end_of g)
     → Exchanges (g.R.Read.remaining c.args.reader.now.inner.now)
     (g.R.Read.remaining c.serve-stopped.new.reader.inner.now) (g.W.Write.contents c.args.writer.now)
     (g.W.Write.contents c.serve-stopped.new.outlet.writer.now) (λ came sent. RanUntil
-    (session_rules (desk_rules g.D.Desk c.args.policy.now) c.args.delivery
+    (session_rules (desk_rules g.D.Desk c.args.policy.now) c.args.room.delivery
     (HadGotBehind g.W.Write.contents (g.W.Write.contents c.args.writer.now)))
     (IsAtEnd (g.R.Read.remaining c.serve-stopped.new.reader.inner.now)) (g.D.Desk.state c.args.desk.now)
     (record { came = came; sent = sent; ended = c.end_of.result }) c.end_of.result
@@ -108,7 +108,7 @@ whole g c =
     let over = IsAtEnd (g.R.Read.remaining stop.new.reader.inner.now) in
     let from = g.D.Desk.state c.args.desk.now in
     let desk = desk_rules g.D.Desk c.args.policy.now in
-    let own_rules = session_rules desk c.args.delivery (HadGotBehind g.W.Write.contents old) in
+    let own_rules = session_rules desk c.args.room.delivery (HadGotBehind g.W.Write.contents old) in
     let fresh = ap g.W.Write.contents made.same in
     let got = known_at_first _ old c.new-outlet.result.gathered.items made.empty fresh in
     let grows = subst (λ (first : Option (List ℕ)). KeepsFront first new) fresh stop.ensures.becomes.grows in
@@ -119,7 +119,7 @@ whole g c =
     (stop.ensures.becomes.delivery ∙ made.delivery) (omega (arith, last.few, last.gathered.ok.0)) in
     let stopped =
     stops_by desk g.W.Write.contents over from (point (g.D.Desk.state stop.new.desk) stop.new.self.held) did.came did.sent
-    stop.result c.new-outlet.result.delivery c.args.delivery made.delivery _ old got _ c.in-Ok-new.ensures.held
+    stop.result c.new-outlet.result.delivery c.args.room.delivery made.delivery _ old got _ c.args.room.unheld
     did.holds in
     let to = g.D.Desk.state c.fail_all-lost.new.desk in
     subst (λ (ended : Result Ended SessionFault). Exchanges (g.R.Read.remaining c.args.reader.now.inner.now)
@@ -141,7 +141,7 @@ returns-clause-ran g c =
 pub returns-clause-name : goal.returns-clause-name
 returns-clause-name g c =
     let ran = whole g (goal.at.returns-clause-name g c).After-end_of in
-    stays (session_rules (desk_rules g.D.Desk c.args.policy.now) c.args.delivery
+    stays (session_rules (desk_rules g.D.Desk c.args.policy.now) c.args.room.delivery
     (HadGotBehind g.W.Write.contents (g.W.Write.contents c.args.writer.now)))
     g.D.Desk.name g.met.D.Desk.keeps_name g.met.D.Desk.sets_no_name
     (IsAtEnd (g.R.Read.remaining c.serve-stopped.new.reader.inner.now)) (g.D.Desk.state c.args.desk.now)
