@@ -1,5 +1,7 @@
 -- The lemmas of this crate, by subject: what is written, and what a text is read as.
 pub mod Lines
+pub mod Outlets
+pub mod Writings
 pub mod SameElements
 pub mod Spelled
 pub mod Keywords

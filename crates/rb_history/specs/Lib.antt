@@ -2,6 +2,7 @@ pub mod EventText
 pub mod HistoryText
 pub mod Written
 pub mod Tails
+pub mod Outlet
 pub mod Ranges
 pub mod LineReading
 pub mod Feeds

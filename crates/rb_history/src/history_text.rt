@@ -1,84 +1,77 @@
-ghost use Rattle.std.specs.Prelude.{◌≡◌, ◌++◌, map, IfOk, OnOk};
+ghost use Rattle.std.specs.Prelude.{map};
 ghost use Rattle.rb_history.specs.EventText.{keep_words, event_words, open_words, end_words};
 ghost use Rattle.rb_history.specs.HistoryText.{line_text, lines_text, history_text};
+ghost use Rattle.rb_history.specs.Outlet.{Grows};
 ghost use Rattle.rb_history.specs.Ranges.{IsWord, IsRightElement, IsRightOpening, AreRightElements, AreRightEvents};
 ghost use Rattle.rb_history.specs.declared.version.Version.TheVariants.{Three};
 
-use crate::text::{push_bytes, push_element, push_event, push_number};
+use crate::outlet::Outlet;
+use crate::text::{push_element, push_event, push_numbers};
 use rb_delayed::Element;
 use rb_protocol::LINE_FEED;
 use rb_queue::{Event, Opening};
-use std::alloc::{AllocError, Global};
+use std::io::Write;
 
-/// The text of a history, in the version that is written. On `Ok` all values are in their ranges. `Err`
-/// means that there is not enough memory.
-pub(crate) fn history_bytes(
-    alloc: Global,
+/// Pushes the text of a history, in the version that is written. All values are in their ranges.
+pub(crate) fn push_history<W: Write>(
+    outlet: &mut Outlet<'_, W>,
     opening: &Opening,
     events: &[Event],
-) -> Result<Vec<u8>, AllocError>
-    ensures text { IfOk result (λ text. text.items ≡ history_text opening.now events.now) }
-    ensures opening { OnOk result (IsRightOpening opening.now) }
-    ensures events { OnOk result (AreRightEvents events.now) }
+)
+    ensures text { Grows W.Write outlet.old (history_text opening.now events.now) outlet.new }
+    ensures opening { IsRightOpening opening.now }
+    ensures events { AreRightEvents events.now }
 {
-    let mut text = Vec::from_slice(alloc, b"history 3\n")?;
-    push_open(&mut text, opening)?;
-    push_keeps(&mut text, opening.elements.as_slice())?;
-    push_events(&mut text, events)?;
-    push_end(&mut text, events.len() as u64)?;
-    Ok(text)
+    outlet.push(b"history 3\n");
+    push_open(outlet, opening);
+    push_keeps(outlet, opening.elements.as_slice());
+    push_events(outlet, events);
+    push_end(outlet, events.len() as u64);
 }
 
-// Appends the line with the numbers of an opening.
-fn push_open(text: &mut Vec<u8>, opening: &Opening) -> Result<(), AllocError>
-    ensures line { OnOk result (text.new.items ≡ text.old.items ++ line_text (open_words opening.now)) }
-    ensures right { OnOk result (IsWord opening.now.last_at) }
+// Pushes the line with the numbers of an opening.
+fn push_open<W: Write>(outlet: &mut Outlet<'_, W>, opening: &Opening)
+    ensures line { Grows W.Write outlet.old (line_text (open_words opening.now)) outlet.new }
+    ensures right { IsWord opening.now.last_at }
 {
-    let count = opening.elements.as_slice().len();
-    push_number(text, b"open ", opening.next_id)?;
-    push_number(text, b" ", opening.last_at)?;
-    push_number(text, b" ", count as u64)?;
-    push_bytes(text, &[LINE_FEED])
+    let count = opening.elements.as_slice().len() as u64;
+    push_numbers(outlet, b"open", &[opening.next_id, opening.last_at, count]);
+    outlet.push(&[LINE_FEED]);
 }
 
-// Appends the lines of an opening's elements.
-fn push_keeps(text: &mut Vec<u8>, elements: &[Element]) -> Result<(), AllocError>
-    ensures lines { OnOk result (text.new.items
-        ≡ text.old.items ++ lines_text (map (keep_words Three) elements.now)) }
-    ensures right { OnOk result (AreRightElements elements.now) }
+// Pushes the lines of an opening's elements.
+fn push_keeps<W: Write>(outlet: &mut Outlet<'_, W>, elements: &[Element])
+    ensures lines { Grows W.Write outlet.old (lines_text (map (keep_words Three) elements.now)) outlet.new }
+    ensures right { AreRightElements elements.now }
 {
     for element in elements {
-        push_keep(text, element)?;
+        push_keep(outlet, element);
     }
-    Ok(())
 }
 
-// Appends the line of an opening's element.
-fn push_keep(text: &mut Vec<u8>, element: &Element) -> Result<(), AllocError>
-    ensures line { OnOk result (text.new.items
-        ≡ text.old.items ++ line_text (keep_words Three element.now)) }
-    ensures right { OnOk result (IsRightElement element.now) }
+// Pushes the line of an opening's element.
+fn push_keep<W: Write>(outlet: &mut Outlet<'_, W>, element: &Element)
+    ensures line { Grows W.Write outlet.old (line_text (keep_words Three element.now)) outlet.new }
+    ensures right { IsRightElement element.now }
 {
-    push_element(text, b"keep ", element)?;
-    push_bytes(text, &[LINE_FEED])
+    push_element(outlet, b"keep", element);
+    outlet.push(&[LINE_FEED]);
 }
 
-// Appends the lines of the events.
-fn push_events(text: &mut Vec<u8>, events: &[Event]) -> Result<(), AllocError>
-    ensures lines { OnOk result (text.new.items
-        ≡ text.old.items ++ lines_text (map (event_words Three) events.now)) }
-    ensures right { OnOk result (AreRightEvents events.now) }
+// Pushes the lines of the events.
+fn push_events<W: Write>(outlet: &mut Outlet<'_, W>, events: &[Event])
+    ensures lines { Grows W.Write outlet.old (lines_text (map (event_words Three) events.now)) outlet.new }
+    ensures right { AreRightEvents events.now }
 {
     for event in events {
-        push_event(text, event)?;
+        push_event(outlet, event);
     }
-    Ok(())
 }
 
-// Appends the last line.
-fn push_end(text: &mut Vec<u8>, count: u64) -> Result<(), AllocError>
-    ensures { OnOk result (text.new.items ≡ text.old.items ++ line_text (end_words count)) }
+// Pushes the last line.
+fn push_end<W: Write>(outlet: &mut Outlet<'_, W>, count: u64)
+    ensures { Grows W.Write outlet.old (line_text (end_words count)) outlet.new }
 {
-    push_number(text, b"end ", count)?;
-    push_bytes(text, &[LINE_FEED])
+    push_numbers(outlet, b"end", &[count]);
+    outlet.push(&[LINE_FEED]);
 }

@@ -2,10 +2,13 @@ ghost use Rattle.std.specs.Prelude.{◌≤◌, length, OnOk};
 ghost use Rattle.rb_history.specs.HistoryText.{history_text};
 ghost use Rattle.rb_history.specs.Ranges.{IsRightOpening, AreRightEvents};
 ghost use Rattle.rb_history.specs.Written.{Writes};
+ghost use Rattle.rb_protocol.specs.Sending.{Sends};
 
 use crate::history_fault::HistoryFault;
-use crate::history_text::history_bytes;
-use rb_protocol::send_at_once;
+use crate::history_room::HistoryRoom;
+use crate::history_text::push_history;
+use crate::outlet::Outlet;
+use rb_protocol::WriteFault;
 use rb_queue::{Event, Opening};
 use std::alloc::Global;
 use std::io::Write;
@@ -15,8 +18,8 @@ pub const MOST_EVENTS: usize = 1_000_000;
 
 /// Writes a run's opening and its events, at most 1,000,000, in the third version, and flushes.
 ///
-/// It takes memory for the whole text before it writes the first byte. After `Memory` the writer is
-/// unchanged. After `Write` it has got a first part of the text, perhaps nothing or all of it.
+/// It takes 64 KiB of memory before it writes the first byte. After `Memory` the writer is unchanged. After
+/// `Write` it has got a first part of the text, perhaps nothing or all of it.
 ///
 /// A text that was written whole can be read again: all values are in the ranges that the laws of texts
 /// ask for.
@@ -32,11 +35,36 @@ pub fn write_history<W: Write>(
     ensures opening { OnOk result (IsRightOpening opening.now) }
     ensures events { OnOk result (AreRightEvents events.now) }
 {
-    let Ok(text) = history_bytes(alloc, opening, events) else {
+    let Ok(room) = HistoryRoom::new(alloc) else {
         return Err(HistoryFault::Memory);
     };
-    let Ok(()) = send_at_once(writer, &text) else {
+    let Ok(()) = write_history_in(room, opening, events, writer) else {
         return Err(HistoryFault::Write);
     };
     Ok(())
+}
+
+/// Writes like `write_history`, in pieces of at most 64 KiB, which it gathers in the room. It takes no
+/// memory.
+///
+/// `Err` means that a write or the flush failed, or that a write took no byte. Nothing is written after
+/// that, so the writer has got a first part of the text, perhaps nothing or all of it.
+pub fn write_history_in<W: Write>(
+    room: HistoryRoom,
+    opening: &Opening,
+    events: &[Event],
+    writer: &mut W,
+) -> Result<(), WriteFault>
+    requires { length events.now ≤ MOST_EVENTS }
+    ensures writes { Sends result (W.contents writer.old) (history_text opening.now events.now)
+        (W.contents writer.new) }
+    ensures opening { IsRightOpening opening.now }
+    ensures events { AreRightEvents events.now }
+{
+    let mut outlet = Outlet::new(writer, room);
+    push_history(&mut outlet, opening, events);
+    let ended = outlet.finish();
+    // For the proof: what the writer has got.
+    let _ = &*outlet.into_writer();
+    ended
 }

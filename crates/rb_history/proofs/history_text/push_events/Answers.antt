@@ -3,13 +3,15 @@ use Rattle.rb_history.specs.EventText.{event_words}
 use Rattle.rb_history.specs.Ranges.{IsRightEvent}
 use Rattle.rb_history.specs.declared.version.Version.TheVariants.{Three}
 use Rattle.rb_history.proofs.Lines.{lines_more}
+use Rattle.rb_history.proofs.Outlets.{grows_as, grows_then}
 use Rattle.rb_history.proofs.RightValues.{right_more}
 use Rattle.rb_history.proofs.history_text.push_events.Goals as goal
 
 pub loop-event-preserved : goal.loop-event-preserved
-loop-event-preserved c = record {
-  lines = lines_more (event_words Three) _ _ _ c.args.events.now c.loop-event.event-index c.event-item.result c.loop-event-test.true c.event-item.is
-      c.loop-event.invariant.lines c.in_ok-push_event.ensures.line;
+loop-event-preserved g c = record {
+  lines = grows_as g.W.Write c.args.outlet.now _ _ c.push_event.new.outlet
+      (lines_more (event_words Three) c.args.events.now c.loop-event.event-index c.event-item.result c.loop-event-test.true c.event-item.is)
+      (grows_then g.W.Write c.args.outlet.now c.loop-event.outlet c.push_event.new.outlet _ _ c.loop-event.invariant.lines c.push_event.ensures.line);
   right = right_more IsRightEvent c.args.events.now c.loop-event.event-index c.event-item.result c.loop-event-test.true c.event-item.is
-      c.loop-event.invariant.right c.in_ok-push_event.ensures.right;
+      c.loop-event.invariant.right c.push_event.ensures.right;
 }

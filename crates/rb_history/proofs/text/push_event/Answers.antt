@@ -1,10 +1,17 @@
--- Three numbers, the act's words and a line feed were appended in turn: the event's line.
-use Rattle.std.proofs.lemmas.Result.{on_ok_weaker}
+-- Three numbers, the act's words and a line feed were pushed in turn: the event's line.
+use Rattle.std.proofs.Common.{decimal}
+use Rattle.rb_history.specs.EventText.{act_words}
+use Rattle.rb_history.specs.declared.version.Version.TheVariants.{Three}
 use Rattle.rb_history.proofs.Lines.{event_line}
+use Rattle.rb_history.proofs.Outlets.{grows_as, grows_then}
 use Rattle.rb_history.proofs.text.push_event.Goals as goal
 
 pub returns-clause-line : goal.returns-clause-line
-returns-clause-line c =
-    on_ok_weaker c.push_bytes.result
-    (event_line _ _ _ _ _ _ _ _ _ _ c.in_ok-push_number.ensures.digits c.in_ok-push_number-2.ensures.digits c.in_ok-push_number-3.ensures.digits c.in_ok-push_act.ensures.words)
-    c.push_bytes.ensures
+returns-clause-line g c =
+    let event = c.args.event.now in
+    let last = c.push.new.self in
+    grows_as g.W.Write c.args.outlet.now _ _ last
+    (event_line (decimal event.seat) (decimal event.asked) (decimal event.at) (act_words Three event.act))
+    (grows_then g.W.Write c.args.outlet.now c.push_number.new.outlet last _ _ c.push_number.ensures.digits
+    (grows_then g.W.Write c.push_number.new.outlet c.push_numbers.new.outlet last _ _ c.push_numbers.ensures.words
+    (grows_then g.W.Write c.push_numbers.new.outlet c.push_act.new.outlet last _ _ c.push_act.ensures.words c.push.ensures)))

@@ -1,0 +1,69 @@
+-- What becomes of an outlet when bytes are pushed, one piece behind the other.
+use Rattle.std.proofs.Common.{◌≡◌, ℕ, List, [], ◌++◌, Option, Result, Ok, Err, refl, sym, ap, subst, ◌∙◌, append_assoc, append-nil}
+use Rattle.std.specs.Prelude.{IsOk, IsErr}
+use Rattle.std.specs.Io.KnownBytes.{Appends, Keeps}
+use Rattle.std.specs.declared.io.Write as Write
+use Rattle.std.proofs.KnownBytes.{Appends-nil, Appends-trans}
+use Rattle.rb_protocol.specs.Sending.{Sends}
+use Rattle.rb_protocol.proofs.Sending.{sends_all}
+use Rattle.rb_protocol.specs.declared.streams.writing.WriteFault.{WriteFault}
+use Rattle.rb_history.specs.Outlet.{IsShared, Holds, Grows}
+use Rattle.rb_history.specs.declared.outlet.Outlet.{Outlet}
+
+-- more was gathered
+pub shares_more : (sent : Result (Unit {0}) WriteFault) (got got' : Option (List ℕ)) (gathered after text bytes : List ℕ)
+    → after ≡ gathered ++ bytes → IsShared sent got got' gathered text → IsShared sent got got' after (text ++ bytes)
+shares_more (Ok done) got got' gathered after text bytes more share = record {
+  passed = share.passed;
+  rest = share.rest ++ bytes;
+  parts = ap (λ t. t ++ bytes) share.parts ∙ append_assoc share.passed share.rest bytes;
+  came = share.came;
+  held = ap (λ t. t ++ bytes) share.held ∙ sym more;
+}
+shares_more (Err fault) got got' gathered after text bytes more share = record {
+  passed = share.passed;
+  rest = share.rest ++ bytes;
+  parts = ap (λ t. t ++ bytes) share.parts ∙ append_assoc share.passed share.rest bytes;
+  came = share.came;
+  held = tt;
+}
+
+-- all was sent, and it was flushed or that failed
+pub all_sent : {T : Type 0} (result : Result T WriteFault) (sent : Result (Unit {0}) WriteFault) (got before now : Option (List ℕ)) (gathered text : List ℕ)
+    → IsOk sent → gathered ≡ [] → Keeps before now → IsShared sent got before gathered (text ++ []) → Sends result got text now
+all_sent result (Err fault) got before now gathered text fine none kept share = absurd (cc)
+all_sent result (Ok done) got before now gathered text fine none kept share =
+    let same : share.passed ≡ text = sym (append-nil share.passed) ∙ ap (λ t. share.passed ++ t) (sym (share.held ∙ none)) ∙ sym share.parts ∙ append-nil text in
+    sends_all result got before now text (subst (Appends got before) same share.came) kept
+
+-- a write failed, so a first part was sent
+pub part_sent : {T : Type 0} (result : Result T WriteFault) (sent : Result (Unit {0}) WriteFault) (got now : Option (List ℕ)) (gathered text : List ℕ)
+    → IsErr result → IsShared sent got now gathered (text ++ []) → Sends result got text now
+part_sent (Ok done) sent got now gathered text failed share = absurd (cc)
+part_sent (Err fault) sent got now gathered text failed share =
+    (share.passed, share.rest, sym (append-nil text) ∙ share.parts, share.came)
+
+module _ {W : Type 0} (writer : Write.Ghosts W) where
+  -- the same bytes, spelled otherwise
+  pub grows_as : (old : Outlet W writer) (one two : List ℕ) (new : Outlet W writer) → one ≡ two
+      → Grows writer old one new → Grows writer old two new
+  grows_as old one two new same grown = subst (λ t. Grows writer old t new) same grown
+
+  -- bytes behind others
+  pub grows_then : (one two three : Outlet W writer) (first second : List ℕ) → Grows writer one first two
+      → Grows writer two second three → Grows writer one (first ++ second) three
+  grows_then one two three first second begun more = record {
+    same_reference = more.same_reference ∙ begun.same_reference;
+    holds = λ got text held. subst (λ t. Holds writer got t three) (append_assoc text first second)
+        (more.holds got (text ++ first) (begun.holds got text held));
+  }
+
+  -- bytes are gathered
+  pub grows_more : (old new : Outlet W writer) (bytes : List ℕ) → new.writer ≡ old.writer → new.sent ≡ old.sent
+      → new.gathered.items ≡ old.gathered.items ++ bytes → Grows writer old bytes new
+  grows_more old new bytes same_writer same_sent more = record {
+    same_reference = ap (λ w. w.ghost_name) same_writer;
+    holds = λ got text held. subst (λ w. IsShared new.sent got (writer.contents w.now) new.gathered.items (text ++ bytes)) (sym same_writer)
+        (subst (λ s. IsShared s got (writer.contents old.writer.now) new.gathered.items (text ++ bytes)) (sym same_sent)
+        (shares_more old.sent got (writer.contents old.writer.now) old.gathered.items new.gathered.items text bytes more held));
+  }
