@@ -1,23 +1,28 @@
+ghost use Rattle.std.specs.Prelude.{◌≡◌, IfErr};
+ghost use Rattle.rb_history.specs.declared.history_fault.HistoryFault.TheVariants.{Write};
 ghost use Rattle.rb_ending.specs.Recording.{RecordsLog};
 
-use rb_history::{HistoryFault, write_history};
+use rb_history::{HistoryFault, HistoryRoom, write_history_in};
 use rb_kept::Kept;
 use rb_timer::Timer;
-use std::alloc::Global;
-use std::io::Write;
+use std::io;
 
-/// Writes the history of the kept queue to a device. The faults are those of `write_history`.
+/// Writes the history of the kept queue to a device. It takes no memory: `Write` is the only fault.
 ///
 /// A history that was written whole is legal and has all values in the ranges of texts, so it is read
 /// again as exactly this history.
-pub fn write_recording<T: Timer, H: Write>(
-    alloc: Global,
+pub fn write_recording<T: Timer, H: io::Write>(
+    room: HistoryRoom,
     kept: &Kept<T>,
     device: &mut H,
 ) -> Result<(), HistoryFault>
-    ensures { RecordsLog kept.now result (H.contents device.old) (H.contents device.new) }
+    ensures records { RecordsLog kept.now result (H.contents device.old) (H.contents device.new) }
+    ensures fault { IfErr result (λ fault. fault ≡ Write) }
 {
     // For the proof: how long the history may get.
     let _ = kept.capacity();
-    write_history(alloc, kept.opening(), kept.history(), device)
+    let Ok(()) = write_history_in(room, kept.opening(), kept.history(), device) else {
+        return Err(HistoryFault::Write);
+    };
+    Ok(())
 }

@@ -1,5 +1,5 @@
 -- The device got the text of the kept queue's opening and history, and these are what the kept queue keeps true.
-use Rattle.std.proofs.Common.{◌≡◌, List, ℕ, Option, Result, OnOk, subst, Ok, Err, arith}
+use Rattle.std.proofs.Common.{◌≡◌, List, ℕ, Option, Result, OnOk, subst, ap, Ok, Err, arith}
 use Rattle.rb_queue.specs.declared.event.Event.{Event}
 use Rattle.rb_queue.specs.declared.opening.Opening.{Opening}
 use Rattle.rb_queue.specs.History.{IsLegal}
@@ -9,31 +9,36 @@ use Rattle.rb_history.specs.HistoryText.{history_text}
 use Rattle.rb_history.specs.Ranges.{IsRightOpening, AreRightEvents}
 use Rattle.rb_history.specs.Written.{Writes}
 use Rattle.rb_history.specs.declared.history_fault.HistoryFault.{HistoryFault}
+use Rattle.rb_history.proofs.Writings.{writes_part}
 use Rattle.rb_ending.specs.Recording.{IsReadable, RecordsLog}
-use Rattle.std.specs.Prelude.{◌≤◌, length}
+use Rattle.std.specs.Prelude.{◌≤◌, length, is_err}
 use Rattle.rb_ending.proofs.recording.write_recording.Goals as goal
 
--- all that was written is readable
-readable : (log : Log) (wrote : Result (Unit {0}) HistoryFault) → IsLegal log.opening log.history → length log.history ≤ MOST_CALLS
-    → OnOk wrote (IsRightOpening log.opening) → OnOk wrote (AreRightEvents log.history) → OnOk wrote (IsReadable log)
-readable log (Ok done) legal few opening events = record { opening = opening; events = events; legal = legal; few = few }
-readable log (Err fault) legal few opening events = tt
+-- what holds in any case
+on_ok : {P : Type 0} (wrote : Result (Unit {0}) HistoryFault) → P → OnOk wrote P
+on_ok (Ok done) holds = holds
+on_ok (Err fault) holds = tt
 
 -- what was written of the same opening and the same events
 recorded : (log : Log) (opening : Opening) (events : List Event) (wrote : Result (Unit {0}) HistoryFault) (got got' : Option (List ℕ)) → opening ≡ log.opening → events ≡ log.history
     → IsLegal log.opening log.history → length log.history ≤ MOST_CALLS
-    → Writes wrote got (history_text opening events) got' → OnOk wrote (IsRightOpening opening) → OnOk wrote (AreRightEvents events)
+    → Writes wrote got (history_text opening events) got' → IsRightOpening opening → AreRightEvents events
     → RecordsLog log wrote got got'
 recorded log opening events wrote got got' begun are legal few writes right rights = record {
   writes = subst (λ (o : Opening). Writes wrote got (history_text o log.history) got') begun (subst (λ (e : List Event). Writes wrote got (history_text opening e) got') are writes);
-  readable = readable log wrote legal few
-      (subst (λ (o : Opening). OnOk wrote (IsRightOpening o)) begun right)
-      (subst (λ (e : List Event). OnOk wrote (AreRightEvents e)) are rights);
+  readable = on_ok wrote (record { opening = subst IsRightOpening begun right; events = subst AreRightEvents are rights; legal = legal; few = few });
 }
 
-pub returns : goal.returns
-returns g c =
-    recorded c.args.kept.now c.opening.result.now c.history.result.now c.write_history.result
-    (g.H.Write.contents c.args.device.now) (g.H.Write.contents c.write_history.new.writer)
+pub returns-in_default-clause-records : goal.returns-in_default-clause-records
+returns-in_default-clause-records g c =
+    recorded c.args.kept.now c.opening.result.now c.history.result.now _ _ _
     c.opening.ensures c.history.ensures.events c.history.ensures.legal (omega (arith, c.capacity.ensures.few, c.capacity.ensures.most))
-    c.write_history.ensures.writes c.write_history.ensures.opening c.write_history.ensures.events
+    (writes_part c.write_history_in.result _ _ _ (ap is_err c.in_default.is) c.write_history_in.ensures.writes)
+    c.write_history_in.ensures.opening c.write_history_in.ensures.events
+
+pub returns-clause-records : goal.returns-clause-records
+returns-clause-records g c =
+    recorded c.args.kept.now c.opening.result.now c.history.result.now (Ok tt)
+    (g.H.Write.contents c.args.device.now) (g.H.Write.contents c.write_history_in.new.writer)
+    c.opening.ensures c.history.ensures.events c.history.ensures.legal (omega (arith, c.capacity.ensures.few, c.capacity.ensures.most))
+    c.in-Ok.ensures.writes c.write_history_in.ensures.opening c.write_history_in.ensures.events
