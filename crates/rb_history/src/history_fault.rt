@@ -1,7 +1,7 @@
 /// Why a history was not written.
 #[derive(Clone, Copy, Debug, PartialEq, Eq)]
 pub enum HistoryFault {
-    /// There is not enough memory for the text. Nothing was written.
+    /// There is no memory for the room in which the text is gathered. Nothing was written.
     Memory,
     /// A write or a flush failed, or a write took no byte. A first part of the text was written, perhaps
     /// nothing or all of it.
