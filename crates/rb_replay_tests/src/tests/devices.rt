@@ -1,3 +1,5 @@
+use rb_history::{HistoryRoom, write_history_in};
+use rb_protocol::WriteFault;
 use rb_queue::{Event, Opening};
 use rb_replay::{HistoryFault, TextFault, TextReason, write_history};
 use std::alloc::Global;
@@ -8,11 +10,12 @@ use std::process::Abort;
 pub const NEVER: usize = usize::MAX;
 
 /// A writer that takes at most `most` bytes in one write, and fails at call `fails_at`, counted
-/// from 0. Writes and flushes are counted together.
+/// from 0. Writes and flushes are counted together. It tells how many bytes the longest write had.
 #[derive(Drop)]
 pub struct Device {
     pub bytes: Vec<u8>,
     pub most: usize,
+    pub longest: usize,
     pub calls: usize,
     pub fails_at: usize,
 }
@@ -22,6 +25,7 @@ impl Device {
         Device {
             bytes: Vec::new(alloc),
             most,
+            longest: 0,
             calls: 0,
             fails_at,
         }
@@ -40,6 +44,7 @@ impl Device {
 impl Write for Device {
     fn write(&mut self, buf: &[u8]) -> io::Result<usize> {
         self.call()?;
+        self.longest = self.longest.max(buf.len());
         let count = self.most.min(buf.len());
         self.bytes.extend_from_slice(&buf[..count])?;
         Ok(count)
@@ -74,6 +79,23 @@ impl Write for Restless {
     }
 }
 
+/// A writer that counts the bytes that it is given, and takes no memory.
+#[derive(Drop)]
+pub struct Scale {
+    pub bytes: usize,
+}
+
+impl Write for Scale {
+    fn write(&mut self, buf: &[u8]) -> io::Result<usize> {
+        self.bytes = self.bytes.saturating_add(buf.len());
+        Ok(buf.len())
+    }
+
+    fn flush(&mut self) -> io::Result<()> {
+        Ok(())
+    }
+}
+
 /// Writes a history of at most 1,000,000 events.
 pub fn write_to<W: Write>(
     rt: &impl Abort,
@@ -84,6 +106,18 @@ pub fn write_to<W: Write>(
 ) -> Result<(), HistoryFault> {
     assert!(rt; events.len() <= 1_000_000);
     write_history(alloc, opening, events, device)
+}
+
+/// Writes a history of at most 1,000,000 events through a room.
+pub fn write_in<W: Write>(
+    rt: &impl Abort,
+    room: HistoryRoom,
+    opening: &Opening,
+    events: &[Event],
+    device: &mut W,
+) -> Result<(), WriteFault> {
+    assert!(rt; events.len() <= 1_000_000);
+    write_history_in(room, opening, events, device)
 }
 
 // Comparisons are functions without clauses, so tests that call them have nothing to prove.

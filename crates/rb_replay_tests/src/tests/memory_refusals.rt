@@ -1,6 +1,6 @@
 ghost use Rattle.rb_queue.specs.History.{IsLegal};
 
-use crate::tests::devices::{expect, write_to};
+use crate::tests::devices::{Scale, expect, write_to};
 use rb_protocol::{LineReply, write_reply};
 use rb_queue::{Event, Opening};
 use rb_replay::{
@@ -9,7 +9,6 @@ use rb_replay::{
 };
 use rb_retry::Policy;
 use std::alloc::{AllocError, Global};
-use std::io::{self, Write};
 use std::process::Abort;
 
 // The number of refusals that the test meets. `dev/refuse_allocations` sets 1 and refuses each
@@ -26,23 +25,6 @@ const TEXT: &[u8] =
         0 0 0 offer 26 9 26 1 b\n0 0 0 offer 27 9 27 1 b\n0 0 0 offer 28 9 28 1 b\n\
         0 0 0 offer 29 9 29 1 b\n0 0 0 offer 30 9 30 1 b\n0 0 0 offer 31 9 31 1 b\n0 0 0 size 19\n\
         end 14\n";
-
-// A writer that counts the bytes that it is given.
-#[derive(Drop)]
-struct Scale {
-    bytes: usize,
-}
-
-impl Write for Scale {
-    fn write(&mut self, buf: &[u8]) -> io::Result<usize> {
-        self.bytes = self.bytes.saturating_add(buf.len());
-        Ok(buf.len())
-    }
-
-    fn flush(&mut self) -> io::Result<()> {
-        Ok(())
-    }
-}
 
 // Each of these functions makes one call, and returns whether it was refused. If it was, the
 // function makes the call again, and asserts that it is not refused twice. A function that owns
@@ -92,7 +74,7 @@ fn refused_opening(rt: &impl Abort, alloc: Global, history: &History) -> bool {
     fault.is_some()
 }
 
-// Asserts that nothing is written if memory for the text is refused.
+// Asserts that nothing is written if the room for writing is refused.
 fn refused_writing(rt: &impl Abort, alloc: Global, opening: &Opening, events: &[Event]) -> bool {
     let mut scale = Scale { bytes: 0 };
     let fault = write_to(rt, alloc, opening, events, &mut scale).err();

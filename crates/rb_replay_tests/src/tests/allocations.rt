@@ -1,0 +1,56 @@
+// Writing through a room takes no memory. Both tests of this file make the same things, and only
+// `each_of_the_calls` writes, so both have to allocate equally often. `dev/refuse_allocations` counts
+// their allocations.
+
+use crate::tests::devices::{Scale, expect, expect_count, write_in};
+use crate::tests::fixtures::{Deed, EMPTY, history_of, opening, push_row};
+use rb_history::HistoryRoom;
+use rb_replay::History;
+use std::alloc::{AllocError, Global};
+use std::process::Abort;
+use std::test::Fail;
+
+// The numbers of events of the histories: none, some, and several pieces.
+const COUNTS: [u64; 3] = [0, 100, 10_000];
+
+// The bytes of their texts: the lines around the events have 21, and 6, 8 and 10 bytes. Of each two events
+// one is a drain with a line of 20 bytes, and one a count with a line of 13.
+const BYTES: [usize; 3] = [27, 21 + 50 * 33 + 8, 21 + 5_000 * 33 + 10];
+
+#[test]
+fn none_of_the_calls(rt: HostRuntime) -> Result<(), Fail> {
+    for (count, _) in COUNTS.iter().zip(BYTES.iter()) {
+        let _ = made(rt.alloc(), *count)?;
+    }
+    Ok(())
+}
+
+#[test]
+fn each_of_the_calls(rt: HostRuntime) -> Result<(), Fail> {
+    for (count, bytes) in COUNTS.iter().zip(BYTES.iter()) {
+        let (room, history) = made(rt.alloc(), *count)?;
+        is_written(&rt, room, &history, *bytes);
+    }
+    Ok(())
+}
+
+fn made(alloc: Global, count: u64) -> Result<(HistoryRoom, History), Fail> {
+    let mut events = Vec::new(alloc);
+    for _ in 0..count / 2 {
+        push_row(
+            &mut events,
+            alloc,
+            (0, 0, 0, Deed::Drain(3, [Some(7), Some(8), Some(9)])),
+        )?;
+        push_row(&mut events, alloc, (0, 0, 0, Deed::Size(0)))?;
+    }
+    let room = HistoryRoom::new(alloc)?;
+    Ok((room, history_of(opening(alloc, EMPTY)?, events)?))
+}
+
+fn is_written(rt: &impl Abort, room: HistoryRoom, history: &History, bytes: usize) {
+    let mut scale = Scale { bytes: 0 };
+    let ended = write_in(rt, room, history.opening(), history.events(), &mut scale);
+    expect(rt, ended.is_ok());
+    expect_count(rt, scale.bytes, bytes);
+}
