@@ -10,7 +10,7 @@ use Rattle.rb_history.specs.Ranges.{IsRightOpening, AreRightEvents}
 use Rattle.rb_history.specs.Written.{Writes}
 use Rattle.rb_history.specs.declared.history_fault.HistoryFault.{HistoryFault}
 use Rattle.rb_history.proofs.Writings.{writes_part}
-use Rattle.rb_ending.specs.Recording.{IsReadable, RecordsLog}
+use Rattle.rb_ending.specs.Recording.{RecordsLog}
 use Rattle.std.specs.Prelude.{◌≤◌, length, is_err}
 use Rattle.rb_ending.proofs.recording.write_recording.Goals as goal
 
