@@ -95,7 +95,9 @@ fn serve_over<T: Timer + Send, R: Threads + Wait + time::Clock + Sync>(
 ) -> Result<(), BrokerFault> {
     let alloc = rt.alloc();
     let clock = ServeClock::new(handle, opening.last_at);
-    let report: ServeReport<T> = serve_door_gathered(handle, alloc, door, &clock, run, opening)?;
+    let entrance = door.entrance();
+    let (_, served) = serve_door_gathered(handle, alloc, entrance, &clock, run, opening);
+    let report: ServeReport<T> = served?;
     end_server(alloc, &report, &mut rt.stdout(), history.as_mut()).result()
 }
 

@@ -25,6 +25,7 @@ use Rattle.rb_session.specs.Turn.{point}
 use Rattle.rb_session.specs.declared.delivery.Delivery.{Delivery}
 use Rattle.rb_serving.specs.Terms.{Terms}
 use Rattle.rb_jobs.specs.ServerEvents.{made_of}
+use Rattle.rb_serving.specs.DoorSteps.{DoorStep, LetIn, TurnedAway, Left}
 use Rattle.rb_serving.specs.Visits.{AreVisits, AreWorkers, IsWorker, RanVisit, shared_rules, visit_waits}
 use Rattle.rb_jobs.proofs.GatheredNames.{named_behind}
 use Rattle.rb_jobs.proofs.ServerEvents.{made_none, seen_all}
@@ -79,32 +80,30 @@ nobody_made seat opening before (event ∷ events) differ =
     (λ other has. differ other (Contains-append_right (event ∷ []) events other has))
 
 module _ {I O G C : Type 0} (terms : Terms I O G C) where
-  visits_handle : (worker earlier : ℕ) (old new : PassState) (visits : List (Option Served))
-      → AreVisits terms worker earlier old visits new → PassHandles terms.policy old new
-  visits_handle worker earlier old new [] same =
+  visits_handle : (old new : PassState) (log : List (DoorStep I O G)) (visits : List (Option Served))
+      → AreVisits terms old log visits new → PassHandles terms.policy old new
+  visits_handle old new [] [] same =
       ([], ap made_of same ∙ sym (append-nil (made_of old)), tt)
-  visits_handle worker earlier old new (None ∷ visits) (between, (away, same), are) =
-      subst (λ pass. PassHandles terms.policy pass new) same (visits_handle worker (earlier + 1) between new visits are)
-  visits_handle worker earlier old new (Some served ∷ visits) (between, is, are) =
-      pass_then terms.policy old between new (of_visit is.leaves.ran)
-      (visits_handle worker (earlier + 1) between new visits are)
+  visits_handle old new (TurnedAway ∷ log) (None ∷ visits) are = visits_handle old new log visits are
+  visits_handle old new (LetIn visit ∷ Left reader writer ∷ log) (Some served ∷ visits) (between, ran, are) =
+      pass_then terms.policy old between new (of_visit ran) (visits_handle between new log visits are)
     where
-      of_visit : RanVisit terms is.visit is.leaves.reader is.leaves.writer old served between
-          → PassHandles terms.policy old between
+      of_visit : RanVisit terms visit reader writer old served between → PassHandles terms.policy old between
       of_visit ran =
           let (made, grows, handles) = run_handles (visit_waits terms) terms.policy
-          (HadGotBehind terms.contents (terms.contents is.visit.writer)) terms.delivery
-          (IsAtEnd (terms.remaining is.leaves.reader.inner.now)) ran.from ran.to served ran.ran in (
+          (HadGotBehind terms.contents (terms.contents visit.writer)) terms.delivery
+          (IsAtEnd (terms.remaining reader.inner.now)) ran.from ran.to served ran.ran in (
             made,
             ap made_of (sym ran.seen) ∙ grows ∙ ap (λ (pass : PassState). made_of pass ++ made) ran.begun.pass_is,
             handles,
           )
+  visits_handle old new log visits are = absurd are
 
-  worker_handles : (room : ℕ) (begun : Opening) (history : List Event) (worker : ℕ) (own : List (Option Served))
-      (pass : PassState) (one : PassRecord) → IsWorker terms room begun worker own pass → one ≡ record_of pass
+  worker_handles : (room : ℕ) (begun : Opening) (history : List Event) (log : List (DoorStep I O G)) (own : List (Option Served))
+      (pass : PassState) (one : PassRecord) → IsWorker terms room begun log own pass → one ≡ record_of pass
       → IsRecord history one → HandlesAll terms.policy [] (made_by one.name begun history) []
-  worker_handles room begun history worker own pass one works is known =
-      let (made, grows, handles) = visits_handle worker 0 works.first pass own works.served in
+  worker_handles room begun history log own pass one works is known =
+      let (made, grows, handles) = visits_handle works.first pass works.came own works.served in
       let all : made_by one.name begun history ≡ made =
       seen_all begun history one known
       ∙ ap (λ (entry : PassRecord). made_by entry.name begun entry.seen) is
@@ -112,22 +111,24 @@ module _ {I O G C : Type 0} (terms : Terms I O G C) where
       ∙ grows ∙ ap (λ (mades : List Made). mades ++ made) (made_none works.first works.unused.unheard) in
       subst (λ mades. HandlesAll terms.policy [] mades []) (sym all) handles
 
-  workers_handle : (room : ℕ) (begun : Opening) (history : List Event) (worker : ℕ)
-      (visits : List (List (Option Served))) (records : List PassRecord) → AreWorkers terms room begun worker visits records
+  workers_handle : (room : ℕ) (begun : Opening) (history : List Event) (logs : List (List (DoorStep I O G)))
+      (visits : List (List (Option Served))) (records : List PassRecord) → AreWorkers terms room begun logs visits records
       → AreRecords history records → (seat : ℕ) → 0 < times_in seat (names_of records)
       → HandlesAll terms.policy [] (made_by seat begun history) []
-  workers_handle room begun history worker visits [] are known seat some = absurd (omega (arith, some))
-  workers_handle room begun history worker [] (one ∷ records) are known seat some = absurd are
-  workers_handle room begun history worker (own ∷ visits) (one ∷ records) (is, are) (first, rest) seat some =
-      by_name (same_or_not one.name seat) (workers_handle room begun history (worker + 1) visits records are rest seat)
+  workers_handle room begun history logs visits [] are known seat some = absurd (omega (arith, some))
+  workers_handle room begun history (log ∷ logs) (own ∷ visits) (one ∷ records) (is, are) (first, rest) seat some =
+      by_name (same_or_not one.name seat) (workers_handle room begun history logs visits records are rest seat)
     where
       by_name : (one.name ≡ seat) ⊎ (one.name ≢ seat)
           → (0 < times_in seat (names_of records) → HandlesAll terms.policy [] (made_by seat begun history) [])
           → HandlesAll terms.policy [] (made_by seat begun history) []
       by_name (inl same) later =
           subst (λ s. HandlesAll terms.policy [] (made_by s begun history) []) same
-          (worker_handles room begun history worker own is.0 one is.1 is.2 first)
+          (worker_handles room begun history log own is.0 one is.1 is.2 first)
       by_name (inr differ) later = later (omega (arith, some, bit_apart one.name seat differ))
+  workers_handle room begun history [] [] (one ∷ records) are known seat some = absurd are
+  workers_handle room begun history [] (own ∷ visits) (one ∷ records) are known seat some = absurd are
+  workers_handle room begun history (log ∷ logs) [] (one ∷ records) are known seat some = absurd are
 
 module _ {I O G C : Type 0} (terms : Terms I O G C) {T : Type 0} where
   pub server_keeps_jobs : ServerKeepsJobs terms T
@@ -144,7 +145,7 @@ module _ {I O G C : Type 0} (terms : Terms I O G C) {T : Type 0} where
       by_seat : (seat : ℕ) → (0 < times_in seat (names_of run.records)) ⊎ (times_in seat (names_of run.records) ≤ 0)
           → HandlesAll terms.policy [] (made_by seat begun report.kept.history) []
       by_seat seat (inl some) =
-          workers_handle terms options.calls begun report.kept.history 0 run.visits run.records run.served
+          workers_handle terms options.calls begun report.kept.history run.logs run.visits run.records run.served
           run.holds.are_records.1 seat some
       by_seat seat (inr none) =
           subst (λ mades. HandlesAll terms.policy [] mades [])

@@ -20,6 +20,7 @@ use Rattle.rb_session.specs.Served.{Served}
 use Rattle.rb_jobs.proofs.RunEvents.{grows_so}
 use Rattle.rb_serving.specs.Terms.{Terms}
 use Rattle.rb_jobs.specs.ServerEvents.{GathersSessions, GrowsByVisits, IsOfOne, MadeByVisit, made_of}
+use Rattle.rb_serving.specs.DoorSteps.{DoorStep, LetIn, TurnedAway, Left}
 use Rattle.rb_serving.specs.Visits.{AreVisits, AreWorkers, IsWorker, all_visits}
 use Rattle.rb_jobs.proofs.GatheredNames.{contained, named_behind, of_history, of_its_seat}
 use Rattle.rb_jobs.proofs.SharedRuns.{calls_by_visit}
@@ -37,44 +38,39 @@ seen_all begun history one known =
 
 module _ {I O G C : Type 0} (terms : Terms I O G C) where
   -- the calls of a pass that served visits grow by theirs
-  grows_by_visits : (worker earlier : ℕ) (old new : PassState) (visits : List (Option Served))
-      → AreVisits terms worker earlier old visits new → GrowsByVisits terms.policy (made_of old) visits (made_of new)
-  grows_by_visits worker earlier old new [] same = ap made_of same
-  grows_by_visits worker earlier old new (None ∷ visits) (between, (away, same), are) =
-      subst (λ (before : List Made). GrowsByVisits terms.policy before visits (made_of new)) (ap made_of same)
-      (grows_by_visits worker (earlier + 1) between new visits are)
-  grows_by_visits worker earlier old new (Some served ∷ visits) (between, is, are) = (
+  grows_by_visits : (old new : PassState) (log : List (DoorStep I O G)) (visits : List (Option Served))
+      → AreVisits terms old log visits new → GrowsByVisits terms.policy (made_of old) visits (made_of new)
+  grows_by_visits old new [] [] same = ap made_of same
+  grows_by_visits old new (TurnedAway ∷ log) (None ∷ visits) are = grows_by_visits old new log visits are
+  grows_by_visits old new (LetIn visit ∷ Left reader writer ∷ log) (Some served ∷ visits) (between, ran, are) = (
     made_of between,
-    (
-      terms.remaining is.leaves.reader.inner.now,
-      calls_by_visit terms is.visit is.leaves.reader is.leaves.writer old between served is.leaves.ran,
-    ),
-    grows_by_visits worker (earlier + 1) between new visits are,
+    (terms.remaining reader.inner.now, calls_by_visit terms visit reader writer old between served ran),
+    grows_by_visits between new log visits are,
   )
+  grows_by_visits old new log visits are = absurd are
 
   -- a worker had made no call before, and its calls are all that the history has of it
-  of_worker : (room : ℕ) (begun : Opening) (history : List Event) (worker : ℕ) (own : List (Option Served)) (pass : PassState) (one : PassRecord)
-      → IsWorker terms room begun worker own pass → one ≡ record_of pass → IsRecord history one
+  of_worker : (room : ℕ) (begun : Opening) (history : List Event) (log : List (DoorStep I O G)) (own : List (Option Served)) (pass : PassState) (one : PassRecord)
+      → IsWorker terms room begun log own pass → one ≡ record_of pass → IsRecord history one
       → GrowsByVisits terms.policy [] own (made_by one.name begun history)
-  of_worker room begun history worker own pass one works is known =
+  of_worker room begun history log own pass one works is known =
       let same : made_of pass ≡ made_by one.name begun history =
       ap (λ (opening : Opening). made_by pass.name opening pass.seen) works.opening
       ∙ ap (λ (entry : PassRecord). made_by entry.name begun entry.seen) (sym is)
       ∙ sym (seen_all begun history one known) in
       subst (λ (after : List Made). GrowsByVisits terms.policy [] own after) same
       (subst (λ (before : List Made). GrowsByVisits terms.policy before own (made_of pass)) (made_none works.first works.unused.unheard)
-      (grows_by_visits worker 0 works.first pass own works.served))
+      (grows_by_visits works.first pass works.came own works.served))
 
-  of_workers : (room : ℕ) (begun : Opening) (history : List Event) (worker : ℕ) (visits : List (List (Option Served))) (records : List PassRecord)
-      → AreWorkers terms room begun worker visits records → AreRecords history records
+  of_workers : (room : ℕ) (begun : Opening) (history : List Event) (logs : List (List (DoorStep I O G))) (visits : List (List (Option Served))) (records : List PassRecord)
+      → AreWorkers terms room begun logs visits records → AreRecords history records
       → AllZip (λ (name : ℕ) (own : List (Option Served)). GrowsByVisits terms.policy [] own (made_by name begun history)) (names_of records) visits
-  of_workers room begun history worker [] [] are known = tt
-  of_workers room begun history worker [] (one ∷ records) are known = absurd are
-  of_workers room begun history worker (own ∷ visits) [] are known = absurd are
-  of_workers room begun history worker (own ∷ visits) (one ∷ records) (is, are) (first, rest) = (
-    of_worker room begun history worker own is.0 one is.1 is.2 first,
-    of_workers room begun history (worker + 1) visits records are rest,
+  of_workers room begun history [] [] [] are known = tt
+  of_workers room begun history (log ∷ logs) (own ∷ visits) (one ∷ records) (is, are) (first, rest) = (
+    of_worker room begun history log own is.0 one is.1 is.2 first,
+    of_workers room begun history logs visits records are rest,
   )
+  of_workers room begun history logs visits records are known = absurd are
 
 module _ (policy : Policy) where
   -- what is of some visits is of them and of others
@@ -146,7 +142,7 @@ module _ {I O G C : Type 0} (terms : Terms I O G C) {T : Type 0} where
   gathers_sessions begun options report run =
       let history = report.kept.history in
       let holds = run.holds in
-      let workers = of_workers terms options.calls begun history 0 run.visits run.records run.served holds.are_records.1 in
+      let workers = of_workers terms options.calls begun history run.logs run.visits run.records run.served holds.are_records.1 in
       let among = named_behind history run.first run.records holds.are_records holds.different holds.all run.idle in record {
         names = names_of run.records;
         different = λ number. omega (arith, holds.different number);

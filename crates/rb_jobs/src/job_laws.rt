@@ -41,8 +41,8 @@ pub fn script_keeps_jobs<W: Write>()
 /// From such an opening a server keeps jobs, over all its sessions at once: however the threads of its workers
 /// interleave, no job is in two places at any moment of the history that it gives back.
 pub fn server_keeps_jobs<T: Timer, D: Door, C: Clock>()
-    ensures { (door : D) (clock : C) (policy : Policy) (delivery : Delivery) → ServerKeepsJobs
-        (terms_of D.Door D.Reader.Read D.Writer.Write D.Gate.Gate C.Clock door clock policy delivery) T }
+    ensures { (clock : C) (policy : Policy) (delivery : Delivery) → ServerKeepsJobs
+        (terms_of D.Reader.Read D.Writer.Write D.Gate.Gate C.Clock clock policy delivery) T }
 {}
 
 /// Jobs in are jobs out. The jobs of a script's opening and those that its replies accept, sent or not, are done,
@@ -55,8 +55,8 @@ pub fn script_accounts<W: Write>()
 /// The same over all sessions of a server, whose events its history is made of. Replies that a failing write did
 /// not send count too.
 pub fn server_accounts<T: Timer, D: Door, C: Clock>()
-    ensures { (door : D) (clock : C) (policy : Policy) (delivery : Delivery) → ServerAccounts
-        (terms_of D.Door D.Reader.Read D.Writer.Write D.Gate.Gate C.Clock door clock policy delivery) T }
+    ensures { (clock : C) (policy : Policy) (delivery : Delivery) → ServerAccounts
+        (terms_of D.Reader.Read D.Writer.Write D.Gate.Gate C.Clock clock policy delivery) T }
 {}
 
 /// Of a history that keeps jobs `chains` answers `Ok`, or that memory is short. An empty opening begins with

@@ -1,6 +1,6 @@
 -- Visits that were served, one after the other, and their counts.
-use Rattle.std.proofs.Common.{◌≡◌, ℕ, suc, ◌+◌, List, [], ◌∷◌, ◌++◌, Option, None, Some, refl, subst}
-use Rattle.std.proofs.Common.{ap, ap₂, ◌∙◌, arith, length, length-append}
+use Rattle.std.proofs.Common.{◌≡◌, ℕ, List, [], ◌∷◌, ◌++◌, Option, None, Some, refl, subst}
+use Rattle.std.proofs.Common.{ap₂, ◌∙◌, arith, length-append, append_assoc}
 use Rattle.std.proofs.lemmas.List.Sums.{sum_by-append, sum_by_push}
 use Rattle.rb_queue.specs.declared.opening.Opening.{Opening}
 use Rattle.rb_lock.specs.Passes.{PassState, record_of}
@@ -8,7 +8,8 @@ use Rattle.rb_lock.specs.declared.pass_record.PassRecord.{PassRecord}
 use Rattle.rb_session.specs.Served.{Served}
 use Rattle.rb_serving.specs.Terms.{Terms}
 use Rattle.rb_serving.specs.VisitCounts.{both_counts}
-use Rattle.rb_serving.specs.Visits.{AreVisits, Comes, IsWorker, AreWorkers, counts_at, counts_of, number_of}
+use Rattle.rb_serving.specs.DoorSteps.{DoorStep, Sees, LetIn, TurnedAway, Left}
+use Rattle.rb_serving.specs.Visits.{AreVisits, IsWorker, AreWorkers, counts_at, counts_of}
 use Rattle.rb_serving.specs.declared.visit_counts.VisitCounts.{VisitCounts}
 
 -- counts are the same if each of the three is
@@ -36,62 +37,57 @@ counts_more visits visit = same_counts _ _
     (omega (arith, sum_by_push (λ one. (counts_at one).faults) visits visit))
     (omega (arith, sum_by_push (λ one. (counts_at one).lost) visits visit))
 
--- counting on behind one visit or worker more
-later : {A : Type 0} (earlier : ℕ) (rest : List A) → earlier + suc (length rest) ≡ (earlier + 1) + length rest
-later earlier rest = omega arith
-
-none_yet : (earlier : ℕ) → earlier + 0 ≡ earlier
-none_yet earlier = omega arith
-
 module _ {I O G C : Type 0} (terms : Terms I O G C) where
-  -- some visits were served, and then others
-  visits_append : (worker earlier : ℕ) (old mid new : PassState) (visits more : List (Option Served))
-      → AreVisits terms worker earlier old visits mid → AreVisits terms worker (earlier + length visits) mid more new
-      → AreVisits terms worker earlier old (visits ++ more) new
-  visits_append worker earlier old mid new [] more same are =
-      subst (λ pass. AreVisits terms worker earlier pass more new) same
-      (subst (λ count. AreVisits terms worker count mid more new) (none_yet earlier) are)
-  visits_append worker earlier old mid new (visit ∷ visits) more (between, comes, first) are = (
-    between,
-    comes,
-    visits_append worker (earlier + 1) between mid new visits more first
-        (subst (λ count. AreVisits terms worker count mid more new) (later earlier visits) are),
-  )
+  -- some visits were served at an entrance, and then others
+  visits_append : (old mid new : PassState) (log later : List (DoorStep I O G)) (visits more : List (Option Served))
+      → AreVisits terms old log visits mid → AreVisits terms mid later more new
+      → AreVisits terms old (log ++ later) (visits ++ more) new
+  visits_append old mid new [] later [] more same are = subst (λ pass. AreVisits terms pass later more new) same are
+  visits_append old mid new (TurnedAway ∷ log) later (None ∷ visits) more first are =
+      visits_append old mid new log later visits more first are
+  visits_append old mid new (LetIn visit ∷ Left reader writer ∷ log) later (Some served ∷ visits) more
+      (between, ran, first) are =
+      (between, ran, visits_append between mid new log later visits more first are)
+  visits_append old mid new log later visits more first are = absurd first
 
   -- one worker more
-  pub workers_more : (room : ℕ) (begun : Opening) (from : ℕ) (visits : List (List (Option Served))) (records : List PassRecord)
-      (own : List (Option Served)) (pass : PassState) → AreWorkers terms room begun from visits records
-      → IsWorker terms room begun (from + length records) own pass
-      → AreWorkers terms room begun from (visits ++ own ∷ []) (records ++ record_of pass ∷ [])
-  workers_more room begun from [] [] own pass are last =
-      ((pass, subst (λ worker. IsWorker terms room begun worker own pass) (none_yet from) last, refl), tt)
-  workers_more room begun from [] (one ∷ records) own pass are last = absurd are
-  workers_more room begun from (first ∷ visits) [] own pass are last = absurd are
-  workers_more room begun from (first ∷ visits) (one ∷ records) own pass (is, are) last =
-      let next = subst (λ worker. IsWorker terms room begun worker own pass) (later from records) last in
-      (is, workers_more room begun (from + 1) visits records own pass are next)
+  pub workers_more : (room : ℕ) (begun : Opening) (logs : List (List (DoorStep I O G))) (visits : List (List (Option Served)))
+      (records : List PassRecord) (log : List (DoorStep I O G)) (own : List (Option Served)) (pass : PassState)
+      → AreWorkers terms room begun logs visits records → IsWorker terms room begun log own pass
+      → AreWorkers terms room begun (logs ++ log ∷ []) (visits ++ own ∷ []) (records ++ record_of pass ∷ [])
+  workers_more room begun [] [] [] log own pass are last = ((pass, last, refl), tt)
+  workers_more room begun (first ∷ logs) (visits ∷ others) (one ∷ records) log own pass (is, are) last =
+      (is, workers_more room begun logs others records log own pass are last)
+  workers_more room begun logs visits records log own pass are last = absurd are
 
-  -- What a worker has done so far: its pass served these visits, and they are counted.
-  pub record HasServed (worker : ℕ) (old new : PassState) (counts : VisitCounts) : Type 0 where
+  -- What a worker has done so far: its pass served these visits, they are counted, and they are all that happened at its
+  -- entrance.
+  pub record HasServed {D : Type 0} (has_seen : D → List (DoorStep I O G) → Type 0) (door : D) (old new : PassState)
+      (counts : VisitCounts) : Type 0 where
+    pub came : List (DoorStep I O G)
+    pub seen : has_seen door came
     pub visits : List (Option Served)
-    pub served : AreVisits terms worker 0 old visits new
+    pub served : AreVisits terms old came visits new
     pub counted : counts ≡ counts_of visits
 
-  -- the number under which it asks next
-  pub next_number : (worker : ℕ) (old new : PassState) (counts : VisitCounts) (works : HasServed worker old new counts)
-      → record { worker = worker; earlier = counts.sessions } ≡ number_of worker (length works.visits)
-  next_number worker old new counts works =
-      ap (λ (visits : VisitCounts). record { worker = worker; earlier = visits.sessions }) works.counted
+  module _ {D : Type 0} (has_seen : D → List (DoorStep I O G) → Type 0) where
+    -- one thing happened at the entrance, and then another
+    pub seen_both : (one mid other : D) (first second : DoorStep I O G)
+        → Sees has_seen one first mid → Sees has_seen mid second other
+        → (log : List (DoorStep I O G)) → has_seen one log → has_seen other (log ++ first ∷ second ∷ [])
+    seen_both one mid other first second now then log seen =
+        subst (has_seen other) (append_assoc log (first ∷ []) (second ∷ [])) (then (log ++ first ∷ []) (now log seen))
 
-  -- one visitor more came, and is counted
-  pub works_more : (worker : ℕ) (old mid new : PassState) (counts more next : VisitCounts) (visit : Option Served)
-      → HasServed worker old mid counts → Comes terms (record { worker = worker; earlier = counts.sessions }) mid visit new
-      → more ≡ counts_at visit → next ≡ both_counts counts more → HasServed worker old new next
-  works_more worker old mid new counts more next visit works comes counted is =
-      let all : length works.visits ≡ 0 + length works.visits = omega arith in
-      let same = next_number worker old mid counts works ∙ ap (number_of worker) all in record {
-        visits = works.visits ++ visit ∷ [];
-        served = visits_append worker 0 old mid new works.visits (visit ∷ []) works.served
-            (new, subst (λ number. Comes terms number mid visit new) same comes, refl);
-        counted = is ∙ ap₂ both_counts works.counted counted ∙ counts_more works.visits visit;
-      }
+    -- one visitor more came, and is counted
+    pub works_more : (door next_door : D) (old mid new : PassState) (counts more next : VisitCounts)
+        (steps : List (DoorStep I O G)) (visit : Option Served) → HasServed has_seen door old mid counts
+        → ((log : List (DoorStep I O G)) → has_seen door log → has_seen next_door (log ++ steps))
+        → AreVisits terms mid steps (visit ∷ []) new
+        → more ≡ counts_at visit → next ≡ both_counts counts more → HasServed has_seen next_door old new next
+    works_more door next_door old mid new counts more next steps visit works sees comes counted is = record {
+      came = works.came ++ steps;
+      seen = sees works.came works.seen;
+      visits = works.visits ++ visit ∷ [];
+      served = visits_append old mid new works.came steps works.visits (visit ∷ []) works.served comes;
+      counted = is ∙ ap₂ both_counts works.counted counted ∙ counts_more works.visits visit;
+    }

@@ -5,6 +5,7 @@ pub use Rattle.rb_ending.specs.BrokerFault
 pub use Rattle.rb_ending.specs.AuditText
 pub use Rattle.rb_ending.specs.Recording
 pub mod ServeText
+pub mod DoorSteps
 pub mod Terms
 pub mod VisitCounts
 pub mod Visits

@@ -9,9 +9,10 @@ use Rattle.rb_options.specs.declared.server_run_options.ServerRunOptions.{Server
 use Rattle.rb_ending.specs.declared.broker_fault.BrokerFault.{BrokerFault}
 use Rattle.rb_ending.specs.declared.broker_fault.BrokerFault.TheVariants as Broker
 use Rattle.rb_session.specs.Served.{Served}
+use Rattle.rb_serving.specs.DoorSteps.{DoorStep, Gathers, all_steps}
 use Rattle.rb_serving.specs.Terms.{Terms}
 use Rattle.rb_serving.specs.VisitCounts.{counts_in}
-use Rattle.rb_serving.specs.Visits.{IsWorker, AreWorkers, counts_of, all_visits}
+use Rattle.rb_serving.specs.Visits.{AllServed, IsWorker, AreWorkers, counts_of, all_visits}
 use Rattle.rb_serving.specs.declared.serve_report.ServeReport.{ServeReport}
 use Rattle.rb_serving.specs.declared.visit_counts.VisitCounts.{VisitCounts}
 
@@ -35,19 +36,21 @@ pub record IsReport {T : Type 0} (pass : PassState) (visits : VisitCounts) (repo
 module _ {I O G C : Type 0} (terms : Terms I O G C) where
   -- what a worker's thread gives: a pass with nothing folded into it, and the counts of the visits that it
   -- served
-  pub record IsWorkerResult (room : ℕ) (begun : Opening) (worker : ℕ) (pass : PassState) (counts : VisitCounts) : Type 0 where
+  pub record IsWorkerResult (room : ℕ) (begun : Opening) (log : List (DoorStep I O G)) (pass : PassState)
+      (counts : VisitCounts) : Type 0 where
     pub alone : pass.folded ≡ []
     pub visits : List (Option Served)
-    pub works : IsWorker terms room begun worker visits pass
+    pub works : IsWorker terms room begun log visits pass
     pub counted : counts ≡ counts_of visits
 
   -- The passes of this many workers were folded into the pass, which made no call itself. These are the counts of
   -- all visits.
-  pub record FoldsWorkers (workers : ℕ) (old new : PassState) (counts : VisitCounts) : Type 0 where
+  pub record FoldsWorkers (workers : ℕ) (logs : List (List (DoorStep I O G))) (old new : PassState) (counts : VisitCounts)
+      : Type 0 where
     pub records : List PassRecord
     pub many : length records ≡ workers
     pub visits : List (List (Option Served))
-    pub served : AreWorkers terms old.capacity old.opening 0 visits records
+    pub served : AreWorkers terms old.capacity old.opening logs visits records
     pub counted : counts ≡ counts_of (all_visits visits)
     pub folded : new.folded ≡ old.folded ++ records
     pub table : new.table ≡ old.table
@@ -55,10 +58,17 @@ module _ {I O G C : Type 0} (terms : Terms I O G C) where
     pub opening : new.opening ≡ old.opening
     pub mine : new.mine ≡ old.mine
 
+  -- The same, and the workers' entrances, split off the door in between, are back: these are all that happened at them.
+  pub record GathersWorkers {D : Type 0} (has_joined : D → ℕ → List (DoorStep I O G) → Type 0) (workers : ℕ)
+      (old_door : D) (old : PassState) (new_door : D) (new : PassState) (counts : VisitCounts) : Type 0 where
+    pub logs : List (List (DoorStep I O G))
+    pub gathers : Gathers has_joined old_door (all_steps logs) new_door
+    pub folds : FoldsWorkers workers logs old new counts
+
   -- The queue that a server gives back began with this opening and had room for as many calls as the options say. Its
   -- history is legal, and has the calls of as many workers and no other; the calls of each are those of the sessions
   -- that it served, one after the other, until the door had no more. The audit is that of this history, and the counts
-  -- are those of all visits, for each of which the door was asked under another number.
+  -- are those of all visits. `logs` are what happened at the workers' entrances.
   pub record IsServersRun {T : Type 0} (begun : Opening) (options : ServerRunOptions)
       (report : ServeReport T) : Type 0 where
     pub opening : report.kept.opening ≡ begun
@@ -70,8 +80,15 @@ module _ {I O G C : Type 0} (terms : Terms I O G C) where
     pub many : length records ≡ options.workers
     pub holds : HasCallsOf report.kept (first ∷ records)
     pub visits : List (List (Option Served))
-    pub served : AreWorkers terms options.calls begun 0 visits records
+    pub logs : List (List (DoorStep I O G))
+    pub served : AreWorkers terms options.calls begun logs visits records
     pub counted : counts_in report ≡ counts_of (all_visits visits)
+
+  -- the law of visitors: each that was let in at an entrance of a server's workers was served
+  abbrev pub ServesAll : Type 0 → Type 0
+  ServesAll T =
+      (begun : Opening) (options : ServerRunOptions) (report : ServeReport T)
+      → (run : IsServersRun begun options report) → AllServed terms (all_steps run.logs)
 
 -- the faults that may end a server
 abbrev pub EndsServing : BrokerFault → Type 0

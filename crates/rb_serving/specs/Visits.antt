@@ -1,5 +1,5 @@
 -- What became of those who came to a door, and of the pass of the worker that served them.
-use Rattle.std.specs.Prelude.{◌≡◌, ℕ, ◌+◌, min, List, [], ◌∷◌, length, sum_by, Option, None, Some}
+use Rattle.std.specs.Prelude.{◌≡◌, ℕ, min, List, [], ◌∷◌, ◌++◌, length, sum_by, Option, None, Some}
 use Rattle.std.specs.List.{flat_map}
 use Rattle.std.specs.Io.KnownBytes.{Appends, Consumes, IsAtEnd}
 use Rattle.rb_protocol.specs.declared.streams.limited_reader.LimitedReader.{LimitedReader}
@@ -17,11 +17,11 @@ use Rattle.rb_session.specs.Rules.{SessionRules, session_rules, HadGotBehind}
 use Rattle.rb_session.specs.Served.{Served}
 use Rattle.rb_session.specs.Ran.{Ran}
 use Rattle.rb_session.specs.Reasons.{IsReason}
+use Rattle.rb_serving.specs.DoorSteps.{DoorStep, Sees, LetIn, TurnedAway, NoMore, Left}
 use Rattle.rb_serving.specs.Terms.{Terms}
 use Rattle.rb_serving.specs.VisitCounts.{ended_visit, refused_visit}
 use Rattle.rb_serving.specs.declared.visit.Visit.{Visit}
 use Rattle.rb_serving.specs.declared.visit_counts.VisitCounts.{VisitCounts}
-use Rattle.rb_serving.specs.declared.visit_number.VisitNumber.{VisitNumber}
 
 -- what one visit counts for: one that was refused at the door, or one whose session ended so
 abbrev pub counts_at : Option Served → VisitCounts
@@ -39,10 +39,6 @@ counts_of visits = record {
 -- the visits of all workers, one worker's behind the other's
 abbrev pub all_visits : List (List (Option Served)) → List (Option Served)
 all_visits visits = flat_map (λ own. own) visits
-
--- The number under which a worker asks for a visit after `earlier` others. It stays at the greatest count.
-abbrev pub number_of : ℕ → ℕ → VisitNumber
-number_of worker earlier = record { worker = worker; earlier = min earlier GREATEST_COUNT }
 
 -- A pass that made no call, has seen none under its name, and has nothing folded into it.
 pub record IsUnused (pass : PassState) : Type 0 where
@@ -92,47 +88,59 @@ module _ {I O G C : Type 0} (terms : Terms I O G C) where
     pub seen : to.pass ≡ new
     pub reason : IsReason Open reader served.ended
 
-  -- The session of this visit was run, and the door got back what is left of it.
-  pub record LeftVisit (number : VisitNumber) (visit : Visit I O G) (old : PassState) (served : Served) (new : PassState)
-      : Type 0 where
+  -- The session of this visit was run, and one thing more happened at the entrance: it got back what is left of the visit.
+  pub record LeftVisit {D : Type 0} (has_seen : D → List (DoorStep I O G) → Type 0) (old_door : D) (visit : Visit I O G)
+      (old : PassState) (served : Served) (new : PassState) (new_door : D) : Type 0 where
     pub reader : LimitedReader I
     pub writer : O
-    pub left : terms.has_left number reader writer
+    pub left : Sees has_seen old_door (Left reader writer) new_door
     pub ran : RanVisit visit reader writer old served new
 
-  -- A visitor was let in under this number, and the session of this visit was run.
-  pub record IsVisit (number : VisitNumber) (old : PassState) (served : Served) (new : PassState) : Type 0 where
-    pub visit : Visit I O G
-    pub let_in : terms.lets_in number visit
-    pub leaves : LeftVisit number visit old served new
+  -- What a session leaves of a visit is what the door demands of it.
+  abbrev pub Satisfies : (Visit I O G → LimitedReader I → O → Type 0) → Type 0
+  Satisfies demands =
+      (visit : Visit I O G) (reader : LimitedReader I) (writer : O) (old : PassState) (served : Served) (new : PassState)
+      → RanVisit visit reader writer old served new → demands visit reader writer
 
-  -- Under this number a visitor was turned away, and the pass did nothing; or the session of a visit was run.
-  abbrev pub Comes : VisitNumber → PassState → Option Served → PassState → Type 0
-  Comes number old None new = terms.turns_away number × (new ≡ old)
-  Comes number old (Some served) new = IsVisit number old served new
-
-  -- After `earlier` visits the worker asked for these, each under a number of its own. Its pass served those who were
-  -- let in, one after the other, and did nothing else.
-  abbrev pub AreVisits : ℕ → ℕ → PassState → List (Option Served) → PassState → Type 0
-  AreVisits worker earlier old [] new = new ≡ old
-  AreVisits worker earlier old (visit ∷ visits) new =
-      (between : PassState) × Comes (number_of worker earlier) old visit between
-      × AreVisits worker (earlier + 1) between visits new
+  -- All that happened at an entrance, up to its end, and what became of its visitors. One was turned away, and the
+  -- pass did nothing; or one was let in, the session of this visit was run by the pass, and the next that happened was
+  -- that the entrance got back what is left of it. Nothing else happened there, and the pass did nothing else.
+  abbrev pub AreVisits : PassState → List (DoorStep I O G) → List (Option Served) → PassState → Type 0
+  AreVisits old [] [] new = new ≡ old
+  AreVisits old (TurnedAway ∷ log) (None ∷ visits) new = AreVisits old log visits new
+  AreVisits old (LetIn visit ∷ Left reader writer ∷ log) (Some served ∷ visits) new =
+      (between : PassState) × RanVisit visit reader writer old served between × AreVisits between log visits new
+  AreVisits _ _ _ _ = ⊥
 
   -- A worker's pass, of the run that begins with this opening and has room for so many calls: it had made no call, had
-  -- seen none under its name, and served these visits, behind which the door had no more.
-  pub record IsWorker (room : ℕ) (begun : Opening) (worker : ℕ) (visits : List (Option Served)) (pass : PassState) : Type 0 where
+  -- seen none under its name, and served these visits, which are all that happened at the worker's entrance before it
+  -- had no more.
+  pub record IsWorker (room : ℕ) (begun : Opening) (log : List (DoorStep I O G)) (visits : List (Option Served))
+      (pass : PassState) : Type 0 where
     pub capacity : pass.capacity ≡ room
     pub opening : pass.opening ≡ begun
     pub first : PassState
     pub unused : IsUnused first
-    pub served : AreVisits worker 0 first visits pass
-    pub no_more : terms.has_no_more (number_of worker (length visits))
+    pub came : List (DoorStep I O G)
+    pub served : AreVisits first came visits pass
+    pub no_more : log ≡ came ++ NoMore ∷ []
 
-  -- each record is that of a worker of this run that served these visits, from this worker on
-  abbrev pub AreWorkers : ℕ → Opening → ℕ → List (List (Option Served)) → List PassRecord → Type 0
-  AreWorkers room begun worker [] [] = Unit {0}
-  AreWorkers room begun worker (visits ∷ others) (one ∷ records) =
-      ((pass : PassState) × IsWorker room begun worker visits pass × (one ≡ record_of pass))
-      × AreWorkers room begun (worker + 1) others records
+  -- The session of this visit was run, and the next that happened at the entrance was that it got back what is left of it.
+  abbrev pub IsServed : Visit I O G → List (DoorStep I O G) → Type 0
+  IsServed visit (Left reader writer ∷ later) =
+      (old : PassState) × (new : PassState) × (served : Served) × RanVisit visit reader writer old served new
+  IsServed visit _ = ⊥
+
+  -- each visitor that was let in was served
+  abbrev pub AllServed : List (DoorStep I O G) → Type 0
+  AllServed [] = Unit {0}
+  AllServed (LetIn visit ∷ later) = IsServed visit later × AllServed later
+  AllServed (_ ∷ later) = AllServed later
+
+  -- each record is that of a worker of this run that served these visits, at an entrance where this happened
+  abbrev pub AreWorkers : ℕ → Opening → List (List (DoorStep I O G)) → List (List (Option Served)) → List PassRecord → Type 0
+  AreWorkers room begun [] [] [] = Unit {0}
+  AreWorkers room begun (log ∷ logs) (visits ∷ others) (one ∷ records) =
+      ((pass : PassState) × IsWorker room begun log visits pass × (one ≡ record_of pass))
+      × AreWorkers room begun logs others records
   AreWorkers _ _ _ _ _ = ⊥

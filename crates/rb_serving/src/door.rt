@@ -1,10 +1,9 @@
-ghost use Rattle.std.specs.Prelude.{OnErr, IfNone, IfOk, IfSome};
+ghost use Rattle.std.specs.Prelude.{ℕ, ◌+◌, List, [], ◌++◌, OnErr, IfNone, IfOk, IfSome};
 ghost use Rattle.rb_protocol.specs.declared.streams.limited_reader.LimitedReader.{LimitedReader};
 ghost use Rattle.rb_serving.specs.declared.visit.Visit.{Visit};
-ghost use Rattle.rb_serving.specs.declared.visit_number.VisitNumber.{VisitNumber};
+ghost use Rattle.rb_serving.specs.DoorSteps.{DoorStep, Sees, LetIn, TurnedAway, NoMore, Left};
 
 use crate::visit::Visit;
-use crate::visit_number::VisitNumber;
 use rb_blocking::Gate;
 use rb_protocol::LimitedReader;
 use std::io::{Read, Write};
@@ -17,12 +16,12 @@ use thiserror::Error;
 #[error("a visitor could not be let in")]
 pub struct DoorFault;
 
-/// Where visits come from.
+/// An entrance through which visits come. Others of the same door can be split off it, and joined to it again.
 ///
-/// `lets_in` tells which visits the door may let in under a number, `turns_away` that it may refuse a visitor under
-/// it, and `has_no_more` that it may answer that there are no more. `has_left` tells what is left of a visit that the
-/// door got back. Code over any door learns them in no other way than by asking it under that number, or by giving it
-/// that reader and that writer: if a contract says one of them, the door gave that answer, or got these two.
+/// `has_seen` tells all that happened at an entrance that was split off, in order. `has_joined` tells how many entrances
+/// were split off one and are not back, and all that happened at those that are, one behind the other. Code over any
+/// door learns them from these four methods alone: so it can hide nothing that happened at an entrance, except by
+/// letting that entrance go, and then one is not back.
 pub trait Door {
     /// What a visitor's requests are read from.
     type Reader: Read + Drop + Send;
@@ -33,35 +32,50 @@ pub trait Door {
     /// What may end a visitor's waits.
     type Gate: Gate + Drop + Send;
 
-    ghost lets_in: { Self → VisitNumber → Visit Self.Reader Self.Writer Self.Gate → Type 0 };
+    ghost has_seen: { Self → List (DoorStep Self.Reader Self.Writer Self.Gate) → Type 0 };
 
-    ghost turns_away: { Self → VisitNumber → Type 0 };
+    ghost demands: { Visit Self.Reader Self.Writer Self.Gate → LimitedReader Self.Reader → Self.Writer → Type 0 };
 
-    ghost has_no_more: { Self → VisitNumber → Type 0 };
+    ghost is_ready: { Self → Type 0 };
 
-    ghost has_left: { Self → VisitNumber → LimitedReader Self.Reader → Self.Writer → Type 0 };
+    ghost awaits: { Self → Visit Self.Reader Self.Writer Self.Gate → Type 0 };
 
-    /// The next visit, which no other caller gets, or `None` if there are no more. It may wait for
+    ghost may_split: { Self → ℕ → Type 0 };
+
+    ghost has_joined: { Self → ℕ → List (DoorStep Self.Reader Self.Writer Self.Gate) → Type 0 };
+
+    /// The next visit, which no other entrance gets, or `None` if there are no more. It may wait for
     /// one, and after a visitor that could not be let in.
-    ///
-    /// The number says who asks. A door need not look at it: it is there for contracts, which tell
-    /// the answers to two calls apart by it.
     fn next<R: Wait + time::Clock>(
-        &self,
+        &mut self,
         rt: &R,
-        number: VisitNumber,
     ) -> Option<Result<Visit<Self::Reader, Self::Writer, Self::Gate>, DoorFault>>
-        ensures let_in { IfSome result (λ visit. IfOk visit (lets_in self.now number)) }
-        ensures turned_away { IfSome result (λ visit. OnErr visit (turns_away self.now number)) }
-        ensures no_more { IfNone result (has_no_more self.now number) };
+        requires ready { is_ready self.old }
+        ensures waited_for { IfSome result (λ visit. IfOk visit (λ visit. awaits self.new visit)) }
+        ensures still_ready { IfSome result (λ visit. OnErr visit (is_ready self.new)) }
+        ensures let_in { IfSome result (λ visit. IfOk visit (λ visit. Sees has_seen self.old (LetIn visit) self.new)) }
+        ensures turned_away { IfSome result (λ visit. OnErr visit (Sees has_seen self.old TurnedAway self.new)) }
+        ensures no_more { IfNone result (Sees has_seen self.old NoMore self.new) };
 
-    /// Takes back what is left of the visit that it let in under this number, when its session is over: a reader that
-    /// knows how often it was read and what the last read came to, and the writer, to which nothing more is written.
-    fn leave(
-        &self,
-        number: VisitNumber,
-        reader: &LimitedReader<'_, Self::Reader>,
-        writer: Self::Writer,
-    )
-        ensures { has_left self.now number reader.now writer };
+    /// Takes back what is left of a visit that it let in, when its session is over: a reader that knows how often it
+    /// was read and what the last read came to, and the writer, to which nothing more is written.
+    fn leave(&mut self, reader: &LimitedReader<'_, Self::Reader>, writer: Self::Writer)
+        requires served { (visit : Visit Self.Reader Self.Writer Self.Gate) × awaits self.old visit
+            × demands visit reader.now writer }
+        ensures seen { Sees has_seen self.old (Left reader.now writer) self.new }
+        ensures ready { is_ready self.new };
+
+    /// Another entrance of the door, at which nothing happened yet.
+    fn split(&mut self) -> Self
+        requires more { (more : ℕ) × may_split self.old (more + 1) }
+        ensures fewer { (more : ℕ) → may_split self.old (more + 1) → may_split self.new more }
+        ensures begun { has_seen result [] }
+        ensures ready { is_ready result }
+        ensures out { (out : ℕ) (log : List (DoorStep Self.Reader Self.Writer Self.Gate)) → has_joined self.old out log
+            → has_joined self.new (out + 1) log };
+
+    /// Takes an entrance back.
+    fn join(&mut self, other: Self)
+        ensures { (out : ℕ) (log own : List (DoorStep Self.Reader Self.Writer Self.Gate)) → has_joined self.old (out + 1) log
+            → has_seen other own → has_joined self.new out (log ++ own) };
 }

@@ -1,7 +1,9 @@
 ghost use Rattle.std.specs.Prelude.{◌≡◌, [], IfOk, IfErr};
 ghost use Rattle.rb_lock.specs.Passes.{first_pass};
+ghost use Rattle.rb_serving.specs.DoorSteps.{Gathers, all_steps};
 ghost use Rattle.rb_serving.specs.Serving.{EndsServing, IsReport, IsServersRun};
 ghost use Rattle.rb_serving.specs.Terms.{terms_of};
+ghost use Rattle.rb_serving.specs.Visits.{Satisfies};
 
 use crate::door::Door;
 use crate::serve_report::ServeReport;
@@ -32,22 +34,24 @@ use std::time;
 /// drained.
 pub fn serve_door<
     T: Timer + Send,
-    D: Door + Sync,
+    D: Door + Drop + Send,
     C: Clock + Sync,
     R: Threads + Wait + time::Clock + Sync,
 >(
     rt: &R,
     alloc: Global,
-    door: &D,
+    door: D,
     clock: &C,
     options: &ServerRunOptions,
     opening: Opening,
-) -> Result<ServeReport<T>, BrokerFault>
-    ensures served { IfOk result (λ report. IsServersRun
-        (terms_of D.Door D.Reader.Read D.Writer.Write D.Gate.Gate C.Clock
-        door.now clock.now options.now.policy Delivery.AtOnce)
-        opening options.now report) }
-    ensures fault { IfErr result EndsServing }
+) -> (D, Result<ServeReport<T>, BrokerFault>)
+    requires splits { D.may_split door options.now.workers }
+    requires honest { Satisfies
+        (terms_of D.Reader.Read D.Writer.Write D.Gate.Gate C.Clock clock.now options.now.policy Delivery.AtOnce) D.demands }
+    ensures served { IfOk result.1 (λ report. (run : IsServersRun
+        (terms_of D.Reader.Read D.Writer.Write D.Gate.Gate C.Clock clock.now options.now.policy Delivery.AtOnce)
+        opening options.now report) × Gathers D.has_joined door (all_steps run.logs) result.0) }
+    ensures fault { IfErr result.1 EndsServing }
 {
     serve_delivering(rt, alloc, door, clock, options, Delivery::AtOnce, opening)
 }
@@ -59,22 +63,24 @@ pub fn serve_door<
 /// those lines are in the history.
 pub fn serve_door_gathered<
     T: Timer + Send,
-    D: Door + Sync,
+    D: Door + Drop + Send,
     C: Clock + Sync,
     R: Threads + Wait + time::Clock + Sync,
 >(
     rt: &R,
     alloc: Global,
-    door: &D,
+    door: D,
     clock: &C,
     options: &ServerRunOptions,
     opening: Opening,
-) -> Result<ServeReport<T>, BrokerFault>
-    ensures served { IfOk result (λ report. IsServersRun
-        (terms_of D.Door D.Reader.Read D.Writer.Write D.Gate.Gate C.Clock
-        door.now clock.now options.now.policy (Delivery.Gathered HandsOn.BeforeReadsAndWaits))
-        opening options.now report) }
-    ensures fault { IfErr result EndsServing }
+) -> (D, Result<ServeReport<T>, BrokerFault>)
+    requires splits { D.may_split door options.now.workers }
+    requires honest { Satisfies
+        (terms_of D.Reader.Read D.Writer.Write D.Gate.Gate C.Clock clock.now options.now.policy (Delivery.Gathered HandsOn.BeforeReadsAndWaits)) D.demands }
+    ensures served { IfOk result.1 (λ report. (run : IsServersRun
+        (terms_of D.Reader.Read D.Writer.Write D.Gate.Gate C.Clock clock.now options.now.policy (Delivery.Gathered HandsOn.BeforeReadsAndWaits))
+        opening options.now report) × Gathers D.has_joined door (all_steps run.logs) result.0) }
+    ensures fault { IfErr result.1 EndsServing }
 {
     let delivery = Delivery::Gathered(HandsOn::BeforeReadsAndWaits);
     serve_delivering(rt, alloc, door, clock, options, delivery, opening)
@@ -83,37 +89,44 @@ pub fn serve_door_gathered<
 // Serves the visits, whose replies are written when `delivery` says so.
 fn serve_delivering<
     T: Timer + Send,
-    D: Door + Sync,
+    D: Door + Drop + Send,
     C: Clock + Sync,
     R: Threads + Wait + time::Clock + Sync,
 >(
     rt: &R,
     alloc: Global,
-    door: &D,
+    door: D,
     clock: &C,
     options: &ServerRunOptions,
     delivery: Delivery,
     opening: Opening,
-) -> Result<ServeReport<T>, BrokerFault>
-    ensures served { IfOk result (λ report. IsServersRun
-        (terms_of D.Door D.Reader.Read D.Writer.Write D.Gate.Gate C.Clock
-        door.now clock.now options.now.policy delivery)
-        opening options.now report) }
-    ensures fault { IfErr result EndsServing }
+) -> (D, Result<ServeReport<T>, BrokerFault>)
+    requires splits { D.may_split door options.now.workers }
+    requires honest { Satisfies
+        (terms_of D.Reader.Read D.Writer.Write D.Gate.Gate C.Clock clock.now options.now.policy delivery) D.demands }
+    ensures served { IfOk result.1 (λ report. (run : IsServersRun
+        (terms_of D.Reader.Read D.Writer.Write D.Gate.Gate C.Clock clock.now options.now.policy delivery)
+        opening options.now report) × Gathers D.has_joined door (all_steps run.logs) result.0) }
+    ensures fault { IfErr result.1 EndsServing }
 {
-    let (shared, pass) = opened::<T>(alloc, options, opening)?;
+    let (shared, pass) = match opened::<T>(alloc, options, opening) {
+        Ok(opened) => opened,
+        Err(fault) => return (door, Err(fault)),
+    };
     let bell = Bell::new();
     let service = Service {
         alloc,
         shared: &shared,
-        door,
         clock,
         bell: &bell,
         policy: &options.policy,
         delivery,
     };
-    let (pass, visits) = serve_all(rt, &service, pass, options.workers)?;
-    report_of(rt, shared, pass, visits)
+    let (door, served) = serve_all(rt, &service, door, pass, options.workers);
+    match served {
+        Ok((pass, visits)) => (door, report_of(rt, shared, pass, visits)),
+        Err(fault) => (door, Err(fault)),
+    }
 }
 
 // Shares a new queue of the opening. The number of calls is in range, so that memory alone can be missing.

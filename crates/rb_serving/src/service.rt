@@ -1,4 +1,3 @@
-use crate::door::Door;
 use rb_blocking::{Bell, Clock};
 use rb_lock::Shared;
 use rb_retry::Policy;
@@ -8,10 +7,9 @@ use std::alloc::Global;
 
 /// What all workers of a server have in common.
 #[derive(Drop)]
-pub(crate) struct Service<'a, T: Timer, D: Door, C: Clock> {
+pub(crate) struct Service<'a, T: Timer, C: Clock> {
     pub(crate) alloc: Global,
     pub(crate) shared: &'a Shared<T>,
-    pub(crate) door: &'a D,
     pub(crate) clock: &'a C,
     pub(crate) bell: &'a Bell,
     pub(crate) policy: &'a Policy,

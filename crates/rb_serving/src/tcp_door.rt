@@ -2,7 +2,6 @@ ghost use Rattle.std.specs.Prelude.{◌≡◌, ◌<◌, ◌≤◌, Some, Ok, Err
 
 use crate::door::{Door, DoorFault};
 use crate::visit::Visit;
-use crate::visit_number::VisitNumber;
 use rb_blocking::TurnGate;
 use rb_protocol::LimitedReader;
 use std::fmt::{self, Debug, Formatter};
@@ -89,40 +88,56 @@ impl Debug for TcpDoor {
     }
 }
 
-impl Door for TcpDoor {
+/// An entrance of a `TcpDoor`. All of them let in the clients of its one listener, and count the same sessions.
+#[derive(Clone, Copy, Debug)]
+pub struct TcpEntrance<'a> {
+    door: &'a TcpDoor,
+}
+
+impl TcpDoor {
+    /// The first entrance.
+    pub fn entrance(&self) -> TcpEntrance<'_>
+        ensures { result.door.now ≡ self.now }
+    {
+        TcpEntrance { door: self }
+    }
+}
+
+impl<'a> Door for TcpEntrance<'a> {
     type Reader = TcpStream;
 
     type Writer = TcpStream;
 
     type Gate = TurnGate;
 
-    // A client's waits end after the door's turns.
-    ghost lets_in = { λ door number visit. visit.gate.limit ≡ door.turns };
+    ghost has_seen = { λ entrance log. Unit {0} };
 
-    ghost turns_away = { λ door number. Unit {0} };
+    ghost demands = { λ visit reader writer. Unit {0} };
 
-    ghost has_no_more = { λ door number. Unit {0} };
+    ghost is_ready = { λ entrance. Unit {0} };
 
-    ghost has_left = { λ door number reader writer. Unit {0} };
+    ghost awaits = { λ entrance visit. Unit {0} };
+
+    ghost may_split = { λ entrance more. Unit {0} };
+
+    ghost has_joined = { λ entrance out log. Unit {0} };
 
     fn next<R: Wait + time::Clock>(
-        &self,
+        &mut self,
         rt: &R,
-        _number: VisitNumber,
     ) -> Option<Result<Visit<TcpStream, TcpStream, TurnGate>, DoorFault>> {
-        let asked = self.asked.fetch_add(1, Ordering::SeqCst);
-        self.answer(rt, asked)
+        let asked = self.door.asked.fetch_add(1, Ordering::SeqCst);
+        self.door.answer(rt, asked)
     }
 
     // The connection closes when the last of its two streams is dropped.
-    fn leave(
-        &self,
-        _number: VisitNumber,
-        _reader: &LimitedReader<'_, TcpStream>,
-        _writer: TcpStream,
-    )
-        ensures { Unit {0} }
-    {}
+    fn leave(&mut self, _reader: &LimitedReader<'_, TcpStream>, _writer: TcpStream) {}
+
+    fn split(&mut self) -> TcpEntrance<'a> {
+        *self
+    }
+
+    fn join(&mut self, _other: TcpEntrance<'a>) {}
 }
 
 // What a worker is told of a client that came: never that no more will come.

@@ -1,14 +1,14 @@
-ghost use Rattle.std.specs.Prelude.{◌≡◌};
+ghost use Rattle.std.specs.Prelude.{◌≡◌, List, [], ◌∷◌, ◌++◌};
+ghost use Rattle.rb_serving.specs.DoorSteps.{DoorStep, Left};
 ghost use Rattle.rb_serving.specs.Serving.{IsWorked, IsWorkerResult};
 ghost use Rattle.rb_serving.specs.Terms.{service_terms};
-ghost use Rattle.rb_serving.specs.Visits.{IsUnused, LeftVisit};
+ghost use Rattle.rb_serving.specs.Visits.{IsUnused, LeftVisit, Satisfies};
 ghost use Rattle.rb_session.specs.Served.{Served};
 
 use crate::door::{Door, DoorFault};
 use crate::service::Service;
 use crate::visit::Visit;
 use crate::visit_counts::VisitCounts;
-use crate::visit_number::VisitNumber;
 use rb_blocking::Clock;
 use rb_lock::Pass;
 use rb_protocol::LimitedReader;
@@ -18,55 +18,59 @@ use rb_timer::Timer;
 use std::sync::Wait;
 use std::time;
 
-/// Serves one visit after the other as the worker of this number, until the door has no more.
+/// Serves one visit after the other at this entrance, until the door has no more.
 ///
 /// The pass makes all their calls and no others. It waits for visits, and while another pass calls.
 pub(crate) fn work<T: Timer, D: Door, C: Clock, R: Wait + time::Clock>(
     rt: &R,
-    service: &Service<'_, T, D, C>,
-    worker: u64,
+    service: &Service<'_, T, C>,
+    mut door: D,
     mut pass: Pass<T>,
-) -> (Pass<T>, VisitCounts)
+) -> (Pass<T>, VisitCounts, D)
     requires pass { pass.table ≡ service.now.shared.now }
     requires unused { IsUnused pass }
+    requires unseen { D.has_seen door [] }
+    requires ready { D.is_ready door }
+    requires honest { Satisfies
+        (service_terms D.Reader.Read D.Writer.Write D.Gate.Gate C.Clock service.now) D.demands }
     ensures pass { result.0.table ≡ service.now.shared.now }
-    ensures worked { IsWorkerResult
-        (service_terms D.Door D.Reader.Read D.Writer.Write D.Gate.Gate C.Clock service.now)
-        pass.capacity pass.opening worker result.0 result.1 }
+    ensures worked { (log : List (DoorStep D.Reader D.Writer D.Gate)) × D.has_seen result.2 log × IsWorkerResult
+        (service_terms D.Reader.Read D.Writer.Write D.Gate.Gate C.Clock service.now)
+        pass.capacity pass.opening log result.0 result.1 }
 {
     let mut counts = VisitCounts::default();
     for _ in rt.forever() {
-        let number = VisitNumber {
-            worker,
-            earlier: counts.sessions,
-        };
-        let visit = match service.door.next(rt, number) {
+        let visit = match door.next(rt) {
             None => break,
             Some(Err(DoorFault)) => VisitCounts::of_refusal(),
             Some(Ok(visit)) => {
-                let ended = serve_visit(rt, service, &mut pass, number, visit);
+                let ended = serve_visit(rt, service, &mut pass, &mut door, visit);
                 VisitCounts::of_session(&ended)
             }
         };
         counts = counts.with(visit);
     }
-    (pass, counts)
+    (pass, counts, door)
 }
 
 // Serves a visit to its end: one session at a desk of the pass, whose waits the visit's gate may end.
 // The door gets back the reader and the writer, so what was sent went to this writer, and nothing more.
 fn serve_visit<T: Timer, D: Door, C: Clock, R: Wait + time::Clock>(
     rt: &R,
-    service: &Service<'_, T, D, C>,
+    service: &Service<'_, T, C>,
     pass: &mut Pass<T>,
-    number: VisitNumber,
+    door: &mut D,
     visit: Visit<D::Reader, D::Writer, D::Gate>,
 ) -> Result<Ended, SessionFault>
     requires pass { pass.old.table ≡ service.now.shared.now }
+    requires awaited { D.awaits door.old visit }
+    requires honest { Satisfies
+        (service_terms D.Reader.Read D.Writer.Write D.Gate.Gate C.Clock service.now) D.demands }
+    ensures ready { D.is_ready door.new }
     ensures worked { IsWorked pass.old pass.new }
     ensures ran { (served : Served) × (served.ended ≡ result) × LeftVisit
-        (service_terms D.Door D.Reader.Read D.Writer.Write D.Gate.Gate C.Clock service.now)
-        number visit pass.old served pass.new }
+        (service_terms D.Reader.Read D.Writer.Write D.Gate.Gate C.Clock service.now) D.has_seen
+        door.old visit pass.old served pass.new door.new }
 {
     let Visit {
         mut reader,
@@ -90,6 +94,6 @@ fn serve_visit<T: Timer, D: Door, C: Clock, R: Wait + time::Clock>(
         service.policy,
         service.delivery,
     );
-    service.door.leave(number, &limited, writer);
+    door.leave(&limited, writer);
     ended
 }

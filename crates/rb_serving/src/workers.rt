@@ -1,7 +1,8 @@
-ghost use Rattle.std.specs.Prelude.{◌≡◌, IfOk, IfErr};
-ghost use Rattle.rb_serving.specs.Serving.{FoldsWorkers, IsWorkerResult};
+ghost use Rattle.std.specs.Prelude.{◌≡◌, [], List, IfOk, IfErr};
+ghost use Rattle.rb_serving.specs.DoorSteps.{DoorStep};
+ghost use Rattle.rb_serving.specs.Serving.{GathersWorkers, IsWorkerResult};
 ghost use Rattle.rb_serving.specs.Terms.{service_terms};
-ghost use Rattle.rb_serving.specs.Visits.{IsUnused};
+ghost use Rattle.rb_serving.specs.Visits.{IsUnused, Satisfies};
 
 use crate::door::Door;
 use crate::service::Service;
@@ -16,52 +17,57 @@ use std::sync::Wait;
 use std::thread::{Promise, Scope, Threads};
 use std::{thread, time};
 
-// What a worker's thread gives: its pass, which served visits of this service as this worker and nothing else,
-// and their counts.
+// What a worker's thread gives: its pass, which served visits of this service at an entrance and nothing else, their
+// counts, and the entrance, at which nothing else happened.
 #[derive(Drop)]
-struct OfWorker<'a, T: Timer, D: Door, C: Clock> {
-    service: &'a Service<'a, T, D, C>,
-    worker: u64,
+struct OfWorker<'a, T: Timer, C: Clock> {
+    service: &'a Service<'a, T, C>,
     // The pass that it was given.
     start: Snapshot<Pass<T>>,
 }
 
-impl<'a, T: Timer, D: Door, C: Clock> Promise<(Pass<T>, VisitCounts)> for OfWorker<'a, T, D, C> {
-    ghost kept_by = { λ promise worked. (worked.0.table ≡ promise.service.now.shared.now) × IsWorkerResult
-        (service_terms D.Door D.Reader.Read D.Writer.Write D.Gate.Gate C.Clock promise.service.now)
-        promise.start.value.capacity promise.start.value.opening promise.worker worked.0 worked.1 };
+impl<'a, T: Timer, D: Door, C: Clock> Promise<(Pass<T>, VisitCounts, D)> for OfWorker<'a, T, C> {
+    ghost kept_by = { λ promise worked. (worked.0.table ≡ promise.service.now.shared.now)
+        × ((log : List (DoorStep D.Reader D.Writer D.Gate)) × D.has_seen worked.2 log × IsWorkerResult
+        (service_terms D.Reader.Read D.Writer.Write D.Gate.Gate C.Clock promise.service.now)
+        promise.start.value.capacity promise.start.value.opening log worked.0 worked.1) };
 }
 
 /// Runs this many workers at once, and folds the pass of each into this one.
 ///
-/// Each has a pass of its own, split off this one. If one can't be started, it waits for those that
+/// Each has a pass and an entrance of its own, split off these. If one can't be started, it waits for those that
 /// were started.
 pub(crate) fn serve_all<
     T: Timer + Send,
-    D: Door + Sync,
+    D: Door + Drop + Send,
     C: Clock + Sync,
     R: Threads + Wait + time::Clock + Sync,
 >(
     rt: &R,
-    service: &Service<'_, T, D, C>,
+    service: &Service<'_, T, C>,
+    door: D,
     pass: Pass<T>,
     count: u64,
-) -> Result<(Pass<T>, VisitCounts), BrokerFault>
+) -> (D, Result<(Pass<T>, VisitCounts), BrokerFault>)
     requires pass { pass.table ≡ service.now.shared.now }
-    ensures folds { IfOk result (λ served. FoldsWorkers
-        (service_terms D.Door D.Reader.Read D.Writer.Write D.Gate.Gate C.Clock service.now)
-        count pass served.0 served.1) }
-    ensures fault { IfErr result (λ fault. fault ≡ BrokerFault.Worker) }
+    requires splits { D.may_split door count }
+    requires honest { Satisfies
+        (service_terms D.Reader.Read D.Writer.Write D.Gate.Gate C.Clock service.now) D.demands }
+    ensures folds { IfOk result.1 (λ served. GathersWorkers
+        (service_terms D.Reader.Read D.Writer.Write D.Gate.Gate C.Clock service.now)
+        D.has_joined count door pass result.0 served.0 served.1) }
+    ensures fault { IfErr result.1 (λ fault. fault ≡ BrokerFault.Worker) }
 {
     thread::scope(
         thread::scope_env(),
         rt,
-        move |scope| -> Result<(Pass<T>, VisitCounts), BrokerFault>
-            requires { pass.table ≡ service.now.shared.now }
-            ensures { IfOk result (λ served. FoldsWorkers
-                (service_terms D.Door D.Reader.Read D.Writer.Write D.Gate.Gate C.Clock service.entry.now)
-                count pass served.0 served.1) × IfErr result (λ fault. fault ≡ BrokerFault.Worker) }
-        { start_all(rt, scope, service, pass, count) },
+        move |scope| -> (D, Result<(Pass<T>, VisitCounts), BrokerFault>)
+            requires { (pass.table ≡ service.now.shared.now) × D.may_split door count × Satisfies
+                (service_terms D.Reader.Read D.Writer.Write D.Gate.Gate C.Clock service.now) D.demands }
+            ensures { IfOk result.1 (λ served. GathersWorkers
+                (service_terms D.Reader.Read D.Writer.Write D.Gate.Gate C.Clock service.entry.now)
+                D.has_joined count door pass result.0 served.0 served.1) × IfErr result.1 (λ fault. fault ≡ BrokerFault.Worker) }
+        { start_all(rt, scope, service, door, pass, count) },
     )
 }
 
@@ -71,49 +77,56 @@ fn start_all<
     's,
     E,
     T: Timer + Send + 's,
-    D: Door + Sync + 's,
+    D: Door + Drop + Send + 's,
     C: Clock + Sync + 's,
     R: Threads + Wait + time::Clock + Sync + 's,
 >(
     rt: &'s R,
     scope: &'s Scope<'s, E>,
-    service: &'s Service<'s, T, D, C>,
+    service: &'s Service<'s, T, C>,
+    mut door: D,
     mut pass: Pass<T>,
     count: u64,
-) -> Result<(Pass<T>, VisitCounts), BrokerFault>
+) -> (D, Result<(Pass<T>, VisitCounts), BrokerFault>)
     requires pass { pass.table ≡ service.now.shared.now }
-    ensures folds { IfOk result (λ served. FoldsWorkers
-        (service_terms D.Door D.Reader.Read D.Writer.Write D.Gate.Gate C.Clock service.now)
-        count pass served.0 served.1) }
-    ensures fault { IfErr result (λ fault. fault ≡ BrokerFault.Worker) }
+    requires splits { D.may_split door count }
+    requires honest { Satisfies
+        (service_terms D.Reader.Read D.Writer.Write D.Gate.Gate C.Clock service.now) D.demands }
+    ensures folds { IfOk result.1 (λ served. GathersWorkers
+        (service_terms D.Reader.Read D.Writer.Write D.Gate.Gate C.Clock service.now)
+        D.has_joined count door pass result.0 served.0 served.1) }
+    ensures fault { IfErr result.1 (λ fault. fault ≡ BrokerFault.Worker) }
 {
     if count == 0 {
-        return Ok((pass, VisitCounts::default()));
+        return (door, Ok((pass, VisitCounts::default())));
     }
     let Ok(child) = service.shared.split(rt, &mut pass) else {
-        return Err(BrokerFault::Worker);
+        return (door, Err(BrokerFault::Worker));
     };
-    let worker = count - 1;
+    let entrance = door.split();
     let start = Snapshot::of(&child);
-    let promise = OfWorker {
-        service,
-        worker,
-        start,
-    };
+    let promise = OfWorker { service, start };
     let Ok(started) = scope.spawn_with(
         promise,
-        move || -> (Pass<T>, VisitCounts)
-            requires { (child.table ≡ service.now.shared.now) × IsUnused child }
-            ensures { (result.0.table ≡ service.entry.now.shared.now) × IsWorkerResult
-                (service_terms D.Door D.Reader.Read D.Writer.Write D.Gate.Gate C.Clock service.entry.now)
-                child.capacity child.opening worker result.0 result.1 }
-        { work(rt, service, worker, child) },
+        move || -> (Pass<T>, VisitCounts, D)
+            requires { (child.table ≡ service.now.shared.now) × IsUnused child × D.has_seen entrance []
+                × D.is_ready entrance × Satisfies
+                (service_terms D.Reader.Read D.Writer.Write D.Gate.Gate C.Clock service.now) D.demands }
+            ensures { (result.0.table ≡ service.entry.now.shared.now)
+                × ((log : List (DoorStep D.Reader D.Writer D.Gate)) × D.has_seen result.2 log × IsWorkerResult
+                (service_terms D.Reader.Read D.Writer.Write D.Gate.Gate C.Clock service.entry.now)
+                child.capacity child.opening log result.0 result.1) }
+        { work(rt, service, entrance, child) },
     ) else {
-        return Err(BrokerFault::Worker);
+        return (door, Err(BrokerFault::Worker));
     };
-    let others = start_all(rt, scope, service, pass, worker);
-    let (done, counts) = started.join(rt);
-    let (mut pass, more) = others?;
+    let (mut door, others) = start_all(rt, scope, service, door, pass, count - 1);
+    let (done, counts, entrance) = started.join(rt);
+    let (mut pass, more) = match others {
+        Ok(folded) => folded,
+        Err(fault) => return (door, Err(fault)),
+    };
+    door.join(entrance);
     service.shared.fold(&mut pass, done);
-    Ok((pass, more.with(counts)))
+    (door, Ok((pass, more.with(counts))))
 }

@@ -9,9 +9,7 @@ use rb_protocol::LimitedReader;
 use rb_queue::{Audit, Opening};
 use rb_replay::check;
 use rb_retry::Policy;
-use rb_serving::{
-    Door, DoorFault, ServeReport, Visit, VisitNumber, serve_door, serve_door_gathered,
-};
+use rb_serving::{Door, DoorFault, ServeReport, Visit, serve_door, serve_door_gathered};
 use rb_timer::ListTimer;
 use std::alloc::Global;
 use std::io::{Read, Write};
@@ -187,12 +185,12 @@ pub fn after<'a>(
     Some(Sends::After(lines, first, second))
 }
 
-/// A door that gives the planned visits, one after the other.
+/// An entrance of a door that gives the planned visits, one after the other.
 #[derive(Drop)]
 pub struct PlannedDoor<'a, R> {
     rt: &'a R,
     plans: &'a [Plan<'a>],
-    taken: AtomicU64,
+    taken: &'a AtomicU64,
 }
 
 impl<'a, R: Wait + time::Clock + Sync> Door for PlannedDoor<'a, R> {
@@ -202,18 +200,21 @@ impl<'a, R: Wait + time::Clock + Sync> Door for PlannedDoor<'a, R> {
 
     type Gate = NotedGate<'a>;
 
-    ghost lets_in = { λ door number visit. Unit {0} };
+    ghost has_seen = { λ door log. Unit {0} };
 
-    ghost turns_away = { λ door number. Unit {0} };
+    ghost demands = { λ visit reader writer. Unit {0} };
 
-    ghost has_no_more = { λ door number. Unit {0} };
+    ghost is_ready = { λ door. Unit {0} };
 
-    ghost has_left = { λ door number reader writer. Unit {0} };
+    ghost awaits = { λ door visit. Unit {0} };
+
+    ghost may_split = { λ door more. Unit {0} };
+
+    ghost has_joined = { λ door out log. Unit {0} };
 
     fn next<H: Wait + time::Clock>(
-        &self,
+        &mut self,
         _rt: &H,
-        _number: VisitNumber,
     ) -> Option<Result<Visit<Sender<'a, R>, Receiver<'a, R>, NotedGate<'a>>, DoorFault>> {
         let taken = self.taken.fetch_add(1, Ordering::SeqCst);
         let plan = self.plans.get(usize::try_from(taken).ok()?)?;
@@ -230,14 +231,17 @@ impl<'a, R: Wait + time::Clock + Sync> Door for PlannedDoor<'a, R> {
         }))
     }
 
-    fn leave(
-        &self,
-        _number: VisitNumber,
-        _reader: &LimitedReader<'_, Sender<'a, R>>,
-        _writer: Receiver<'a, R>,
-    )
-        ensures { Unit {0} }
-    {}
+    fn leave(&mut self, _reader: &LimitedReader<'_, Sender<'a, R>>, _writer: Receiver<'a, R>) {}
+
+    fn split(&mut self) -> PlannedDoor<'a, R> {
+        PlannedDoor {
+            rt: self.rt,
+            plans: self.plans,
+            taken: self.taken,
+        }
+    }
+
+    fn join(&mut self, _other: PlannedDoor<'a, R>) {}
 }
 
 /// Returns the options of a server with room for 100 calls and three attempts per job.
@@ -259,19 +263,21 @@ pub fn served_so<R: Threads + Wait + time::Clock + Sync>(
     plans: &[Plan<'_>],
     options: &ServerRunOptions,
 ) -> Result<ServeReport<ListTimer>, BrokerFault> {
+    let taken = AtomicU64::new(0);
     let door = PlannedDoor {
         rt,
         plans,
-        taken: AtomicU64::new(0),
+        taken: &taken,
     };
-    serve_door_gathered(
+    let (_, served) = serve_door_gathered(
         rt,
         alloc,
-        &door,
+        door,
         &SevenClock,
         options,
         Opening::empty(alloc),
-    )
+    );
+    served
 }
 
 /// Serves `plans` like `served_so`, but writes each reply at once.
@@ -281,19 +287,14 @@ pub fn served_at_once<R: Threads + Wait + time::Clock + Sync>(
     plans: &[Plan<'_>],
     options: &ServerRunOptions,
 ) -> Result<ServeReport<ListTimer>, BrokerFault> {
+    let taken = AtomicU64::new(0);
     let door = PlannedDoor {
         rt,
         plans,
-        taken: AtomicU64::new(0),
+        taken: &taken,
     };
-    serve_door(
-        rt,
-        alloc,
-        &door,
-        &SevenClock,
-        options,
-        Opening::empty(alloc),
-    )
+    let (_, served) = serve_door(rt, alloc, door, &SevenClock, options, Opening::empty(alloc));
+    served
 }
 
 /// What a server counted, and the audit of its history.

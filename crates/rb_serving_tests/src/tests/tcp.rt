@@ -51,7 +51,15 @@ fn served<R: Threads + Wait + time::Clock + Abort + Sync>(
 {
     let options = hundred_calls(rt, workers);
     let opening = Opening::empty(alloc);
-    let report = serve_door::<ListTimer, _, _, _>(rt, alloc, door, &SevenClock, &options, opening);
+    let entrance = door.entrance();
+    let (_, report) = serve_door::<ListTimer, _, _, _>(
+        rt,
+        alloc,
+        entrance,
+        &SevenClock,
+        &options,
+        opening,
+    );
     let report = report.ok().expect(rt, "a report");
     expect_legal(rt, alloc, &report);
     counts_of(&report)

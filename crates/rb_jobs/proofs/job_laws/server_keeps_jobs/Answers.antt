@@ -1,9 +1,9 @@
--- The law is the lemma of `ServedHands`, on the terms of any door.
+-- The law is the lemma of `ServedHands`, on the terms of visits at any door.
 use Rattle.rb_serving.specs.Terms.{terms_of}
 use Rattle.rb_jobs.proofs.ServedHands.{server_keeps_jobs}
 use Rattle.rb_jobs.proofs.job_laws.server_keeps_jobs.Goals as goal
 
 pub returns : goal.returns
-returns g c door clock policy delivery =
+returns g c clock policy delivery =
     server_keeps_jobs
-    (terms_of g.D.Door g.D.Reader.Read g.D.Writer.Write g.D.Gate.Gate g.C.Clock door clock policy delivery)
+    (terms_of g.D.Reader.Read g.D.Writer.Write g.D.Gate.Gate g.C.Clock clock policy delivery)

@@ -33,7 +33,7 @@ returns-clause-ran g c =
       record {
         reader = session.new.reader;
         writer = session.new.writer;
-        left = c.leave.ensures;
+        left = c.leave.ensures.seen;
         ran = record {
           consumed = subst (λ (first : Option (List ℕ)). Consumes first (g.D.Reader.Read.remaining session.new.reader.inner.now) ran.came)
               (ap g.D.Reader.Read.remaining limited.same) ran.consumed;
@@ -48,3 +48,28 @@ returns-clause-ran g c =
         };
       },
     )
+
+pub leave-requires : goal.leave-requires
+leave-requires g c =
+    let limited = c.new-limited.ensures in
+    let session = c.run_limited-ended in
+    let ran = session.ensures.ran in
+    let visit = c.args.visit in
+    let served : Served = record { came = ran.came; sent = ran.sent; ended = session.result } in record {
+      served = (
+        visit,
+        c.requires.awaited,
+        c.requires.honest visit session.new.reader session.new.writer c.args.pass.now served _ (record {
+          consumed = subst (λ (first : Option (List ℕ)). Consumes first (g.D.Reader.Read.remaining session.new.reader.inner.now) ran.came)
+              (ap g.D.Reader.Read.remaining limited.same) ran.consumed;
+          appended = ran.appended;
+          from = _;
+          begun = is_desk c.args.service.now.clock.now visit.gate _ c.args.pass.now _ c.new-desk.ensures.state;
+          to = _;
+          ran = ran.holds;
+          seen = refl;
+          reason = subst (λ (state : ReaderState). IsReason state session.new.reader session.result) limited.unread
+              session.ensures.reason;
+        }),
+      );
+    }

@@ -1,22 +1,45 @@
 -- The last worker that ends is folded in behind the others, and its visits are counted with theirs.
-use Rattle.std.proofs.Common.{◌<◌, ◌-◌, sym, subst, arith, ◌∙◌}
+use Rattle.std.proofs.Common.{rules, ◌≡◌, ◌<◌, ◌+◌, ◌-◌, ◌++◌, ◌∷◌, [], sym, subst, arith, ◌∙◌}
 use Rattle.rb_lock.specs.Passes.{PassState}
 use Rattle.std.proofs.lemmas.Bool.Decides.{nat_tests}
 use Rattle.rb_serving.specs.Serving.{FoldsWorkers, IsWorkerResult}
 use Rattle.rb_serving.specs.Terms.{service_terms}
-use Rattle.rb_serving.proofs.FoldedWorkers.{folds_one_more}
+use Rattle.rb_serving.proofs.FoldedWorkers.{folds_one_more, gathers_more, gathers_none}
+use Rattle.rb_serving.proofs.ServedRuns.{of_ok}
 use Rattle.rb_serving.proofs.workers.+start_all.Goals as goal
+
+pub returns-then-count-eq0-clause-folds : goal.returns-then-count-eq0-clause-folds
+returns-then-count-eq0-clause-folds g t c =
+    gathers_none (service_terms g.D.Reader.Read g.D.Writer.Write g.D.Gate.Gate g.C.Clock c.args.service.now)
+    g.D.Door.has_joined c.args.count c.args.door c.args.pass c.default.result
+    (grind (arith, nat_tests, c.if-count-eq0.true)) (search rules)
 
 pub returns-clause-folds : goal.returns-clause-folds
 returns-clause-folds g t c =
-    let terms = service_terms g.D.Door g.D.Reader.Read g.D.Writer.Write g.D.Gate.Gate g.C.Clock in
+    let terms = service_terms g.D.Reader.Read g.D.Writer.Write g.D.Gate.Gate g.C.Clock in
     let of = terms c.args.service.now in
     let some : 0 < c.args.count = grind (arith, nat_tests, c.if-count-eq0.false) in
     let done = c.join-done.result in
+    let kept = c.join-done.ensures.1 in
     let as_promised = subst (λ promise. IsWorkerResult (terms promise.service.now) promise.start.value.capacity
-    promise.start.value.opening promise.worker done.0 done.1) c.in-Ok-spawn_with.ensures.ok c.join-done.ensures.1 in
-    let worked = subst (λ (start : PassState). IsWorkerResult of start.capacity start.opening (c.args.count - 1) done.0 done.1)
+    promise.start.value.opening kept.0 done.0 done.1) c.in-Ok-spawn_with.ensures.ok kept.2 in
+    let worked = subst (λ (start : PassState). IsWorkerResult of start.capacity start.opening kept.0 done.0 done.1)
     (c.of-start.ensures ∙ c.in-Ok.ensures.child) as_promised in
-    subst (FoldsWorkers of c.args.count c.args.pass c.fold.new.pass) (sym c.with.ensures)
-    (folds_one_more of c.args.count c.args.pass c.split.new.pass c.in_ok-pass.pass done.0 c.fold.new.pass done.1
-    c.in_ok-pass.more some c.in-Ok.ensures.learns c.in-Ok.ensures.mine c.in_ok-pass.ensures.folds worked c.fold.ensures)
+    let others = of_ok _ c.in-Ok-others.folded _ c.in-Ok-others.is c.start_all-door.ensures.folds in
+    let rest = c.in-Ok-others.folded in
+    record {
+      logs = others.logs ++ kept.0 ∷ [];
+      gathers = gathers_more of g.D.Door.has_joined g.D.Door.has_seen c.args.door c.split-entrance.new.self
+          c.start_all-door.result.0 c.join.new.self done.2 others.logs kept.0 c.split-entrance.ensures.out
+          others.gathers kept.1 c.join.ensures;
+      folds = subst (FoldsWorkers of c.args.count (others.logs ++ kept.0 ∷ []) c.args.pass c.fold.new.pass)
+          (sym c.with.ensures)
+          (folds_one_more of c.args.count others.logs kept.0 c.args.pass c.split.new.pass rest.0 done.0 c.fold.new.pass
+          done.1 rest.1 some c.in-Ok.ensures.learns c.in-Ok.ensures.mine others.folds worked c.fold.ensures);
+    }
+
+pub split-entrance-requires : goal.split-entrance-requires
+split-entrance-requires g t c =
+    let some : 0 < c.args.count = grind (arith, nat_tests, c.if-count-eq0.false) in
+    let is : c.args.count ≡ (c.args.count - 1) + 1 = omega (arith, some) in
+    record { more = (c.args.count - 1, subst (g.D.Door.may_split c.args.door) is c.requires.splits) }

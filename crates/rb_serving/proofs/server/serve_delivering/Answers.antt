@@ -1,0 +1,23 @@
+-- The report is that of the workers' passes and counts, and their entrances are back.
+use Rattle.std.proofs.Common.{ap}
+use Rattle.std.proofs.lemmas.Result.{IfOk-weaker}
+use Rattle.rb_lock.specs.Passes.{PassState}
+use Rattle.rb_serving.specs.Terms.{terms_of}
+use Rattle.rb_serving.proofs.ServedRuns.{of_ok, server_run}
+use Rattle.rb_serving.proofs.server.serve_delivering.Goals as goal
+
+pub returns-in-Ok-served-clause-served : goal.returns-in-Ok-served-clause-served
+returns-in-Ok-served-clause-served g c =
+    let terms = terms_of g.D.Reader.Read g.D.Writer.Write g.D.Gate.Gate g.C.Clock c.args.clock.now
+    c.args.options.now.policy c.args.delivery in
+    let workers = of_ok _ _ _ c.in-Ok-served.is c.serve_all-door.ensures.folds in
+    let fresh = c.in-Ok.ensures.pass in
+    IfOk-weaker c.report_of.result _ _
+    (λ report is. (
+      server_run terms c.args.opening c.args.options.now report c.in-Ok.opened.1 c.in-Ok-served.pass
+          c.in-Ok-served.visits workers.logs (ap (λ (pass : PassState). pass.opening) fresh)
+          (ap (λ (pass : PassState). pass.capacity) fresh) (ap (λ (pass : PassState). pass.mine) fresh)
+          (ap (λ (pass : PassState). pass.folded) fresh) workers.folds is,
+      workers.gathers,
+    ))
+    c.report_of.ensures.report
