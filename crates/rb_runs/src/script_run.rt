@@ -1,19 +1,17 @@
-ghost use Rattle.std.specs.Prelude.{◌≡◌, ◌≤◌, Some};
+ghost use Rattle.std.specs.Prelude.{◌≡◌, ◌≤◌};
 ghost use Rattle.std.specs.Io.KnownBytes.{IsAtEnd};
 ghost use Rattle.rb_session.specs.Exchange.{Exchanges};
 ghost use Rattle.rb_session.specs.Reasons.{IsReason};
 ghost use Rattle.rb_ending.specs.Recording.{lent, given_back};
-ghost use Rattle.rb_runs.specs.Script.{IsRecording, RanScript, script_terms, device_of};
+ghost use Rattle.rb_runs.specs.Script.{RanScript, script_terms, device_of};
 
+use crate::ready_script::ReadyScript;
 use crate::recording::Recording;
 use crate::script_report::ScriptReport;
-use rb_ending::write_recording;
-use rb_kept::Kept;
 use rb_options::ScriptOptions;
 use rb_protocol::LimitedReader;
 use rb_queue::Opening;
-use rb_retry::KeptDesk;
-use rb_session::{Delivery, Ended, SessionFault, run_limited};
+use rb_session::Delivery;
 use rb_timer::Timer;
 use std::alloc::Global;
 use std::io::{Read, Write};
@@ -27,7 +25,7 @@ pub(crate) struct Script<'a> {
 }
 
 /// Runs a script over this timer, and then writes its history, if there is a device for it. If there is
-/// no memory for the queue, the session is not begun.
+/// not enough memory before the first read, the session is not begun.
 pub(crate) fn script_over<T: Timer, R: Read, W: Write, H: Write>(
     alloc: Global,
     script: Script<'_>,
@@ -51,41 +49,15 @@ pub(crate) fn script_over<T: Timer, R: Read, W: Write, H: Write>(
         delivery,
         opening,
     } = script;
-    // The number of calls is in range, so only memory can be missing.
-    let Ok((mut kept, mut tally)) = Kept::<T>::new_from(alloc, options.calls, opening) else {
+    let Ok(ready) = ReadyScript::<T>::new(alloc, options, delivery, opening) else {
         return match history {
             Some(_device) => ScriptReport::unbegun(Recording::NotBegun),
             None => ScriptReport::unbegun(Recording::NotAsked),
         };
     };
-    let mut desk = KeptDesk::new(&mut kept, &mut tally);
-    let session = run_limited(alloc, reader, writer, &mut desk, &options.policy, delivery);
+    // For the proof: it follows the device only where it knows that there is one.
     match history {
-        Some(device) => ScriptReport {
-            session,
-            recording: recorded(alloc, &kept, session, device),
-        },
-        None => ScriptReport {
-            session,
-            recording: Recording::NotAsked,
-        },
-    }
-}
-
-// Writes the history to the device, unless the session was not begun.
-fn recorded<T: Timer, H: Write>(
-    alloc: Global,
-    kept: &Kept<T>,
-    session: Result<Ended, SessionFault>,
-    device: &mut H,
-) -> Recording
-    ensures { IsRecording H.contents kept.now session result (Some device.old) (Some device.new) }
-{
-    if let Err(SessionFault::Memory) = session {
-        return Recording::NotBegun;
-    }
-    match write_recording(alloc, kept, device) {
-        Ok(()) => Recording::Written,
-        Err(fault) => Recording::Failed(fault),
+        Some(device) => ready.run(reader, writer, Some(device)),
+        none => ready.run(reader, writer, none),
     }
 }

@@ -1,0 +1,120 @@
+ghost use Rattle.std.specs.Prelude.{◌≡◌, ◌≢◌, ◌≤◌, [], Result, Err, Some, IfOk};
+ghost use Rattle.std.specs.Io.KnownBytes.{IsAtEnd};
+ghost use Rattle.rb_ledger.specs.Totals.{nothing};
+ghost use Rattle.rb_session.specs.Exchange.{Exchanges};
+ghost use Rattle.rb_session.specs.Reasons.{IsReason};
+ghost use Rattle.rb_ending.specs.Recording.{lent, given_back};
+ghost use Rattle.rb_runs.specs.Script.{IsFresh, IsRecording, RanScript, script_terms, device_of};
+
+use crate::recording::Recording;
+use crate::script_report::ScriptReport;
+use rb_ending::write_recording;
+use rb_history::HistoryRoom;
+use rb_kept::Kept;
+use rb_ledger::Tally;
+use rb_options::ScriptOptions;
+use rb_protocol::LimitedReader;
+use rb_queue::Opening;
+use rb_retry::{KeptDesk, Policy};
+use rb_session::{Delivery, Ended, SessionFault, SessionRoom, run_in};
+use rb_timer::Timer;
+use std::alloc::{AllocError, Global};
+use std::io::{Read, Write};
+
+/// A script that can be run: the queue that it begins with, and all memory that its run takes, except for
+/// what is offered and drained.
+///
+/// So whoever has one can empty the file that the history goes to: the run will end with a history.
+#[derive(Drop)]
+pub struct ReadyScript<T: Timer> {
+    kept: Kept<T>,
+    tally: Tally,
+    policy: Policy,
+    session: SessionRoom,
+    text: HistoryRoom,
+    ghost unused: { kept.history ≡ [] },
+    ghost uncounted: { tally ≡ nothing },
+}
+
+impl<T: Timer> ReadyScript<T> {
+    /// Takes the memory for a script over the queue of this opening, whose replies are written when
+    /// `delivery` says so.
+    pub fn new(
+        alloc: Global,
+        options: &ScriptOptions,
+        delivery: Delivery,
+        opening: Opening,
+    ) -> Result<ReadyScript<T>, AllocError>
+        ensures queue { IfOk result (λ ready. IsFresh ready.kept opening options.now.calls) }
+        ensures policy { IfOk result (λ ready. ready.policy ≡ options.now.policy) }
+        ensures delivery { IfOk result (λ ready. ready.session.delivery ≡ delivery) }
+    {
+        // The number of calls is in range, so only memory can be missing.
+        let Ok((kept, tally)) = Kept::<T>::new_from(alloc, options.calls, opening) else {
+            return Err(AllocError);
+        };
+        Ok(ReadyScript {
+            kept,
+            tally,
+            policy: options.policy,
+            session: SessionRoom::new(alloc, delivery)?,
+            text: HistoryRoom::new(alloc)?,
+        })
+    }
+
+    /// Runs one session over the queue, from a reader to a writer, and then writes the run's history, if there
+    /// is a device for it.
+    ///
+    /// The history is also written after a session that ended with a fault. `EndOfInput` means that the last
+    /// read met the end of the input, `Read` that it failed, and `ReadTurns` that there is none left; a session
+    /// that ends otherwise has had no read that failed. None ends for want of memory.
+    pub fn run<R: Read, W: Write, H: Write>(
+        self,
+        reader: &mut LimitedReader<'_, R>,
+        writer: &mut W,
+        history: Option<&mut H>,
+    ) -> ScriptReport
+        ensures ran { Exchanges
+            (R.remaining reader.old.inner.now) (R.remaining reader.new.inner.now)
+            (W.contents writer.old) (W.contents writer.new) (λ came sent.
+            RanScript (script_terms W.contents (W.contents writer.old)
+            self.policy self.kept.capacity self.session.delivery self.kept.opening)
+            (IsAtEnd (R.remaining reader.new.inner.now)) came sent result
+            (device_of H.contents (lent history.entry) (given_back history.exit))) }
+        ensures begun { result.session ≢ Err SessionFault.Memory }
+        ensures reason { IsReason reader.old.state reader.new result.session }
+        ensures counted { reader.new.left ≤ reader.old.left }
+        ensures same_reference { reader.new.inner.ghost_name ≡ reader.old.inner.ghost_name }
+    {
+        let ReadyScript {
+            mut kept,
+            mut tally,
+            policy,
+            session,
+            text,
+        } = self;
+        let mut desk = KeptDesk::new(&mut kept, &mut tally);
+        let session = run_in(session, reader, writer, &mut desk, &policy);
+        match history {
+            Some(device) => ScriptReport {
+                session,
+                recording: recorded(text, &kept, device),
+            },
+            None => ScriptReport {
+                session,
+                recording: Recording::NotAsked,
+            },
+        }
+    }
+}
+
+// Writes the history to the device.
+fn recorded<T: Timer, H: Write>(text: HistoryRoom, kept: &Kept<T>, device: &mut H) -> Recording
+    ensures { (session : Result Ended SessionFault) → (session ≢ Err SessionFault.Memory)
+        → IsRecording H.contents kept.now session result (Some device.old) (Some device.new) }
+{
+    match write_recording(text, kept, device) {
+        Ok(()) => Recording::Written,
+        Err(fault) => Recording::Failed(fault),
+    }
+}
