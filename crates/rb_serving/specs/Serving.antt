@@ -96,3 +96,11 @@ EndsServing Broker.Worker = Unit {0}
 EndsServing Broker.NotGathered = Unit {0}
 EndsServing Broker.Memory = Unit {0}
 EndsServing _ = ⊥
+
+-- the same where the run has a recorder, and what became of that: it has not begun, or could not, or has
+abbrev pub EndsRecorded : {B : Type 0} → (B → B → Type 0) → (B → B → Type 0) → B → B → BrokerFault → Type 0
+EndsRecorded has_begun has_failed old new Broker.Memory = new ≡ old
+EndsRecorded has_begun has_failed old new Broker.Worker = new ≡ old
+EndsRecorded has_begun has_failed old new Broker.WriteHistory = has_failed old new
+EndsRecorded has_begun has_failed old new Broker.NotGathered = has_begun old new
+EndsRecorded _ _ _ _ _ = ⊥

@@ -6,6 +6,7 @@
 
 mod door;
 mod laws;
+mod recorder;
 mod serve_clock;
 mod serve_end;
 mod serve_report;
@@ -20,6 +21,7 @@ mod workers;
 
 pub use door::{Door, DoorFault};
 pub use laws::{each_visitor_is_served, pause_has_its_value};
+pub use recorder::{NoRecorder, Recorder};
 pub use serve_clock::ServeClock;
 pub use serve_end::{ServerEnd, end_server};
 pub use serve_report::ServeReport;

@@ -5,7 +5,7 @@ ghost use Rattle.rb_serving.specs.ServeText.{Prints, first_fault, report_text};
 use crate::serve_report::ServeReport;
 use crate::serve_text::print_report;
 use rb_ending::{BrokerFault, write_recording};
-use rb_history::HistoryFault;
+use rb_history::{HistoryFault, HistoryRoom};
 use rb_timer::Timer;
 use std::alloc::Global;
 use std::io::Write;
@@ -32,9 +32,11 @@ impl ServerEnd {
 }
 
 /// Writes the history of a server's run, if there is a device for it, and then prints the counts of
-/// the run, also if the history could not be written.
+/// the run, also if the history could not be written. Only printing takes memory: the history is written in the room
+/// that was taken for its text.
 pub fn end_server<T: Timer, W: Write, H: Write>(
     alloc: Global,
+    text: HistoryRoom,
     report: &ServeReport<T>,
     writer: &mut W,
     history: Option<&mut H>,
@@ -44,7 +46,7 @@ pub fn end_server<T: Timer, W: Write, H: Write>(
 {
     match history {
         Some(device) => {
-            let recorded = write_recording(alloc, &report.kept, device);
+            let recorded = write_recording(text, &report.kept, device);
             ended(alloc, report, writer, recorded)
         }
         None => ended(alloc, report, writer, Ok(())),

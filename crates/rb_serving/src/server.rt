@@ -1,11 +1,12 @@
-ghost use Rattle.std.specs.Prelude.{◌≡◌, [], IfOk, IfErr};
+ghost use Rattle.std.specs.Prelude.{◌≡◌, [], IfOk, IfErr, MatchResult};
 ghost use Rattle.rb_lock.specs.Passes.{first_pass};
 ghost use Rattle.rb_serving.specs.DoorSteps.{Gathers, all_steps};
-ghost use Rattle.rb_serving.specs.Serving.{EndsServing, IsReport, IsServersRun};
+ghost use Rattle.rb_serving.specs.Serving.{EndsRecorded, EndsServing, IsReport, IsServersRun};
 ghost use Rattle.rb_serving.specs.Terms.{terms_of};
 ghost use Rattle.rb_serving.specs.Visits.{Satisfies};
 
 use crate::door::Door;
+use crate::recorder::{NoRecorder, Recorder};
 use crate::serve_report::ServeReport;
 use crate::service::Service;
 use crate::visit_counts::VisitCounts;
@@ -19,7 +20,7 @@ use rb_queue::Opening;
 use rb_session::{Delivery, HandsOn};
 use rb_timer::Timer;
 use std::alloc::Global;
-use std::sync::Wait;
+use std::sync::{OnceLock, Wait};
 use std::thread::Threads;
 use std::time;
 
@@ -53,7 +54,11 @@ pub fn serve_door<
         opening options.now report) × Gathers D.has_joined door (all_steps run.logs) result.0) }
     ensures fault { IfErr result.1 EndsServing }
 {
-    serve_delivering(rt, alloc, door, clock, options, Delivery::AtOnce, opening)
+    let at_once = Delivery::AtOnce;
+    let (door, _, served) = serve_delivering(
+        rt, alloc, door, clock, options, at_once, opening, NoRecorder,
+    );
+    (door, served)
 }
 
 /// Serves the visits of a door like `serve_door`, but gathers the replies of each: its writer gets
@@ -61,10 +66,15 @@ pub fn serve_door<
 ///
 /// A write that fails may lose the replies to lines that were served, at most 64 KiB of them. All
 /// those lines are in the history.
+///
+/// The recorder begins once all workers have been started and the memory for the history was taken, before
+/// anybody is let in. If memory is missing or a worker can't be started, nobody is let in and the recorder
+/// is as it was. If it can't begin, nobody is let in, and the fault is `WriteHistory`.
 pub fn serve_door_gathered<
     T: Timer + Send,
     D: Door + Drop + Send,
     C: Clock + Sync,
+    B: Recorder + Drop,
     R: Threads + Wait + time::Clock + Sync,
 >(
     rt: &R,
@@ -73,17 +83,19 @@ pub fn serve_door_gathered<
     clock: &C,
     options: &ServerRunOptions,
     opening: Opening,
-) -> (D, Result<ServeReport<T>, BrokerFault>)
+    recorder: B,
+) -> (D, B, Result<ServeReport<T>, BrokerFault>)
     requires splits { D.may_split door options.now.workers }
     requires honest { Satisfies
         (terms_of D.Reader.Read D.Writer.Write D.Gate.Gate C.Clock clock.now options.now.policy (Delivery.Gathered HandsOn.BeforeReadsAndWaits)) D.demands }
-    ensures served { IfOk result.1 (λ report. (run : IsServersRun
+    ensures served { IfOk result.2 (λ report. (run : IsServersRun
         (terms_of D.Reader.Read D.Writer.Write D.Gate.Gate C.Clock clock.now options.now.policy (Delivery.Gathered HandsOn.BeforeReadsAndWaits))
         opening options.now report) × Gathers D.has_joined door (all_steps run.logs) result.0) }
-    ensures fault { IfErr result.1 EndsServing }
+    ensures recorder { MatchResult result.2 (λ _. B.has_begun recorder result.1)
+        (EndsRecorded B.has_begun B.has_failed recorder result.1) }
 {
     let delivery = Delivery::Gathered(HandsOn::BeforeReadsAndWaits);
-    serve_delivering(rt, alloc, door, clock, options, delivery, opening)
+    serve_delivering(rt, alloc, door, clock, options, delivery, opening, recorder)
 }
 
 // Serves the visits, whose replies are written when `delivery` says so.
@@ -91,6 +103,7 @@ fn serve_delivering<
     T: Timer + Send,
     D: Door + Drop + Send,
     C: Clock + Sync,
+    B: Recorder + Drop,
     R: Threads + Wait + time::Clock + Sync,
 >(
     rt: &R,
@@ -100,32 +113,36 @@ fn serve_delivering<
     options: &ServerRunOptions,
     delivery: Delivery,
     opening: Opening,
-) -> (D, Result<ServeReport<T>, BrokerFault>)
+    recorder: B,
+) -> (D, B, Result<ServeReport<T>, BrokerFault>)
     requires splits { D.may_split door options.now.workers }
     requires honest { Satisfies
         (terms_of D.Reader.Read D.Writer.Write D.Gate.Gate C.Clock clock.now options.now.policy delivery) D.demands }
-    ensures served { IfOk result.1 (λ report. (run : IsServersRun
+    ensures served { IfOk result.2 (λ report. (run : IsServersRun
         (terms_of D.Reader.Read D.Writer.Write D.Gate.Gate C.Clock clock.now options.now.policy delivery)
         opening options.now report) × Gathers D.has_joined door (all_steps run.logs) result.0) }
-    ensures fault { IfErr result.1 EndsServing }
+    ensures recorder { MatchResult result.2 (λ _. B.has_begun recorder result.1)
+        (EndsRecorded B.has_begun B.has_failed recorder result.1) }
 {
     let (shared, pass) = match opened::<T>(alloc, options, opening) {
         Ok(opened) => opened,
-        Err(fault) => return (door, Err(fault)),
+        Err(fault) => return (door, recorder, Err(fault)),
     };
     let bell = Bell::new();
+    let serves = OnceLock::new();
     let service = Service {
         alloc,
         shared: &shared,
         clock,
         bell: &bell,
+        serves: &serves,
         policy: &options.policy,
         delivery,
     };
-    let (door, served) = serve_all(rt, &service, door, pass, options.workers);
+    let (door, recorder, served) = serve_all(rt, &service, recorder, door, pass, options.workers);
     match served {
-        Ok((pass, visits)) => (door, report_of(rt, shared, pass, visits)),
-        Err(fault) => (door, Err(fault)),
+        Ok((pass, visits)) => (door, recorder, report_of(rt, shared, pass, visits)),
+        Err(fault) => (door, recorder, Err(fault)),
     }
 }
 

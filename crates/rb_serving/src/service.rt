@@ -4,6 +4,7 @@ use rb_retry::Policy;
 use rb_session::Delivery;
 use rb_timer::Timer;
 use std::alloc::Global;
+use std::sync::OnceLock;
 
 /// What all workers of a server have in common.
 #[derive(Drop)]
@@ -12,6 +13,8 @@ pub(crate) struct Service<'a, T: Timer, C: Clock> {
     pub(crate) shared: &'a Shared<T>,
     pub(crate) clock: &'a C,
     pub(crate) bell: &'a Bell,
+    // Whether the workers serve: known once all have been started, or one can't be.
+    pub(crate) serves: &'a OnceLock<bool>,
     pub(crate) policy: &'a Policy,
     pub(crate) delivery: Delivery,
 }

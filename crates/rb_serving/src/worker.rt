@@ -1,4 +1,4 @@
-ghost use Rattle.std.specs.Prelude.{◌≡◌, List, [], ◌∷◌, ◌++◌};
+ghost use Rattle.std.specs.Prelude.{◌≡◌, List, [], ◌∷◌, ◌++◌, true, false};
 ghost use Rattle.rb_serving.specs.DoorSteps.{DoorStep, Left};
 ghost use Rattle.rb_serving.specs.Serving.{IsWorked, IsWorkerResult};
 ghost use Rattle.rb_serving.specs.Terms.{service_terms};
@@ -15,8 +15,42 @@ use rb_protocol::LimitedReader;
 use rb_session::{Ended, SessionFault, run_limited};
 use rb_shared_desk::SharedDesk;
 use rb_timer::Timer;
-use std::sync::Wait;
+use std::sync::{OnceToken, Wait};
 use std::time;
+
+/// Waits until all workers have been started, and then serves like `work`; or leaves without having served,
+/// because one can't be started. The token shows which.
+pub(crate) fn work_with_all<'a, T: Timer, D: Door, C: Clock, R: Wait + time::Clock>(
+    rt: &R,
+    service: &Service<'a, T, C>,
+    door: D,
+    pass: Pass<T>,
+) -> (Pass<T>, VisitCounts, D, OnceToken<'a, bool>)
+    requires pass { pass.table ≡ service.now.shared.now }
+    requires unused { IsUnused pass }
+    requires unseen { D.has_seen door [] }
+    requires ready { D.is_ready door }
+    requires honest { Satisfies
+        (service_terms D.Reader.Read D.Writer.Write D.Gate.Gate C.Clock service.now) D.demands }
+    ensures pass { result.0.table ≡ service.now.shared.now }
+    ensures token { result.3.of ≡ service.now.serves.now.id }
+    ensures served { result.3.value ≡ true → (log : List (DoorStep D.Reader D.Writer D.Gate))
+        × D.has_seen result.2 log × IsWorkerResult
+        (service_terms D.Reader.Read D.Writer.Write D.Gate.Gate C.Clock service.now)
+        pass.capacity pass.opening log result.0 result.1 }
+    ensures left { result.3.value ≡ false → (result.0 ≡ pass) × D.has_seen result.2 [] }
+{
+    let serves = service.serves;
+    serves.wait(rt);
+    // Here it has been set, so that nobody sets it again.
+    let token = serves.init(rt, || false);
+    if *serves.value(&token) {
+        let (pass, counts, door) = work(rt, service, door, pass);
+        (pass, counts, door, token)
+    } else {
+        (pass, VisitCounts::default(), door, token)
+    }
+}
 
 /// Serves one visit after the other at this entrance, until the door has no more.
 ///

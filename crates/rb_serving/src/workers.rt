@@ -1,24 +1,26 @@
-ghost use Rattle.std.specs.Prelude.{◌≡◌, [], List, IfOk, IfErr};
+ghost use Rattle.std.specs.Prelude.{◌≡◌, [], List, true, false, IfOk, MatchResult};
 ghost use Rattle.rb_serving.specs.DoorSteps.{DoorStep};
-ghost use Rattle.rb_serving.specs.Serving.{GathersWorkers, IsWorkerResult};
+ghost use Rattle.rb_serving.specs.Serving.{EndsRecorded, GathersWorkers, IsWorkerResult};
 ghost use Rattle.rb_serving.specs.Terms.{service_terms};
 ghost use Rattle.rb_serving.specs.Visits.{IsUnused, Satisfies};
 
 use crate::door::Door;
+use crate::recorder::Recorder;
 use crate::service::Service;
 use crate::visit_counts::VisitCounts;
-use crate::worker::work;
+use crate::worker::work_with_all;
 use rb_blocking::Clock;
 use rb_ending::BrokerFault;
 use rb_lock::Pass;
 use rb_timer::Timer;
 use std::snapshot::Snapshot;
-use std::sync::Wait;
+use std::sync::{OnceLock, OnceToken, Wait};
 use std::thread::{Promise, Scope, Threads};
 use std::{thread, time};
 
 // What a worker's thread gives: its pass, which served visits of this service at an entrance and nothing else, their
-// counts, and the entrance, at which nothing else happened.
+// counts, and the entrance, at which nothing else happened. If the workers don't serve, as the token shows, then
+// the pass as it was given and an entrance at which nothing happened.
 #[derive(Drop)]
 struct OfWorker<'a, T: Timer, C: Clock> {
     service: &'a Service<'a, T, C>,
@@ -26,52 +28,68 @@ struct OfWorker<'a, T: Timer, C: Clock> {
     start: Snapshot<Pass<T>>,
 }
 
-impl<'a, T: Timer, D: Door, C: Clock> Promise<(Pass<T>, VisitCounts, D)> for OfWorker<'a, T, C> {
+impl<'a, T: Timer, D: Door, C: Clock> Promise<(Pass<T>, VisitCounts, D, OnceToken<'a, bool>)>
+    for OfWorker<'a, T, C> {
     ghost kept_by = { λ promise worked. (worked.0.table ≡ promise.service.now.shared.now)
-        × ((log : List (DoorStep D.Reader D.Writer D.Gate)) × D.has_seen worked.2 log × IsWorkerResult
-        (service_terms D.Reader.Read D.Writer.Write D.Gate.Gate C.Clock promise.service.now)
-        promise.start.value.capacity promise.start.value.opening log worked.0 worked.1) };
+        × (worked.3.of ≡ promise.service.now.serves.now.id)
+        × (worked.3.value ≡ true → (log : List (DoorStep D.Reader D.Writer D.Gate)) × D.has_seen worked.2 log
+        × IsWorkerResult (service_terms D.Reader.Read D.Writer.Write D.Gate.Gate C.Clock promise.service.now)
+        promise.start.value.capacity promise.start.value.opening log worked.0 worked.1)
+        × (worked.3.value ≡ false → (worked.0 ≡ promise.start.value) × D.has_seen worked.2 []) };
 }
 
 /// Runs this many workers at once, and folds the pass of each into this one.
 ///
-/// Each has a pass and an entrance of its own, split off these. If one can't be started, it waits for those that
-/// were started.
+/// Each has a pass and an entrance of its own, split off these. Once all have been started, the recorder begins, and
+/// then they serve. If one can't be started, or the recorder can't begin, those that were started leave without having
+/// served, and it waits for them.
 pub(crate) fn serve_all<
     T: Timer + Send,
     D: Door + Drop + Send,
     C: Clock + Sync,
+    B: Recorder + Drop,
     R: Threads + Wait + time::Clock + Sync,
 >(
     rt: &R,
     service: &Service<'_, T, C>,
+    recorder: B,
     door: D,
     pass: Pass<T>,
     count: u64,
-) -> (D, Result<(Pass<T>, VisitCounts), BrokerFault>)
+) -> (D, B, Result<(Pass<T>, VisitCounts), BrokerFault>)
     requires pass { pass.table ≡ service.now.shared.now }
     requires splits { D.may_split door count }
     requires honest { Satisfies
         (service_terms D.Reader.Read D.Writer.Write D.Gate.Gate C.Clock service.now) D.demands }
-    ensures folds { IfOk result.1 (λ served. GathersWorkers
+    ensures folds { IfOk result.2 (λ served. GathersWorkers
         (service_terms D.Reader.Read D.Writer.Write D.Gate.Gate C.Clock service.now)
         D.has_joined count door pass result.0 served.0 served.1) }
-    ensures fault { IfErr result.1 (λ fault. fault ≡ BrokerFault.Worker) }
+    ensures recorder { MatchResult result.2 (λ _. B.has_begun recorder result.1)
+        (EndsRecorded B.has_begun B.has_failed recorder result.1) }
 {
     thread::scope(
         thread::scope_env(),
         rt,
-        move |scope| -> (D, Result<(Pass<T>, VisitCounts), BrokerFault>)
+        move |scope| -> (D, B, Result<(Pass<T>, VisitCounts), BrokerFault>)
             requires { (pass.table ≡ service.now.shared.now) × D.may_split door count × Satisfies
                 (service_terms D.Reader.Read D.Writer.Write D.Gate.Gate C.Clock service.now) D.demands }
-            ensures { IfOk result.1 (λ served. GathersWorkers
+            ensures { IfOk result.2 (λ served. GathersWorkers
                 (service_terms D.Reader.Read D.Writer.Write D.Gate.Gate C.Clock service.entry.now)
-                D.has_joined count door pass result.0 served.0 served.1) × IfErr result.1 (λ fault. fault ≡ BrokerFault.Worker) }
-        { start_all(rt, scope, service, door, pass, count) },
+                D.has_joined count door pass result.0 served.0 served.1)
+                × MatchResult result.2 (λ _. B.has_begun recorder result.1)
+                (EndsRecorded B.has_begun B.has_failed recorder result.1) }
+        {
+            let mut begun = recorder;
+            let (door, served) = start_all(rt, scope, service, &mut begun, door, pass, count);
+            match served {
+                Ok((pass, counts, _)) => (door, begun, Ok((pass, counts))),
+                Err(fault) => (door, begun, Err(fault)),
+            }
+        },
     )
 }
 
-// Starts this many workers, one after the other, waits for each, and folds its pass into this one.
+// Starts this many workers, one after the other, lets them serve, waits for each, and folds its pass into this one.
 #[tactic(auto, using(crate::proofs::FoldedWorkers::folds_none, crate::proofs::FoldedWorkers::folds_one_more))]
 fn start_all<
     's,
@@ -79,15 +97,20 @@ fn start_all<
     T: Timer + Send + 's,
     D: Door + Drop + Send + 's,
     C: Clock + Sync + 's,
+    B: Recorder,
     R: Threads + Wait + time::Clock + Sync + 's,
 >(
     rt: &'s R,
     scope: &'s Scope<'s, E>,
     service: &'s Service<'s, T, C>,
+    recorder: &mut B,
     mut door: D,
     mut pass: Pass<T>,
     count: u64,
-) -> (D, Result<(Pass<T>, VisitCounts), BrokerFault>)
+) -> (
+    D,
+    Result<(Pass<T>, VisitCounts, OnceToken<'s, bool>), BrokerFault>,
+)
     requires pass { pass.table ≡ service.now.shared.now }
     requires splits { D.may_split door count }
     requires honest { Satisfies
@@ -95,12 +118,20 @@ fn start_all<
     ensures folds { IfOk result.1 (λ served. GathersWorkers
         (service_terms D.Reader.Read D.Writer.Write D.Gate.Gate C.Clock service.now)
         D.has_joined count door pass result.0 served.0 served.1) }
-    ensures fault { IfErr result.1 (λ fault. fault ≡ BrokerFault.Worker) }
+    ensures token { IfOk result.1 (λ served. served.2.of ≡ service.now.serves.now.id) }
+    ensures serve { IfOk result.1 (λ served. served.2.value ≡ true) }
+    ensures recorder { MatchResult result.1 (λ _. B.has_begun recorder.old recorder.new)
+        (EndsRecorded B.has_begun B.has_failed recorder.old recorder.new) }
 {
     if count == 0 {
-        return (door, Ok((pass, VisitCounts::default())));
+        let token = match let_serve(rt, service.serves, recorder) {
+            Ok(token) => token,
+            Err(fault) => return (door, Err(fault)),
+        };
+        return (door, Ok((pass, VisitCounts::default(), token)));
     }
     let Ok(child) = service.shared.split(rt, &mut pass) else {
+        let _ = service.serves.set(rt, false);
         return (door, Err(BrokerFault::Worker));
     };
     let entrance = door.split();
@@ -108,25 +139,51 @@ fn start_all<
     let promise = OfWorker { service, start };
     let Ok(started) = scope.spawn_with(
         promise,
-        move || -> (Pass<T>, VisitCounts, D)
+        move || -> (Pass<T>, VisitCounts, D, OnceToken<'_, bool>)
             requires { (child.table ≡ service.now.shared.now) × IsUnused child × D.has_seen entrance []
                 × D.is_ready entrance × Satisfies
                 (service_terms D.Reader.Read D.Writer.Write D.Gate.Gate C.Clock service.now) D.demands }
             ensures { (result.0.table ≡ service.entry.now.shared.now)
-                × ((log : List (DoorStep D.Reader D.Writer D.Gate)) × D.has_seen result.2 log × IsWorkerResult
+                × (result.3.of ≡ service.entry.now.serves.now.id)
+                × (result.3.value ≡ true → (log : List (DoorStep D.Reader D.Writer D.Gate)) × D.has_seen result.2 log
+                × IsWorkerResult
                 (service_terms D.Reader.Read D.Writer.Write D.Gate.Gate C.Clock service.entry.now)
-                child.capacity child.opening log result.0 result.1) }
-        { work(rt, service, entrance, child) },
+                child.capacity child.opening log result.0 result.1)
+                × (result.3.value ≡ false → (result.0 ≡ child) × D.has_seen result.2 []) }
+        { work_with_all(rt, service, entrance, child) },
     ) else {
+        let _ = service.serves.set(rt, false);
         return (door, Err(BrokerFault::Worker));
     };
-    let (mut door, others) = start_all(rt, scope, service, door, pass, count - 1);
-    let (done, counts, entrance) = started.join(rt);
-    let (mut pass, more) = match others {
+    let (mut door, others) = start_all(rt, scope, service, recorder, door, pass, count - 1);
+    let (done, counts, entrance, own) = started.join(rt);
+    let (mut pass, more, token) = match others {
         Ok(folded) => folded,
         Err(fault) => return (door, Err(fault)),
     };
+    token.agrees(&own);
     door.join(entrance);
     service.shared.fold(&mut pass, done);
-    (door, Ok((pass, more.with(counts))))
+    (door, Ok((pass, more.with(counts), token)))
+}
+
+// Lets the recorder begin, and then the workers serve. If it can't begin, they leave.
+fn let_serve<'a, B: Recorder, R: Wait>(
+    rt: &R,
+    serves: &'a OnceLock<bool>,
+    recorder: &mut B,
+) -> Result<OnceToken<'a, bool>, BrokerFault>
+    ensures token { IfOk result (λ token. token.of ≡ serves.now.id) }
+    ensures serve { IfOk result (λ token. token.value ≡ true) }
+    ensures recorder { MatchResult result (λ _. B.has_begun recorder.old recorder.new)
+        (EndsRecorded B.has_begun B.has_failed recorder.old recorder.new) }
+{
+    match recorder.begin() {
+        // Nobody else sets it, so the fault does not happen.
+        Ok(()) => serves.set(rt, true).map_err(|_| BrokerFault::NotGathered),
+        Err(_) => {
+            let _ = serves.set(rt, false);
+            Err(BrokerFault::WriteHistory)
+        }
+    }
 }

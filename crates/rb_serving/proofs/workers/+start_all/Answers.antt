@@ -20,13 +20,14 @@ returns-clause-folds g t c =
     let of = terms c.args.service.now in
     let some : 0 < c.args.count = grind (arith, nat_tests, c.if-count-eq0.false) in
     let done = c.join-done.result in
-    let kept = c.join-done.ensures.1 in
+    let rest = c.in-Ok-others.folded in
+    let others = of_ok _ c.in-Ok-others.folded _ c.in-Ok-others.is c.start_all-door.ensures.folds in
+    let serve = of_ok _ c.in-Ok-others.folded _ c.in-Ok-others.is c.start_all-door.ensures.serve in
+    let kept = c.join-done.ensures.2 (sym c.agrees.ensures ∙ serve) in
     let as_promised = subst (λ promise. IsWorkerResult (terms promise.service.now) promise.start.value.capacity
     promise.start.value.opening kept.0 done.0 done.1) c.in-Ok-spawn_with.ensures.ok kept.2 in
     let worked = subst (λ (start : PassState). IsWorkerResult of start.capacity start.opening kept.0 done.0 done.1)
-    (c.of-start.ensures ∙ c.in-Ok.ensures.child) as_promised in
-    let others = of_ok _ c.in-Ok-others.folded _ c.in-Ok-others.is c.start_all-door.ensures.folds in
-    let rest = c.in-Ok-others.folded in
+    (c.of-start.ensures ∙ c.in-Ok-split.ensures.child) as_promised in
     record {
       logs = others.logs ++ kept.0 ∷ [];
       gathers = gathers_more of g.D.Door.has_joined g.D.Door.has_seen c.args.door c.split-entrance.new.self
@@ -35,7 +36,7 @@ returns-clause-folds g t c =
       folds = subst (FoldsWorkers of c.args.count (others.logs ++ kept.0 ∷ []) c.args.pass c.fold.new.pass)
           (sym c.with.ensures)
           (folds_one_more of c.args.count others.logs kept.0 c.args.pass c.split.new.pass rest.0 done.0 c.fold.new.pass
-          done.1 rest.1 some c.in-Ok.ensures.learns c.in-Ok.ensures.mine others.folds worked c.fold.ensures);
+          done.1 rest.1 some c.in-Ok-split.ensures.learns c.in-Ok-split.ensures.mine others.folds worked c.fold.ensures);
     }
 
 pub split-entrance-requires : goal.split-entrance-requires

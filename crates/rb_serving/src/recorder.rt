@@ -1,0 +1,33 @@
+ghost use Rattle.std.specs.Prelude.{OnErr, OnOk};
+
+use rb_protocol::WriteFault;
+
+/// What records a server's run. It begins when the server has all that it needs and has let nobody in.
+///
+/// `has_begun` tells how a recorder began, and `has_failed` that it could not. Code over any recorder learns them in
+/// no other way than by letting it begin. So one that is as it was before has not begun.
+pub trait Recorder {
+    ghost has_begun: { Self → Self → Type 0 };
+
+    ghost has_failed: { Self → Self → Type 0 };
+
+    /// Begins, such as by emptying the file that the history goes to. `Err` means that it could not, and the server
+    /// then serves nobody.
+    fn begin(&mut self) -> Result<(), WriteFault>
+        ensures begun { OnOk result (has_begun self.old self.new) }
+        ensures failed { OnErr result (has_failed self.old self.new) };
+}
+
+/// For a run that is recorded nowhere.
+#[derive(Clone, Copy, Debug)]
+pub struct NoRecorder;
+
+impl Recorder for NoRecorder {
+    ghost has_begun = { λ old new. Unit {0} };
+
+    ghost has_failed = { λ old new. ⊥ };
+
+    fn begin(&mut self) -> Result<(), WriteFault> {
+        Ok(())
+    }
+}
