@@ -1,15 +1,16 @@
-use crate::files::{check_output, device_for, make_room_for, text_of};
+use crate::files::{check_output, text_of};
+use crate::history_file::HistoryFile;
 use rb_ending::BrokerFault;
+use rb_history::HistoryRoom;
 use rb_options::{ReplayOptions, ScriptOptions, ServeOptions, ServerRunOptions};
 use rb_protocol::LimitedReader;
 use rb_queue::Opening;
-use rb_runs::{opening_in, over_timer, run_replay, run_script_delivered};
+use rb_runs::{ReadyScript, opening_in, over_timer, run_replay};
 use rb_serving::{
-    ServeClock, ServeReport, TcpDoor, end_server, print_listening, serve_door_gathered,
+    Recorder, ServeClock, ServeReport, TcpDoor, end_server, print_listening, serve_door_gathered,
 };
 use rb_session::{Delivery, Ended, HandsOn};
 use rb_timer::Timer;
-use std::fs::File;
 use std::io::Write;
 use std::net::{Ipv4Addr, SocketAddr, SocketAddrV4, TcpListener};
 use std::sync::Wait;
@@ -18,8 +19,9 @@ use std::time;
 
 /// Runs a script from standard input to standard output, which gets the replies before each read and at the end.
 ///
-/// It reads the file `from` before anything else, and creates the file `history` before the
-/// session, so both may be the same. If standard output is closed, it does not create the file.
+/// It reads the file `from` before anything else, and opens the file `history` before the session, so both may be the
+/// same. It empties that file once the session has all the memory that it needs. If standard output is closed, it does
+/// not create the file.
 pub fn script(
     rt: &HostRuntime,
     options: &ScriptOptions,
@@ -28,18 +30,28 @@ pub fn script(
 ) -> Result<Ended, BrokerFault> {
     let opening = opening_behind(rt, from)?;
     check_output(rt, history)?;
-    let mut device = device_for(rt, history)?;
-    let mut input = rt.stdin();
-    run_script_delivered(
-        rt.alloc(),
-        options,
-        Delivery::Gathered(HandsOn::BeforeReads),
-        opening,
-        &mut LimitedReader::new(&mut input),
-        &mut rt.stdout(),
-        device.as_mut(),
+    let history = HistoryFile::create(rt, history)?;
+    over_timer!(
+        options.timer,
+        script_over::<_>(rt, options, opening, history)
     )
-    .result()
+}
+
+// Runs a script over this timer.
+fn script_over<T: Timer>(
+    rt: &HostRuntime,
+    options: &ScriptOptions,
+    opening: Opening,
+    mut history: HistoryFile,
+) -> Result<Ended, BrokerFault> {
+    let delivery = Delivery::Gathered(HandsOn::BeforeReads);
+    let ready = ReadyScript::<T>::new(rt.alloc(), options, delivery, opening)?;
+    history.begin().map_err(|_| BrokerFault::WriteHistory)?;
+    let mut input = rt.stdin();
+    let mut reader = LimitedReader::new(&mut input);
+    ready
+        .run(&mut reader, &mut rt.stdout(), history.device())
+        .result()
 }
 
 /// Checks the history in a file, prints the line about it, and returns the exit status.
@@ -54,10 +66,9 @@ pub fn replay(rt: &HostRuntime, options: &ReplayOptions, file: &str) -> Result<u
 
 /// Serves clients at a port of 127.0.0.1, writes the history of the run, and prints its counts.
 ///
-/// It reads the file `from` before anything else. It creates the file `history` before it binds the
-/// port, and empties it once it has printed the line that names the port: so both may be the same, and
-/// a port in use costs no history, and neither does an output that is full or closed. If the run ends
-/// without a history, the file stays empty.
+/// It reads the file `from` before anything else. It opens the file `history` before it binds the port, and empties it
+/// once all workers have been started, before it lets anybody in: so both may be the same, and neither a port in use,
+/// an output that is full or closed, want of memory nor a worker that can't be started costs an earlier history.
 ///
 /// `handle` starts the workers, and they wait by it.
 pub fn serve<R: Threads + Wait + time::Clock + Sync>(
@@ -69,18 +80,17 @@ pub fn serve<R: Threads + Wait + time::Clock + Sync>(
 ) -> Result<(), BrokerFault> {
     let opening = opening_behind(rt, from)?;
     check_output(rt, history)?;
-    make_room_for(rt, history)?;
+    let history = HistoryFile::create(rt, history)?;
     let address = SocketAddr::V4(SocketAddrV4::new(Ipv4Addr::LOCALHOST, options.port));
     let Ok(listener) = TcpListener::bind(rt, address) else {
         return Err(BrokerFault::Listen);
     };
     print_listening(rt.alloc(), &mut rt.stdout(), options.port)?;
-    let mut device = device_for(rt, history)?;
     let door = TcpDoor::new(listener, options.sessions, options.turns);
     let run = &options.run;
     over_timer!(
         options.timer,
-        serve_over::<_, R>(rt, handle, &door, run, opening, &mut device)
+        serve_over::<_, R>(rt, handle, &door, run, opening, history)
     )
 }
 
@@ -91,14 +101,22 @@ fn serve_over<T: Timer + Send, R: Threads + Wait + time::Clock + Sync>(
     door: &TcpDoor,
     run: &ServerRunOptions,
     opening: Opening,
-    history: &mut Option<File>,
+    history: HistoryFile,
 ) -> Result<(), BrokerFault> {
     let alloc = rt.alloc();
+    let text = HistoryRoom::new(alloc)?;
     let clock = ServeClock::new(handle, opening.last_at);
-    let entrance = door.entrance();
-    let (_, served) = serve_door_gathered(handle, alloc, entrance, &clock, run, opening);
+    let (_, mut history, served) = serve_door_gathered(
+        handle,
+        alloc,
+        door.entrance(),
+        &clock,
+        run,
+        opening,
+        history,
+    );
     let report: ServeReport<T> = served?;
-    end_server(alloc, &report, &mut rt.stdout(), history.as_mut()).result()
+    end_server(alloc, text, &report, &mut rt.stdout(), history.device()).result()
 }
 
 // The opening of a run: the one that the history in a file leads to, or if none is named the empty one.

@@ -9,6 +9,7 @@
 
 mod commands;
 mod files;
+mod history_file;
 
 ghost use Rattle.std.specs.Process.{exit_status};
 ghost use Rattle.clap.specs.Words.{kind_of};
