@@ -1,5 +1,5 @@
 """The built program: as a command, with options, scripts, refused words, and files and devices that fail; and as a
-server of a few clients.
+server of a few clients. Each of its calls for memory or a thread is refused once.
 
 The gate runs it only once, as the stored run of crates/rb_broker. This tests what no contract says about main.rt, and
 what a server passes on to its workers. What is compared in texts alone is in runs.txt; the rest are functions, each of
@@ -9,7 +9,7 @@ to be short is made again until one is.
 import tempfile
 from pathlib import Path
 
-from checking.program import servers
+from checking.program import refusals, servers
 from checking.program.cases import Place, read_cases
 from checking.tally import Tally
 from common.program import tested_program
@@ -20,7 +20,7 @@ def check(tally: Tally) -> None:
     with tempfile.TemporaryDirectory(prefix="rb-program-") as room:
         place = Place(tested_program(), Path(room))
         cases = [(it.part, it.name, it.compared) for it in read_cases(place.room)]
-        for part, name, compared in [*cases, *(("", it.__name__, it) for it in servers.CHECKS)]:
+        for part, name, compared in [*cases, *(("", it.__name__, it) for it in (*servers.CHECKS, *refusals.CHECKS))]:
             if not (tally.wants(part) or tally.wants(name)):
                 continue
             try:

@@ -7,7 +7,7 @@ import sys
 from checking.testing import PATIENCE, RoomTest
 from common.program import TOP, tested_program
 
-COUNT = 112  # what is compared
+COUNT = 115  # what is compared
 
 # Becomes the program, which gets other words for some.
 STAND_IN = """#!/bin/sh
