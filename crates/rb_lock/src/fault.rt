@@ -20,12 +20,8 @@ pub enum SplitFault {
 /// Why a shared queue was not closed.
 #[derive(Clone, Copy, Debug, PartialEq, Eq, Error)]
 pub enum CloseFault {
-    /// The pass and those folded into it have made fewer calls than the books count.
+    /// The pass and those folded into it have made fewer calls than the books count: their totals, and
+    /// those of the whole history.
     #[error("a pass with calls is not folded in")]
-    NotAll {
-        /// The totals of the pass and those folded into it.
-        counted: Totals,
-        /// The totals of the whole history.
-        booked: Totals,
-    },
+    NotAll(Totals, Totals),
 }

@@ -219,7 +219,7 @@ impl<T: Timer> Shared<T> {
         put_back(table, &mut seat, pair);
         give(table, &mut seat);
         let pass = Pass { seat, name, tally };
-        Err((self, pass, CloseFault::NotAll { counted, booked }))
+        Err((self, pass, CloseFault::NotAll(counted, booked)))
     }
 }
 

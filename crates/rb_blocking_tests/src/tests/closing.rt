@@ -35,10 +35,7 @@ fn call_and_meet<R: Wait + Abort>(
 }
 
 fn expect_refused(rt: &impl Abort, fault: CloseFault) {
-    let refused = CloseFault::NotAll {
-        counted: totals(1, 1, 0),
-        booked: totals(2, 1, 1),
-    };
+    let refused = CloseFault::NotAll(totals(1, 1, 0), totals(2, 1, 1));
     assert_eq!(rt; fault, refused);
 }
 

@@ -363,7 +363,7 @@ fn closed<R: Wait + Abort>(rt: &R, shared: ListShared, mut pass: ListPass, round
         return 0;
     };
     let answered = shared.call(rt, &mut other, 0, Ask::Size).is_ok();
-    let Err((shared, mut pass, CloseFault::NotAll { .. })) = shared.close(rt, pass) else {
+    let Err((shared, mut pass, CloseFault::NotAll(..))) = shared.close(rt, pass) else {
         return 0;
     };
     shared.fold(&mut pass, other);

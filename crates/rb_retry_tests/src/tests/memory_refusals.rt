@@ -547,7 +547,7 @@ fn works_at_shared<R: Wait + time::Clock + Abort>(rt: &R, alloc: Global) -> Resu
     let met = offers_jobs(rt, alloc, &mut caller);
     let report = worked_off_shared(rt, &mut caller)?;
     let (counted, booked) = (totals_of(report, 0), totals_of(report, report.runs));
-    let fault = CloseFault::NotAll { counted, booked };
+    let fault = CloseFault::NotAll(counted, booked);
     expect_same(rt, closed(caller).err(), Some(fault));
     expect_holds(rt, report.lost <= 1);
     Ok(met.saturating_add(u32::from(report.lost == 1)))
