@@ -1,18 +1,15 @@
 // When the replies to batches of requests are handed on, over visits that lie in memory.
 
 use crate::tests::devices::{
-    Counts, Plan, Received, Sends, at_once, counts_of, expect_audit, expect_counts, expect_number,
-    expect_text, expect_writes, hundred_calls, planned, served_at_once,
+    GATHERED, Received, Sends, at_once, expect_audit, expect_counts, expect_number, expect_text,
+    expect_writes, planned,
 };
 use crate::tests::visits::{all_given, served};
+use rb_session::Delivery;
 use std::alloc::Global;
 use std::io::Write;
-use std::process::Abort;
-use std::sync::Wait;
 use std::sync::atomic::AtomicU64;
 use std::test::Fail;
-use std::thread::Threads;
-use std::time;
 
 // The second take waits for an offer. Another visitor makes the offer once it sees the replies to
 // the lines before that take.
@@ -28,7 +25,7 @@ fn no_reply_waits_for_a_take(rt: HostRuntime) {
         planned(takes, &first, &turns),
         planned(Some(offers), &second, &others),
     ];
-    let counts = served(&rt, alloc, &plans, 2);
+    let counts = served(&rt, alloc, GATHERED, &plans, 2);
     expect_text(&rt, &second, b"OFFERED 1 7\nBYE\n");
     let all = b"OFFERED 0 7\nITEM 0 7 1 a\nITEM 1 7 1 b\nDONE 0\nDONE 1\nBYE\n";
     expect_text(&rt, &first, all);
@@ -50,7 +47,7 @@ fn no_reply_waits_for_a_timed_poll(rt: HostRuntime) {
         planned(polls, &first, &turns),
         planned(Some(offers), &second, &others),
     ];
-    let counts = served(&rt, alloc, &plans, 2);
+    let counts = served(&rt, alloc, GATHERED, &plans, 2);
     expect_text(&rt, &second, b"OFFERED 0 7\nBYE\n");
     expect_text(&rt, &first, b"SIZE 0\nITEM 0 7 1 a\nDONE 0\nBYE\n");
     expect_counts(&rt, counts, 2, 0, 0);
@@ -73,22 +70,12 @@ fn a_batch_of_offers_is_one_write(rt: HostRuntime) -> Result<(), Fail> {
     let turns = AtomicU64::new(0);
     let received = Received::none(alloc);
     let plans = [planned(at_once(&lines), &received, &turns)];
-    let counts = served(&rt, alloc, &plans, 1);
+    let counts = served(&rt, alloc, GATHERED, &plans, 1);
     expect_text(&rt, &received, &replies);
     expect_writes(&rt, &received, 1);
     expect_counts(&rt, counts, 1, 0, 0);
     expect_number(&rt, counts.audit.offered, 32);
     Ok(())
-}
-
-// Serves `plans` by one worker that writes each reply at once. Returns what was counted.
-fn replied<R: Threads + Wait + time::Clock + Abort + Sync>(
-    rt: &R,
-    alloc: Global,
-    plans: &[Plan<'_>],
-) -> Counts {
-    let served = served_at_once(rt, alloc, plans, &hundred_calls(rt, 1));
-    counts_of(&served.ok().expect(rt, "a report"))
 }
 
 #[test]
@@ -98,7 +85,7 @@ fn replies_that_are_not_gathered_are_a_write_each(rt: HostRuntime) -> Result<(),
     let turns = AtomicU64::new(0);
     let received = Received::none(alloc);
     let plans = [planned(at_once(&lines), &received, &turns)];
-    let counts = replied(&rt, alloc, &plans);
+    let counts = served(&rt, alloc, Delivery::AtOnce, &plans, 1);
     expect_text(&rt, &received, &replies);
     expect_writes(&rt, &received, 32);
     expect_counts(&rt, counts, 1, 0, 0);

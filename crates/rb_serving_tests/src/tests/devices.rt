@@ -9,7 +9,10 @@ use rb_protocol::LimitedReader;
 use rb_queue::{Audit, Opening};
 use rb_replay::check;
 use rb_retry::Policy;
-use rb_serving::{Door, DoorFault, ServeReport, Visit, serve_door, serve_door_gathered};
+use rb_serving::{
+    Door, DoorFault, NoRecorder, Recorder, ServeReport, Visit, serve_door, serve_door_gathered,
+};
+use rb_session::{Delivery, HandsOn};
 use rb_timer::ListTimer;
 use std::alloc::Global;
 use std::io::{Read, Write};
@@ -256,45 +259,57 @@ pub fn hundred_calls(rt: &impl Abort, workers: u64) -> ServerRunOptions
     }
 }
 
-/// Serves `plans` over the plain timer with `options`, and gathers the replies.
+/// A server that gathers its replies.
+pub const GATHERED: Delivery = Delivery::Gathered(HandsOn::BeforeReadsAndWaits);
+
+/// The deliveries of the two calls that serve a door.
+pub const DELIVERIES: [Delivery; 2] = [Delivery::AtOnce, GATHERED];
+
+/// Serves `plans` over the plain timer with `options`, by `serve_door` or `serve_door_gathered`.
 pub fn served_so<R: Threads + Wait + time::Clock + Sync>(
     rt: &R,
     alloc: Global,
+    delivery: Delivery,
     plans: &[Plan<'_>],
     options: &ServerRunOptions,
 ) -> Result<ServeReport<ListTimer>, BrokerFault> {
-    let taken = AtomicU64::new(0);
-    let door = PlannedDoor {
-        rt,
-        plans,
-        taken: &taken,
-    };
-    let (_, served) = serve_door_gathered(
+    let taken = &AtomicU64::new(0);
+    match delivery {
+        Delivery::AtOnce => {
+            let door = PlannedDoor { rt, plans, taken };
+            let opening = Opening::empty(alloc);
+            let (_, served) = serve_door(rt, alloc, door, &SevenClock, options, opening);
+            served
+        }
+        Delivery::Gathered(_) => {
+            let (_, served) = recorded(rt, alloc, taken, plans, options, NoRecorder);
+            served
+        }
+    }
+}
+
+/// Serves `plans` over the plain timer by `serve_door_gathered`, with this recorder. `taken` counts the
+/// plans that were asked for.
+pub fn recorded<R: Threads + Wait + time::Clock + Sync, B: Recorder + Drop>(
+    rt: &R,
+    alloc: Global,
+    taken: &AtomicU64,
+    plans: &[Plan<'_>],
+    options: &ServerRunOptions,
+    recorder: B,
+) -> (B, Result<ServeReport<ListTimer>, BrokerFault>) {
+    let door = PlannedDoor { rt, plans, taken };
+    let opening = Opening::empty(alloc);
+    let (_, recorder, served) = serve_door_gathered(
         rt,
         alloc,
         door,
         &SevenClock,
         options,
-        Opening::empty(alloc),
+        opening,
+        recorder,
     );
-    served
-}
-
-/// Serves `plans` like `served_so`, but writes each reply at once.
-pub fn served_at_once<R: Threads + Wait + time::Clock + Sync>(
-    rt: &R,
-    alloc: Global,
-    plans: &[Plan<'_>],
-    options: &ServerRunOptions,
-) -> Result<ServeReport<ListTimer>, BrokerFault> {
-    let taken = AtomicU64::new(0);
-    let door = PlannedDoor {
-        rt,
-        plans,
-        taken: &taken,
-    };
-    let (_, served) = serve_door(rt, alloc, door, &SevenClock, options, Opening::empty(alloc));
-    served
+    (recorder, served)
 }
 
 /// What a server counted, and the audit of its history.
@@ -310,10 +325,11 @@ pub struct Counts {
 pub fn counted<R: Threads + Wait + time::Clock + Abort + Sync>(
     rt: &R,
     alloc: Global,
+    delivery: Delivery,
     plans: &[Plan<'_>],
     options: &ServerRunOptions,
 ) -> Counts {
-    let report = served_so(rt, alloc, plans, options)
+    let report = served_so(rt, alloc, delivery, plans, options)
         .ok()
         .expect(rt, "a report");
     expect_legal(rt, alloc, &report);

@@ -3,11 +3,12 @@
 ghost use Rattle.std.specs.Prelude.{◌≤◌};
 
 use crate::tests::devices::{
-    Counts, Received, at_once, counts_of, expect, expect_bytes, expect_counts, expect_number,
-    hundred_calls, planned, served_so,
+    Counts, DELIVERIES, Received, at_once, counts_of, expect, expect_bytes, expect_counts,
+    expect_number, hundred_calls, planned, served_so,
 };
 use rb_ending::BrokerFault;
 use rb_serving::{ServeReport, end_server};
+use rb_session::Delivery;
 use rb_timer::ListTimer;
 use std::alloc::{AllocError, Global};
 use std::process::Abort;
@@ -110,16 +111,18 @@ const AT_ONCE: Crowd = Crowd {
 fn served_lines<R: Threads + Wait + time::Clock + Abort + Sync>(
     rt: &R,
     alloc: Global,
+    delivery: Delivery,
     crowd: Crowd,
 ) -> Result<Served, Fail> {
     let first = page(alloc)?;
     let second = page(alloc)?;
-    Ok(served_into(rt, alloc, crowd, first, second))
+    Ok(served_into(rt, alloc, delivery, crowd, first, second))
 }
 
 fn served_into<R: Threads + Wait + time::Clock + Abort + Sync>(
     rt: &R,
     alloc: Global,
+    delivery: Delivery,
     crowd: Crowd,
     first: Vec<u8>,
     second: Vec<u8>,
@@ -132,7 +135,7 @@ fn served_into<R: Threads + Wait + time::Clock + Abort + Sync>(
     ];
     let visitors = if crowd.visitors == 1 { 1 } else { 2 };
     let options = hundred_calls(rt, crowd.workers);
-    let outcome = served_so(rt, alloc, &plans[..visitors], &options);
+    let outcome = served_so(rt, alloc, delivery, &plans[..visitors], &options);
     let mut sent = NOBODY;
     sent.note(first.lock(rt).text.as_slice());
     if visitors == 2 {
@@ -193,13 +196,14 @@ fn whole_report(rt: &impl Abort, served: Served, visitors: u64) -> Option<ServeR
 fn report_at_last<R: Threads + Wait + time::Clock + Abort + Sync>(
     rt: &R,
     alloc: Global,
+    delivery: Delivery,
     crowd: Crowd,
 ) -> Result<(ServeReport<ListTimer>, u32), Fail> {
     let visitors = crowd.visitors;
-    if let Some(report) = whole_report(rt, served_lines(rt, alloc, crowd)?, visitors) {
+    if let Some(report) = whole_report(rt, served_lines(rt, alloc, delivery, crowd)?, visitors) {
         return Ok((report, 0));
     }
-    match whole_report(rt, served_lines(rt, alloc, crowd)?, visitors) {
+    match whole_report(rt, served_lines(rt, alloc, delivery, crowd)?, visitors) {
         Some(report) => Ok((report, 1)),
         None => Err(Fail::from("it was refused twice")),
     }
@@ -272,13 +276,21 @@ fn refused_ends(
     Ok(1)
 }
 
-// Returns the number of refusals that a server with one worker, and its end, meet.
-fn refused_server<R: Threads + Wait + time::Clock + Abort + Sync>(
+// Returns the number of refusals that servers of each crowd meet, and the end of one of them.
+fn refused_servers<R: Threads + Wait + time::Clock + Abort + Sync>(
     rt: &R,
     alloc: Global,
+    delivery: Delivery,
 ) -> Result<u32, Fail> {
-    let (report, met) = report_at_last(rt, alloc, ALONE)?;
-    Ok(met.saturating_add(refused_ends(rt, alloc, &report)?))
+    let (report, one) = report_at_last(rt, alloc, delivery, ALONE)?;
+    let ends = refused_ends(rt, alloc, &report)?;
+    let (_, in_turn) = report_at_last(rt, alloc, delivery, IN_TURN)?;
+    let (_, at_once) = report_at_last(rt, alloc, delivery, AT_ONCE)?;
+    Ok(
+        one.saturating_add(ends)
+            .saturating_add(in_turn)
+            .saturating_add(at_once),
+    )
 }
 
 fn expect_refusals(rt: &impl Abort, refusals: u32) {
@@ -287,9 +299,10 @@ fn expect_refusals(rt: &impl Abort, refusals: u32) {
 
 #[test]
 fn a_refused_allocation_is_answered(rt: HostRuntime) -> Result<(), Fail> {
-    let one = refused_server(&rt, rt.alloc())?;
-    let (_, in_turn) = report_at_last(&rt, rt.alloc(), IN_TURN)?;
-    let (_, at_once) = report_at_last(&rt, rt.alloc(), AT_ONCE)?;
-    expect_refusals(&rt, one.saturating_add(in_turn).saturating_add(at_once));
+    let mut refusals: u32 = 0;
+    for delivery in DELIVERIES {
+        refusals = refusals.saturating_add(refused_servers(&rt, rt.alloc(), delivery)?);
+    }
+    expect_refusals(&rt, refusals);
     Ok(())
 }

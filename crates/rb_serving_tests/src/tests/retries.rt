@@ -3,7 +3,7 @@
 ghost use Rattle.std.specs.Prelude.{◌≤◌};
 
 use crate::tests::devices::{
-    Received, at_once, counted, expect_counts, expect_number, expect_text, planned,
+    GATHERED, Received, at_once, counted, expect_counts, expect_number, expect_text, planned,
 };
 use rb_options::ServerRunOptions;
 use rb_retry::Policy;
@@ -34,7 +34,7 @@ fn jobs_come_back_by_the_policy(rt: HostRuntime) {
         planned(at_once(b"TAKE\nDONE 3\nQUIT\n"), &second, &turns),
     ];
     let options = options(&rt, 100, Policy::fixed_rate(2, 2));
-    let counts = counted(&rt, alloc, &plans, &options);
+    let counts = counted(&rt, alloc, GATHERED, &plans, &options);
     let replies =
         b"OFFERED 0 3\nITEM 0 3 1 a\nAGAIN 1 5\nITEM 1 5 2 a\nDEAD 1\nOFFERED 2 4\nITEM 2 4 1 b\n";
     expect_text(&rt, &first, replies);
@@ -54,7 +54,7 @@ fn lost_jobs_are_counted(rt: HostRuntime) {
         planned(at_once(b"SIZE\n"), &second, &turns),
     ];
     let options = options(&rt, 4, Policy::fixed(0, 2));
-    let counts = counted(&rt, alloc, &plans, &options);
+    let counts = counted(&rt, alloc, GATHERED, &plans, &options);
     let replies = b"OFFERED 0 7\nOFFERED 1 7\nITEM 0 7 1 a\nITEM 1 7 1 b\n";
     expect_text(&rt, &first, replies);
     expect_text(&rt, &second, b"ERR 6 full\n");

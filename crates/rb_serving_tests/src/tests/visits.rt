@@ -3,10 +3,12 @@
 ghost use Rattle.std.specs.Prelude.{◌≤◌};
 
 use crate::tests::devices::{
-    Counts, Plan, Received, Sends, after, at_once, counted, expect, expect_audit,
-    expect_audit_line, expect_counts, expect_number, expect_text, hundred_calls, planned,
+    Counts, DELIVERIES, GATHERED, Plan, Received, Sends, after, at_once, counted, expect,
+    expect_audit, expect_audit_line, expect_counts, expect_number, expect_text, hundred_calls,
+    planned,
 };
 use rb_queue::Audit;
+use rb_session::Delivery;
 use std::alloc::{AllocError, Global};
 use std::process::Abort;
 use std::sync::atomic::AtomicU64;
@@ -26,13 +28,14 @@ const TWO_GIVEN: &[u8] =
 pub fn served<R: Threads + Wait + time::Clock + Abort + Sync>(
     rt: &R,
     alloc: Global,
+    delivery: Delivery,
     plans: &[Plan<'_>],
     workers: u64,
 ) -> Counts
     requires some { 1 ≤ workers }
     requires few { workers ≤ 16 }
 {
-    counted(rt, alloc, plans, &hundred_calls(rt, workers))
+    counted(rt, alloc, delivery, plans, &hundred_calls(rt, workers))
 }
 
 /// Returns the audit of a run in which `offered` elements were offered, each was given, and nothing
@@ -54,6 +57,7 @@ pub fn all_given(offered: u64) -> Audit {
 fn expect_two<R: Threads + Wait + time::Clock + Abort + Sync>(
     rt: &R,
     alloc: Global,
+    delivery: Delivery,
     workers: u64,
     taker: &[u8],
     giver: &[u8],
@@ -71,7 +75,7 @@ fn expect_two<R: Threads + Wait + time::Clock + Abort + Sync>(
             &others,
         ),
     ];
-    let counts = served(rt, alloc, &plans, workers);
+    let counts = served(rt, alloc, delivery, &plans, workers);
     expect_text(rt, &first, taker);
     expect_text(rt, &second, giver);
     counts
@@ -80,19 +84,23 @@ fn expect_two<R: Threads + Wait + time::Clock + Abort + Sync>(
 #[test]
 fn workers_run_together(rt: HostRuntime) {
     let taker = b"ITEM 0 7 1 a\nDONE 0\nBYE\n";
-    let counts = expect_two(&rt, rt.alloc(), 2, taker, b"OFFERED 0 7\nBYE\n");
-    expect_counts(&rt, counts, 2, 0, 0);
-    expect_audit_line(&rt, rt.alloc(), &counts.audit, ONE_GIVEN);
+    for delivery in DELIVERIES {
+        let counts = expect_two(&rt, rt.alloc(), delivery, 2, taker, b"OFFERED 0 7\nBYE\n");
+        expect_counts(&rt, counts, 2, 0, 0);
+        expect_audit_line(&rt, rt.alloc(), &counts.audit, ONE_GIVEN);
+    }
 }
 
 // One worker serves the visits one after the other, so the take finds nothing.
 #[test]
 fn one_worker_serves_in_turn(rt: HostRuntime) {
     let taker = b"STOPPED\nERR 5 not-held\nBYE\n";
-    let counts = expect_two(&rt, rt.alloc(), 1, taker, b"OFFERED 0 7\nBYE\n");
-    expect_counts(&rt, counts, 2, 0, 0);
-    expect_number(&rt, counts.audit.calls, 1);
-    expect_number(&rt, counts.audit.left, 1);
+    for delivery in DELIVERIES {
+        let counts = expect_two(&rt, rt.alloc(), delivery, 1, taker, b"OFFERED 0 7\nBYE\n");
+        expect_counts(&rt, counts, 2, 0, 0);
+        expect_number(&rt, counts.audit.calls, 1);
+        expect_number(&rt, counts.audit.left, 1);
+    }
 }
 
 // Returns whether the two visitors were sent these two texts, in either order.
@@ -109,10 +117,13 @@ fn are_sent<R: Wait>(
     first == one && second == other || first == other && second == one
 }
 
-// Two takes wait at once, and each gets an element of its own.
-#[test]
-fn each_taker_gets_its_own(rt: HostRuntime) {
-    let alloc = rt.alloc();
+// Serves two visitors that take, and one that makes two offers once both takes wait. Asserts that each
+// taker was sent an element of its own.
+fn expect_own<R: Threads + Wait + time::Clock + Abort + Sync>(
+    rt: &R,
+    alloc: Global,
+    delivery: Delivery,
+) {
     let (turns, others, last) = (AtomicU64::new(0), AtomicU64::new(0), AtomicU64::new(0));
     let (first, second) = (Received::none(alloc), Received::none(alloc));
     let third = Received::none(alloc);
@@ -123,43 +134,71 @@ fn each_taker_gets_its_own(rt: HostRuntime) {
         planned(takes, &second, &others),
         planned(offers, &third, &last),
     ];
-    let counts = served(&rt, alloc, &plans, 3);
+    let counts = served(rt, alloc, delivery, &plans, 3);
     let got_first = b"ITEM 0 7 1 a\nDONE 0\nERR 5 not-held\nBYE\n";
     let got_second = b"ITEM 1 7 1 b\nERR 5 not-held\nDONE 1\nBYE\n";
-    expect(&rt, are_sent(&rt, &first, &second, got_first, got_second));
-    expect_text(&rt, &third, b"OFFERED 0 7\nOFFERED 1 7\nBYE\n");
-    expect_counts(&rt, counts, 3, 0, 0);
-    expect_audit_line(&rt, alloc, &counts.audit, TWO_GIVEN);
+    expect(rt, are_sent(rt, &first, &second, got_first, got_second));
+    expect_text(rt, &third, b"OFFERED 0 7\nOFFERED 1 7\nBYE\n");
+    expect_counts(rt, counts, 3, 0, 0);
+    expect_audit_line(rt, alloc, &counts.audit, TWO_GIVEN);
 }
 
-// A refused visit and a visit whose first read fails are two faults, and make no call.
 #[test]
-fn faults_are_counted(rt: HostRuntime) {
+fn each_taker_gets_its_own(rt: HostRuntime) {
+    for delivery in DELIVERIES {
+        expect_own(&rt, rt.alloc(), delivery);
+    }
+}
+
+// Serves a refused visit and a visit whose first read fails. Asserts that they are two faults, and make
+// no call.
+fn expect_faults<R: Threads + Wait + time::Clock + Abort + Sync>(
+    rt: &R,
+    alloc: Global,
+    delivery: Delivery,
+) {
     let turns = AtomicU64::new(0);
-    let text = Received::none(rt.alloc());
+    let text = Received::none(alloc);
     let plans = [
         planned(None, &text, &turns),
         planned(Some(Sends::Nothing), &text, &turns),
     ];
-    let counts = served(&rt, rt.alloc(), &plans, 1);
-    expect_counts(&rt, counts, 2, 2, 0);
-    expect_text(&rt, &text, b"");
-    expect_audit(&rt, counts.audit, all_given(0));
+    let counts = served(rt, alloc, delivery, &plans, 1);
+    expect_counts(rt, counts, 2, 2, 0);
+    expect_text(rt, &text, b"");
+    expect_audit(rt, counts.audit, all_given(0));
 }
 
-// The one worker goes on serving after both faults.
 #[test]
-fn faults_end_no_other_visit(rt: HostRuntime) {
+fn faults_are_counted(rt: HostRuntime) {
+    for delivery in DELIVERIES {
+        expect_faults(&rt, rt.alloc(), delivery);
+    }
+}
+
+// Serves two faulty visits, and asserts that the one worker goes on serving after both.
+fn expect_going_on<R: Threads + Wait + time::Clock + Abort + Sync>(
+    rt: &R,
+    alloc: Global,
+    delivery: Delivery,
+) {
     let turns = AtomicU64::new(0);
-    let (faulty, text) = (Received::none(rt.alloc()), Received::none(rt.alloc()));
+    let (faulty, text) = (Received::none(alloc), Received::none(alloc));
     let plans = [
         planned(Some(Sends::Nothing), &faulty, &turns),
         planned(None, &faulty, &turns),
         planned(at_once(b"OFFER 0 a\nQUIT\n"), &text, &turns),
     ];
-    let counts = served(&rt, rt.alloc(), &plans, 1);
-    expect_counts(&rt, counts, 3, 2, 0);
-    expect_text(&rt, &text, b"OFFERED 0 7\nBYE\n");
+    let counts = served(rt, alloc, delivery, &plans, 1);
+    expect_counts(rt, counts, 3, 2, 0);
+    expect_text(rt, &text, b"OFFERED 0 7\nBYE\n");
+}
+
+#[test]
+fn faults_end_no_other_visit(rt: HostRuntime) {
+    for delivery in DELIVERIES {
+        expect_going_on(&rt, rt.alloc(), delivery);
+    }
 }
 
 // Each take waits before the next one begins, and the fifth visit makes the offers for all four. So
@@ -195,7 +234,7 @@ fn each_worker_serves(rt: HostRuntime) {
         ),
         planned(after(offers, &fourth, &fourth), &text, &last),
     ];
-    let counts = served(&rt, alloc, &plans, 5);
+    let counts = served(&rt, alloc, GATHERED, &plans, 5);
     expect_counts(&rt, counts, 5, 0, 0);
     expect_audit(&rt, counts.audit, all_given(4));
 }
@@ -244,7 +283,7 @@ fn sixteen_workers_run_together(rt: HostRuntime) -> Result<(), Fail> {
     let received = nothing_received(alloc)?;
     let turns = AtomicU64::new(0);
     let plans = last_first(alloc, &received, &turns)?;
-    let counts = served(&rt, alloc, &plans, MOST_WORKERS);
+    let counts = served(&rt, alloc, GATHERED, &plans, MOST_WORKERS);
     expect_counts(&rt, counts, MOST_WORKERS, 0, 0);
     expect_number(&rt, counts.audit.calls, MOST_WORKERS);
     for text in &received {
@@ -263,7 +302,7 @@ fn no_client_sets_the_clock(rt: HostRuntime) {
         &text,
         &turns,
     )];
-    let counts = served(&rt, rt.alloc(), &plans, 1);
+    let counts = served(&rt, rt.alloc(), GATHERED, &plans, 1);
     expect_counts(&rt, counts, 1, 0, 0);
     let expected = b"ERR 1 syntax\nERR 2 number\nOFFERED 0 8\nNONE\nERR 8 line\n";
     expect_text(&rt, &text, expected);
