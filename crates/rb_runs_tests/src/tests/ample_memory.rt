@@ -1,5 +1,4 @@
-use crate::tests::devices::{AT_QUIT, KINDS, Sink, Source, expect_bytes, expect_end, ran};
-use rb_options::TimerKind;
+use crate::tests::devices::{AT_QUIT, Sink, Source, WAYS, Way, expect_bytes, expect_end, ran};
 use std::alloc::{AllocError, Global};
 use std::process::Abort;
 use std::test::Fail;
@@ -129,9 +128,9 @@ fn long_dialogue(alloc: Global) -> Result<Dialogue, AllocError> {
     Ok(dialogue)
 }
 
-fn expect_replies(rt: &impl Abort, alloc: Global, timer: TimerKind, dialogue: &Dialogue) {
+fn expect_replies(rt: &impl Abort, alloc: Global, way: Way, dialogue: &Dialogue) {
     let source = Source::of(&dialogue.script, usize::MAX);
-    let outcome = ran(rt, alloc, timer, CALLS, source, Sink::new(alloc));
+    let outcome = ran(rt, alloc, way, CALLS, source, Sink::new(alloc));
     expect_end(rt, outcome.ended, AT_QUIT, 0);
     expect_bytes(rt, &outcome.bytes, &dialogue.replies, 0);
 }
@@ -140,8 +139,8 @@ fn expect_replies(rt: &impl Abort, alloc: Global, timer: TimerKind, dialogue: &D
 fn answers_with_ample_memory(rt: HostRuntime) -> Result<(), Fail> {
     let alloc = rt.alloc();
     let dialogue = long_dialogue(alloc)?;
-    for timer in KINDS {
-        expect_replies(&rt, alloc, timer, &dialogue);
+    for way in WAYS {
+        expect_replies(&rt, alloc, way, &dialogue);
     }
     Ok(())
 }

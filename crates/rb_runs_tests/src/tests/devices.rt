@@ -12,12 +12,26 @@ use std::cell::Cell;
 use std::io::{self, ErrorKind, Read, Write};
 use std::process::Abort;
 
-/// Each kind of timer.
-pub const KINDS: [TimerKind; 4] = [
-    TimerKind::List,
-    TimerKind::Heap,
-    TimerKind::Pairing,
-    TimerKind::Wheel,
+/// A way to run a script: when its replies are written, and over which timer.
+pub type Way = (Delivery, TimerKind);
+
+// Replies that are gathered as the program gathers those of a script.
+const TOGETHER: Delivery = Delivery::Gathered(HandsOn::BeforeReads);
+
+pub const AT_ONCE: Way = (Delivery::AtOnce, TimerKind::Heap);
+
+pub const GATHERED: Way = (TOGETHER, TimerKind::Heap);
+
+/// Each of the two calls that run a script, over each timer.
+pub const WAYS: [Way; 8] = [
+    (Delivery::AtOnce, TimerKind::List),
+    AT_ONCE,
+    (Delivery::AtOnce, TimerKind::Pairing),
+    (Delivery::AtOnce, TimerKind::Wheel),
+    (TOGETHER, TimerKind::List),
+    GATHERED,
+    (TOGETHER, TimerKind::Pairing),
+    (TOGETHER, TimerKind::Wheel),
 ];
 
 /// The ends of a session that lost no job.
@@ -318,65 +332,44 @@ pub struct Outcome {
 pub fn ran(
     rt: &impl Abort,
     alloc: Global,
-    timer: TimerKind,
+    way: Way,
     calls: u64,
     source: Source<'_>,
     sink: Sink<'_>,
 ) -> Outcome {
     let mut nothing: Option<Sink<'static>> = None;
-    recorded(rt, alloc, timer, calls, source, sink, &mut nothing)
+    recorded(rt, alloc, way, calls, source, sink, &mut nothing)
 }
 
-/// Runs a script from the empty opening, and writes its history if there is a device for it.
+/// Runs a script from the empty opening, by `run_script` or `run_script_delivered`. Writes its history
+/// if there is a device for it.
 pub fn recorded(
     rt: &impl Abort,
     alloc: Global,
-    timer: TimerKind,
+    way: Way,
     calls: u64,
     source: Source<'_>,
     sink: Sink<'_>,
     history: &mut Option<Sink<'static>>,
 ) -> Outcome {
     let (mut source, mut sink) = (source, sink);
+    let (delivery, timer) = way;
     let options = options(rt, timer, calls);
     let opening = Opening::empty(alloc);
-    let mut reader = LimitedReader::new(&mut source);
-    let report = run_script_delivered(
-        alloc,
-        &options,
-        Delivery::Gathered(HandsOn::BeforeReads),
-        opening,
-        &mut reader,
-        &mut sink,
-        history.as_mut(),
-    );
-    outcome_of(report.result(), source, sink)
-}
-
-/// Runs a script of at most 100 calls from the empty opening, and writes each reply at once. Writes
-/// the history if there is a device for it.
-pub fn replied_at_once(
-    rt: &impl Abort,
-    alloc: Global,
-    source: Source<'_>,
-    sink: Sink<'_>,
-    history: &mut Option<Sink<'static>>,
-) -> Outcome {
-    let (mut source, mut sink) = (source, sink);
-    let options = options(rt, TimerKind::Heap, 100);
-    let opening = Opening::empty(alloc);
-    let ended = run_script(
-        alloc,
-        &options,
-        opening,
-        &mut source,
-        &mut sink,
-        history.as_mut(),
-    );
-    outcome_of(ended, source, sink)
-}
-
-fn outcome_of(ended: Result<Ended, BrokerFault>, source: Source<'_>, sink: Sink<'_>) -> Outcome {
+    let history = history.as_mut();
+    let ended = match delivery {
+        Delivery::AtOnce => run_script(alloc, &options, opening, &mut source, &mut sink, history),
+        gathered => run_script_delivered(
+            alloc,
+            &options,
+            gathered,
+            opening,
+            &mut LimitedReader::new(&mut source),
+            &mut sink,
+            history,
+        )
+        .result(),
+    };
     Outcome {
         ended,
         reads: source.calls,

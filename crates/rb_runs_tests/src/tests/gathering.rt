@@ -1,10 +1,10 @@
 use crate::tests::devices::{
-    AT_END, Client, End, Outcome, Sink, Source, expect, expect_bytes, expect_count, expect_end, ran,
+    AT_END, Client, End, GATHERED, Outcome, Sink, Source, expect, expect_bytes, expect_count,
+    expect_end, ran,
 };
 use rb_binary::BinaryTimer;
 use rb_ending::BrokerFault;
 use rb_kept::Kept;
-use rb_options::TimerKind;
 use rb_protocol::LimitedReader;
 use rb_retry::{KeptDesk, Policy};
 use rb_session::{Delivery, Ended, HandsOn, SessionFault, run_limited};
@@ -27,7 +27,7 @@ fn expect_answered(rt: &impl Abort, alloc: Global, most: usize) {
     let replies = REPLIES;
     let source = Source::asking(REQUESTS, most, Client { received, replies });
     let sink = Sink::received(alloc, received);
-    let outcome = ran(rt, alloc, TimerKind::Heap, 100, source, sink);
+    let outcome = ran(rt, alloc, GATHERED, 100, source, sink);
     expect(rt, outcome.ended.is_ok());
     expect_count(rt, received.get(), REPLIES.len(), most);
 }
@@ -50,7 +50,7 @@ fn many(alloc: Global, line: &[u8], count: usize) -> Result<Vec<u8>, AllocError>
 // Runs a script that one read gives whole, over a writer that takes everything.
 fn batch(rt: &impl Abort, alloc: Global, calls: u64, script: &[u8]) -> Outcome {
     let source = Source::of(script, usize::MAX);
-    ran(rt, alloc, TimerKind::Heap, calls, source, Sink::new(alloc))
+    ran(rt, alloc, GATHERED, calls, source, Sink::new(alloc))
 }
 
 // 50,000 bytes of requests get 70,000 bytes of replies, so the room for replies is full once.
@@ -85,7 +85,7 @@ fn a_hundred_takes_of_a_script_are_one_write(rt: HostRuntime) -> Result<(), Fail
 fn expect_first_bytes(rt: &impl Abort, alloc: Global, room: usize, is_closed: bool) {
     let source = Source::of(REQUESTS, usize::MAX);
     let sink = Sink::bounded(alloc, room, is_closed);
-    let outcome = ran(rt, alloc, TimerKind::Heap, 100, source, sink);
+    let outcome = ran(rt, alloc, GATHERED, 100, source, sink);
     let first = REPLIES.get(..room).unwrap_or(REPLIES);
     expect_bytes(rt, &outcome.bytes, first, room);
     let wanted = if room < REPLIES.len() {
@@ -109,7 +109,7 @@ fn an_output_may_be_full_or_closed_at_any_byte(rt: HostRuntime) {
 fn broken_off(rt: &impl Abort, alloc: Global, room: usize) -> Outcome {
     let source = Source::ending(b"SIZE\n", End::Fails);
     let sink = Sink::bounded(alloc, room, true);
-    ran(rt, alloc, TimerKind::Heap, 100, source, sink)
+    ran(rt, alloc, GATHERED, 100, source, sink)
 }
 
 // Replies that are held back are handed on before the next read, so a fault of their write comes

@@ -1,9 +1,9 @@
 // Each allocation of a script's run, and of a replay, an audit line, an opening and a read of a
 // file, is refused in turn.
 
-use crate::tests::devices::{KINDS, Sink, Source, expect, expect_bytes, recorded};
+use crate::tests::devices::{Sink, Source, WAYS, Way, expect, expect_bytes, recorded};
 use rb_ending::{BrokerFault, audit_line};
-use rb_options::{ReplayOptions, TimerKind};
+use rb_options::ReplayOptions;
 use rb_queue::{Audit, Opening};
 use rb_retry::Policy;
 use rb_runs::{opening_in, read_all, run_replay};
@@ -129,10 +129,10 @@ impl Outcome {
     }
 }
 
-fn run_once(rt: &impl Abort, alloc: Global, timer: TimerKind) -> Result<Outcome, Fail> {
+fn run_once(rt: &impl Abort, alloc: Global, way: Way) -> Result<Outcome, Fail> {
     let (sink, mut history) = (Sink::of(page(alloc)?), Some(Sink::of(page(alloc)?)));
     let source = Source::of(SCRIPT, usize::MAX);
-    let ran = recorded(rt, alloc, timer, 100, source, sink, &mut history);
+    let ran = recorded(rt, alloc, way, 100, source, sink, &mut history);
     Ok(Outcome {
         ended: ran.ended,
         unread: ran.unread,
@@ -141,18 +141,18 @@ fn run_once(rt: &impl Abort, alloc: Global, timer: TimerKind) -> Result<Outcome,
     })
 }
 
-fn runs(rt: &impl Abort, alloc: Global, timer: TimerKind) -> Result<bool, Fail> {
-    let outcome = run_once(rt, alloc, timer)?;
+fn runs(rt: &impl Abort, alloc: Global, way: Way) -> Result<bool, Fail> {
+    let outcome = run_once(rt, alloc, way)?;
     Ok(outcome.is_whole(rt))
 }
 
 // Returns whether the run met a refusal. If it did, runs the script once more and asserts that the
 // second run is whole.
-fn refused_run(rt: &impl Abort, alloc: Global, timer: TimerKind) -> Result<bool, Fail> {
-    if runs(rt, alloc, timer)? {
+fn refused_run(rt: &impl Abort, alloc: Global, way: Way) -> Result<bool, Fail> {
+    if runs(rt, alloc, way)? {
         return Ok(false);
     }
-    expect(rt, runs(rt, alloc, timer)?);
+    expect(rt, runs(rt, alloc, way)?);
     Ok(true)
 }
 
@@ -242,8 +242,8 @@ fn refused_reading(rt: &impl Abort, alloc: Global) -> bool {
 
 fn refused_runs(rt: &impl Abort, alloc: Global) -> Result<u32, Fail> {
     let mut refusals = 0_u32;
-    for timer in KINDS {
-        let refused = refused_run(rt, alloc, timer)?;
+    for way in WAYS {
+        let refused = refused_run(rt, alloc, way)?;
         refusals = refusals.saturating_add(u32::from(refused));
     }
     Ok(refusals)

@@ -1,9 +1,8 @@
 use crate::tests::devices::{
-    AT_END, End, Fault, KINDS, Sink, Source, expect_bytes, expect_count, expect_end, feeds_of,
-    first_lines, ran, recorded,
+    AT_END, AT_ONCE, End, Fault, GATHERED, Sink, Source, WAYS, Way, expect_bytes, expect_count,
+    expect_end, feeds_of, first_lines, ran, recorded,
 };
 use rb_ending::BrokerFault;
-use rb_options::TimerKind;
 use std::alloc::{AllocError, Global};
 use std::process::Abort;
 use std::test::Fail;
@@ -15,9 +14,9 @@ const REPLIES: &[u8] = b"NOW 100\nOFFERED 0 150\nSIZE 1\nNONE\nHEAD 0 150 1 a\n"
 
 // Runs the script over a reader that gives one byte at each call and fails at call `call`. Asserts
 // that the session ended there, with the replies to all whole lines.
-fn expect_read_fault(rt: &impl Abort, alloc: Global, timer: TimerKind, call: usize) {
+fn expect_read_fault(rt: &impl Abort, alloc: Global, way: Way, call: usize) {
     let source = Source::faulty(SCRIPT, 1, call, Fault::Fails);
-    let outcome = ran(rt, alloc, timer, 10, source, Sink::new(alloc));
+    let outcome = ran(rt, alloc, way, 10, source, Sink::new(alloc));
     expect_end(rt, outcome.ended, Err(BrokerFault::Read), call);
     let lines = feeds_of(SCRIPT.get(..call).unwrap_or(SCRIPT));
     expect_bytes(rt, &outcome.bytes, first_lines(REPLIES, lines), call);
@@ -26,24 +25,26 @@ fn expect_read_fault(rt: &impl Abort, alloc: Global, timer: TimerKind, call: usi
 
 #[test]
 fn a_reader_that_fails_ends_at_the_last_whole_line(rt: HostRuntime) {
-    for timer in KINDS {
+    for way in WAYS {
         for call in 0..=SCRIPT.len() {
-            expect_read_fault(&rt, rt.alloc(), timer, call);
+            expect_read_fault(&rt, rt.alloc(), way, call);
         }
     }
 }
 
-fn expect_read_again(rt: &impl Abort, alloc: Global, call: usize) {
+fn expect_read_again(rt: &impl Abort, alloc: Global, way: Way, call: usize) {
     let source = Source::faulty(SCRIPT, 1, call, Fault::IsInterrupted);
-    let outcome = ran(rt, alloc, TimerKind::Heap, 10, source, Sink::new(alloc));
+    let outcome = ran(rt, alloc, way, 10, source, Sink::new(alloc));
     expect_end(rt, outcome.ended, AT_END, call);
     expect_bytes(rt, &outcome.bytes, REPLIES, call);
 }
 
 #[test]
 fn an_interrupted_read_is_made_again(rt: HostRuntime) {
-    for call in 0..=SCRIPT.len() {
-        expect_read_again(&rt, rt.alloc(), call);
+    for way in [AT_ONCE, GATHERED] {
+        for call in 0..=SCRIPT.len() {
+            expect_read_again(&rt, rt.alloc(), way, call);
+        }
     }
 }
 
@@ -62,7 +63,7 @@ fn a_read_takes_64_kib(rt: HostRuntime) -> Result<(), Fail> {
     let script = many(alloc, b"AT 1234\n", 16_384)?;
     let replies = many(alloc, b"NOW 1234\n", 16_384)?;
     let source = Source::of(&script, usize::MAX);
-    let outcome = ran(&rt, alloc, TimerKind::Heap, 1, source, Sink::new(alloc));
+    let outcome = ran(&rt, alloc, GATHERED, 1, source, Sink::new(alloc));
     expect_end(&rt, outcome.ended, AT_END, 0);
     expect_bytes(&rt, &outcome.bytes, &replies, 0);
     expect_count(&rt, outcome.reads, 3, 0);
@@ -85,7 +86,7 @@ fn an_input_without_an_end_is_given_up(rt: HostRuntime) {
     let alloc = rt.alloc();
     let source = Source::ending(b"OFFER 0 a\nPOLL\n", End::NeverComes);
     let (sink, mut history) = (Sink::new(alloc), Some(Sink::new(alloc)));
-    let outcome = recorded(&rt, alloc, TimerKind::Heap, 3, source, sink, &mut history);
+    let outcome = recorded(&rt, alloc, GATHERED, 3, source, sink, &mut history);
     expect_end(&rt, outcome.ended, Err(BrokerFault::ReadTurns), 0);
     expect_count(&rt, outcome.reads, 10_000_000, 0);
     expect_bytes(&rt, &outcome.bytes, b"OFFERED 0 0\nITEM 0 0 1 a\n", 0);
@@ -111,11 +112,11 @@ fn replies_to(alloc: Global, part: &[u8]) -> Result<Vec<u8>, AllocError> {
     Ok(replies)
 }
 
-fn expect_part(rt: &impl Abort, alloc: Global, len: usize) -> Result<(), AllocError> {
+fn expect_part(rt: &impl Abort, alloc: Global, way: Way, len: usize) -> Result<(), AllocError> {
     let part = JOB.get(..len).unwrap_or(JOB);
     let replies = replies_to(alloc, part)?;
     let source = Source::of(part, usize::MAX);
-    let outcome = ran(rt, alloc, TimerKind::Heap, 100, source, Sink::new(alloc));
+    let outcome = ran(rt, alloc, way, 100, source, Sink::new(alloc));
     expect_end(rt, outcome.ended, AT_END, len);
     expect_bytes(rt, &outcome.bytes, &replies, len);
     Ok(())
@@ -123,8 +124,10 @@ fn expect_part(rt: &impl Abort, alloc: Global, len: usize) -> Result<(), AllocEr
 
 #[test]
 fn each_part_of_a_script_gets_its_part_of_the_replies(rt: HostRuntime) -> Result<(), Fail> {
-    for len in 0..JOB.len() {
-        expect_part(&rt, rt.alloc(), len)?;
+    for way in [AT_ONCE, GATHERED] {
+        for len in 0..JOB.len() {
+            expect_part(&rt, rt.alloc(), way, len)?;
+        }
     }
     Ok(())
 }

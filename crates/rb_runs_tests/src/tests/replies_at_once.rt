@@ -1,7 +1,8 @@
 // Scripts in which each reply is written when its request is served.
 
 use crate::tests::devices::{
-    AT_END, Sink, Source, expect_bytes, expect_count, expect_end, first_lines, replied_at_once,
+    AT_END, AT_ONCE, Sink, Source, expect_bytes, expect_count, expect_end, first_lines, ran,
+    recorded,
 };
 use rb_ending::BrokerFault;
 use std::alloc::Global;
@@ -30,7 +31,7 @@ fn history_of(alloc: Global, offers: usize) -> Result<Vec<u8>, Fail> {
 fn each_reply_is_a_write_and_a_flush(rt: HostRuntime) {
     let alloc = rt.alloc();
     let source = Source::of(OFFERS, usize::MAX);
-    let outcome = replied_at_once(&rt, alloc, source, Sink::new(alloc), &mut None);
+    let outcome = ran(&rt, alloc, AT_ONCE, 100, source, Sink::new(alloc));
     expect_end(&rt, outcome.ended, AT_END, 0);
     expect_bytes(&rt, &outcome.bytes, REPLIES, 0);
     expect_count(&rt, outcome.writes, 3, 0);
@@ -43,7 +44,7 @@ fn expect_offers(rt: &impl Abort, alloc: Global, room: usize, is_closed: bool) -
     let source = Source::of(OFFERS, usize::MAX);
     let sink = Sink::bounded(alloc, room, is_closed);
     let mut history = Some(Sink::new(alloc));
-    let outcome = replied_at_once(rt, alloc, source, sink, &mut history);
+    let outcome = recorded(rt, alloc, AT_ONCE, 100, source, sink, &mut history);
     let wanted = if room < REPLIES.len() {
         Err(BrokerFault::Write)
     } else {

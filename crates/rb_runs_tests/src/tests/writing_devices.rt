@@ -1,8 +1,8 @@
 use crate::tests::devices::{
-    AT_END, Fault, KINDS, Sink, Source, expect_bytes, expect_count, expect_end, first_lines, ran,
+    AT_END, AT_ONCE, Fault, GATHERED, Sink, Source, WAYS, Way, expect_bytes, expect_count,
+    expect_end, first_lines, ran,
 };
 use rb_ending::BrokerFault;
-use rb_options::TimerKind;
 use std::alloc::Global;
 use std::process::Abort;
 
@@ -39,9 +39,9 @@ const ROWS: [Row; 3] = [
 
 // Asserts that a writer that fails at call `call` ends the session. It has received the replies
 // before that call, and the reply of the call itself if the call is a flush.
-fn expect_write_fault(rt: &impl Abort, alloc: Global, timer: TimerKind, row: Row, call: usize) {
+fn expect_write_fault(rt: &impl Abort, alloc: Global, way: Way, row: Row, call: usize) {
     let sink = Sink::faulty(alloc, call, Fault::Fails);
-    let outcome = ran(rt, alloc, timer, 10, Source::of(row.script, 1), sink);
+    let outcome = ran(rt, alloc, way, 10, Source::of(row.script, 1), sink);
     expect_end(rt, outcome.ended, Err(BrokerFault::Write), call);
     expect_bytes(
         rt,
@@ -52,9 +52,9 @@ fn expect_write_fault(rt: &impl Abort, alloc: Global, timer: TimerKind, row: Row
     expect_count(rt, outcome.calls, call.saturating_add(1), call);
 }
 
-fn expect_write_faults(rt: &impl Abort, alloc: Global, timer: TimerKind, row: Row) {
+fn expect_write_faults(rt: &impl Abort, alloc: Global, way: Way, row: Row) {
     for call in 0..row.calls {
-        expect_write_fault(rt, alloc, timer, row, call);
+        expect_write_fault(rt, alloc, way, row, call);
     }
 }
 
@@ -63,23 +63,25 @@ fn expect_write_faults(rt: &impl Abort, alloc: Global, timer: TimerKind, row: Ro
 #[test]
 fn a_writer_that_fails_ends_the_session(rt: HostRuntime) {
     for row in ROWS {
-        for timer in KINDS {
-            expect_write_faults(&rt, rt.alloc(), timer, row);
+        for way in WAYS {
+            expect_write_faults(&rt, rt.alloc(), way, row);
         }
     }
 }
 
-fn expect_nothing_taken(rt: &impl Abort, alloc: Global, lines: usize) {
+fn expect_nothing_taken(rt: &impl Abort, alloc: Global, way: Way, lines: usize) {
     let sink = Sink::faulty(alloc, lines.saturating_mul(2), Fault::TakesNothing);
-    let outcome = ran(rt, alloc, TimerKind::List, 10, Source::of(SCRIPT, 1), sink);
+    let outcome = ran(rt, alloc, way, 10, Source::of(SCRIPT, 1), sink);
     expect_end(rt, outcome.ended, Err(BrokerFault::Write), lines);
     expect_bytes(rt, &outcome.bytes, first_lines(REPLIES, lines), lines);
 }
 
 #[test]
 fn a_writer_that_takes_nothing_ends_the_session(rt: HostRuntime) {
-    for lines in 0..5_usize {
-        expect_nothing_taken(&rt, rt.alloc(), lines);
+    for way in [AT_ONCE, GATHERED] {
+        for lines in 0..5_usize {
+            expect_nothing_taken(&rt, rt.alloc(), way, lines);
+        }
     }
 }
 
@@ -87,7 +89,7 @@ fn a_writer_that_takes_nothing_ends_the_session(rt: HostRuntime) {
 fn an_interrupted_write_is_made_again(rt: HostRuntime) {
     let alloc = rt.alloc();
     let sink = Sink::faulty(alloc, 2, Fault::IsInterrupted);
-    let outcome = ran(&rt, alloc, TimerKind::Heap, 10, Source::of(SCRIPT, 1), sink);
+    let outcome = ran(&rt, alloc, GATHERED, 10, Source::of(SCRIPT, 1), sink);
     expect_end(&rt, outcome.ended, AT_END, 0);
     expect_bytes(&rt, &outcome.bytes, REPLIES, 0);
     expect_count(&rt, outcome.calls, 11, 0);
@@ -97,7 +99,7 @@ fn an_interrupted_write_is_made_again(rt: HostRuntime) {
 fn a_batch_is_one_write_and_one_flush(rt: HostRuntime) {
     let alloc = rt.alloc();
     let source = Source::of(SCRIPT, usize::MAX);
-    let outcome = ran(&rt, alloc, TimerKind::Heap, 10, source, Sink::new(alloc));
+    let outcome = ran(&rt, alloc, GATHERED, 10, source, Sink::new(alloc));
     expect_end(&rt, outcome.ended, AT_END, 0);
     expect_count(&rt, outcome.calls, 2, 0);
     expect_count(&rt, outcome.reads, 2, 0);
