@@ -1,9 +1,9 @@
 //! Runs the cases and tables of text files, and prints a line about each.
 //!
 //! The words of the command line are the files. One whose name ends in `.rows` has tables, which `table.rt`
-//! describes, and any other has cases, which `case.rt` describes. A script is run over each timer, and read
-//! whole, byte by byte, seven bytes at a time and, if it has at most 1,000 bytes, in two parts, cut at every
-//! place. The last line has the counts. The exit status is 0 if every case and table came out as it must, 1 if
+//! describes, and any other has cases, which `case.rt` describes. A script is run over each timer, with its
+//! replies at once and gathered, and read whole, byte by byte, seven bytes at a time and, if it has at most
+//! 1,000 bytes, in two parts, cut at every place. The last line has the counts. The exit status is 0 if every case and table came out as it must, 1 if
 //! one did not, and 2 if a file can't be read or is malformed; standard error then names the file, the line and
 //! the reason.
 #![tactic(auto)]

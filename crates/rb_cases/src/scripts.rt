@@ -12,9 +12,15 @@ use rb_ending::BrokerFault;
 use rb_options::{ScriptOptions, TimerKind};
 use rb_protocol::LimitedReader;
 use rb_queue::Opening;
-use rb_runs::{opening_in, run_script_delivered};
+use rb_runs::{opening_in, run_script, run_script_delivered};
 use rb_session::{Delivery, Ended, HandsOn};
 use std::alloc::{AllocError, Global};
+
+// The deliveries of the two calls that run a script, with the words that tell of them.
+const DELIVERIES: [(Delivery, &str); 2] = [
+    (Delivery::AtOnce, "replies at once"),
+    (Delivery::Gathered(HandsOn::BeforeReads), "replies gathered"),
+];
 
 /// Runs a script. It differs if a run does not come out as it must: what is told is then about the first such run.
 pub fn run_script_case(alloc: Global, case: &Case<'_>, found: &mut Finding) -> Result<(), Flaw> {
@@ -26,7 +32,7 @@ pub fn run_script_case(alloc: Global, case: &Case<'_>, found: &mut Finding) -> R
     Ok(())
 }
 
-// Runs the script over a timer, with reads of each size and cut in two at each place.
+// Runs the script over a timer, with each delivery.
 fn over_timer(
     alloc: Global,
     case: &Case<'_>,
@@ -38,9 +44,23 @@ fn over_timer(
         told.push_str("the words of `args` are refused")?;
         return Err(Flaw::Differs);
     };
-    by_sizes(alloc, case, &options, told)?;
+    for way in DELIVERIES {
+        by_reads(alloc, case, &options, way, told)?;
+    }
+    Ok(())
+}
+
+// Runs the script with reads of each size and cut in two at each place.
+fn by_reads(
+    alloc: Global,
+    case: &Case<'_>,
+    options: &ScriptOptions,
+    way: (Delivery, &str),
+    told: &mut String,
+) -> Result<(), Flaw> {
+    by_sizes(alloc, case, options, way, told)?;
     if case.devices.have_any_size() && case.input.bytes.len() <= MOST_CUT {
-        by_cuts(alloc, case, &options, told)?;
+        by_cuts(alloc, case, options, way, told)?;
     }
     Ok(())
 }
@@ -49,14 +69,16 @@ fn by_sizes(
     alloc: Global,
     case: &Case<'_>,
     options: &ScriptOptions,
+    way: (Delivery, &str),
     told: &mut String,
 ) -> Result<(), Flaw> {
+    let (delivery, replies) = way;
     for size in SIZES {
         if case.devices.have_size(size) {
             let (timer, reads) = (timer_name(options.timer), size_name(size));
             told.clear();
-            write!(told, "over {timer}, reads {reads}: ")?;
-            run(alloc, case, options, Reads::of_size(size), told)?;
+            write!(told, "over {timer}, {replies}, reads {reads}: ")?;
+            run(alloc, case, options, delivery, Reads::of_size(size), told)?;
         }
     }
     Ok(())
@@ -74,13 +96,22 @@ fn by_cuts(
     alloc: Global,
     case: &Case<'_>,
     options: &ScriptOptions,
+    way: (Delivery, &str),
     told: &mut String,
 ) -> Result<(), Flaw> {
+    let (delivery, replies) = way;
     for first in 1..case.input.bytes.len() {
         let timer = timer_name(options.timer);
         told.clear();
-        write!(told, "over {timer}, cut behind byte {first}: ")?;
-        run(alloc, case, options, Reads::cut_behind(first), told)?;
+        write!(told, "over {timer}, {replies}, cut behind byte {first}: ")?;
+        run(
+            alloc,
+            case,
+            options,
+            delivery,
+            Reads::cut_behind(first),
+            told,
+        )?;
     }
     Ok(())
 }
@@ -90,12 +121,22 @@ fn run(
     alloc: Global,
     case: &Case<'_>,
     options: &ScriptOptions,
+    delivery: Delivery,
     reads: Reads,
     told: &mut String,
 ) -> Result<(), Flaw> {
     let mut writer = Sink::new(alloc, case.devices.writer_fails, case.devices.writer_takes);
     let mut recorder = recorder_of(alloc, case);
-    let ended = ended(alloc, case, options, reads, &mut writer, recorder.as_mut());
+    let source = source_of(case, reads);
+    let ended = ended(
+        alloc,
+        case,
+        options,
+        delivery,
+        source,
+        &mut writer,
+        recorder.as_mut(),
+    );
     compare(alloc, case, ended, &writer, recorder.as_ref(), told)
 }
 
@@ -137,24 +178,26 @@ fn ended(
     alloc: Global,
     case: &Case<'_>,
     options: &ScriptOptions,
-    reads: Reads,
+    delivery: Delivery,
+    source: Source<'_>,
     writer: &mut Sink,
     recorder: Option<&mut Sink>,
 ) -> Result<Ended, BrokerFault> {
     let opening = opening_of(alloc, case)?;
-    let mut source = source_of(case, reads);
-    let mut reader = LimitedReader::new(&mut source);
-    let gathered = Delivery::Gathered(HandsOn::BeforeReads);
-    run_script_delivered(
-        alloc,
-        options,
-        gathered,
-        opening,
-        &mut reader,
-        writer,
-        recorder,
-    )
-    .result()
+    let mut source = source;
+    match delivery {
+        Delivery::AtOnce => run_script(alloc, options, opening, &mut source, writer, recorder),
+        gathered => run_script_delivered(
+            alloc,
+            options,
+            gathered,
+            opening,
+            &mut LimitedReader::new(&mut source),
+            writer,
+            recorder,
+        )
+        .result(),
+    }
 }
 
 fn source_of<'a>(case: &'a Case<'_>, reads: Reads) -> Source<'a> {
