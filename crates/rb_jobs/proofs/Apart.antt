@@ -5,7 +5,7 @@ use Rattle.std.specs.Prelude.{nat_eq}
 use Rattle.rb_delayed.specs.declared.element.Element.{Element}
 use Rattle.rb_queue.proofs.Options.{same_or_not}
 use Rattle.rb_jobs.specs.HeldIds.{AreHeldOnce}
-use Rattle.rb_jobs.proofs.GivenJobs.{times_held-append}
+use Rattle.rb_session.proofs.GivenJobs.{times_held-append}
 use Rattle.rb_jobs.specs.Among.{IsAmong}
 use Rattle.rb_jobs.specs.Attempts.{HasNext}
 use Rattle.rb_jobs.specs.Places.{Place, waits, held_by}

@@ -1,5 +1,5 @@
 -- The lemmas of this crate, by subject: how lines are read and served, how replies are sent, devices that tell their
--- bytes, and what of a desk stays.
+-- bytes, what of a desk stays, and what is held.
 pub mod LongerExchanges
 pub mod Buffers
 pub mod LineFeeds
@@ -10,3 +10,5 @@ pub mod Outlets
 pub mod Gatherings
 pub mod KnownDevices
 pub mod DeskParts
+pub mod GivenJobs
+pub mod JobMaps

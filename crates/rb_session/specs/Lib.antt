@@ -8,6 +8,7 @@ pub mod Lines
 pub mod Rules
 pub mod Served
 pub mod Held
+pub mod JobMap
 pub mod Turn
 pub mod Session
 pub mod Exchange

@@ -1,5 +1,6 @@
 ghost use Rattle.std.specs.Prelude.{◌≡◌, ℕ, Option, Result};
 ghost use Rattle.rb_retry.specs.DeskRules.{desk_rules};
+ghost use Rattle.rb_session.specs.Held.{AreGiven};
 ghost use Rattle.rb_session.specs.Turn.{point, moment_line, IsTurn};
 ghost use Rattle.rb_session.specs.Progress.{replies_of};
 
@@ -21,6 +22,7 @@ pub(crate) fn answer<D: Desk>(
     policy: &Policy,
     reading: Result<Request, LineFault>,
 ) -> LineReply
+    requires { AreGiven (D.mine (D.state desk.old)) held.old }
     ensures { IsTurn (desk_rules D.Desk policy.now) (point (D.state desk.old) held.old)
         reading (replies_of result held.new) (point (D.state desk.new) held.new) }
 {

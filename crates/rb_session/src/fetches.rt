@@ -1,6 +1,7 @@
 ghost use Rattle.std.specs.Prelude.{◌-◌, ◌<◌, min, length};
 ghost use Rattle.rb_retry.specs.Jobs.{answer_with};
-ghost use Rattle.rb_session.specs.Turn.{point, IsCall, IsFetch};
+ghost use Rattle.rb_session.specs.Held.{AreGiven, AreNew};
+ghost use Rattle.rb_session.specs.Turn.{point, fetched_by, IsCall, IsFetch};
 ghost use Rattle.rb_session.specs.Progress.{replies_of, FetchesOne, IsHolding};
 
 use crate::calls::fault_line;
@@ -17,7 +18,8 @@ pub(crate) fn fetch_job<D: Desk>(
     asked: u64,
     ask: Ask,
 ) -> LineReply
-    requires { FetchesOne asked ask }
+    requires one { FetchesOne asked ask }
+    requires given { AreGiven (D.mine (D.state desk.old)) held.old }
     ensures { IsFetch D.Steps (point (D.state desk.old) held.old) asked ask
         (replies_of result held.new) (point (D.state desk.new) held.new) }
 {
@@ -39,6 +41,7 @@ pub(crate) fn drain_jobs<D: Desk>(
     now: u64,
     most: u64,
 ) -> LineReply
+    requires { AreGiven (D.mine (D.state desk.old)) held.old }
     ensures { IsCall D.Steps
         (point (D.state desk.old) held.old) now (Ask.Drain (min most (MOST_HELD - length held.old)))
         (replies_of result held.new) (point (D.state desk.new) held.new) }
@@ -53,7 +56,8 @@ pub(crate) fn drain_jobs<D: Desk>(
 // Holds what was fetched, and gives its line.
 #[inline(always)]
 fn hold(held: &mut HeldJobs, fetched: Result<Option<Job>, DeskFault>) -> LineReply
-    requires { length held.old < MOST_HELD }
+    requires few { length held.old < MOST_HELD }
+    requires new { AreNew held.old (fetched_by (answer_with fetched)) }
     ensures { IsHolding held.old (answer_with fetched) result held.new }
 {
     match fetched {

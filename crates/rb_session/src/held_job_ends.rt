@@ -58,10 +58,12 @@ pub(crate) fn fail_all<D: Desk>(desk: &mut D, policy: &Policy, held: HeldJobs) -
     ensures { Closes (desk_rules D.Desk policy.now) (D.state desk.old) held result (D.state desk.new) }
 {
     let mut lost = 0;
-    for job in held.into_vec() {
-        let now = desk.now();
-        if fail(desk, policy, job, now).is_err() {
-            lost += 1;
+    for job in held.into_values() {
+        if let Some(job) = job {
+            let now = desk.now();
+            if fail(desk, policy, job, now).is_err() {
+                lost += 1;
+            }
         }
     }
     lost

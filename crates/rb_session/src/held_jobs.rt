@@ -1,7 +1,11 @@
-ghost use Rattle.std.specs.Prelude.{◌≡◌, ◌+◌, ◌-◌, ◌<◌, ◌≤◌, ◌∷◌, ◌++◌, [], List, length, drop, insert, remove, slice_get, IfOk, MatchResult};
+ghost use Rattle.std.specs.Prelude.{◌≡◌, ◌+◌, ◌-◌, ◌<◌, ◌≤◌, ◌∷◌, ◌++◌, [], List, None, Some, length, map, drop, insert, remove, slice_get, IfOk, MatchResult};
 ghost use Rattle.rb_delayed.specs.declared.element.Element.{Element};
-ghost use Rattle.rb_session.specs.Held.{place_of};
+ghost use Rattle.rb_session.specs.Held.{place_of, AreGiven};
+ghost use Rattle.rb_session.specs.JobMap.{present};
 
+use crate::job_map::{put, put_all, take};
+use indexmap::IndexMap;
+use indexmap::map::IntoValues;
 use rb_queue::{Ask, Reply};
 use rb_retry::{Desk, DeskFault, Job, drain};
 use std::alloc::{AllocError, Global};
@@ -10,29 +14,40 @@ use std::marker::Model;
 /// The greatest number of jobs that a session holds.
 pub const MOST_HELD: usize = 64;
 
-/// The jobs that a session holds, in the order of their fetches, at most 64. Contracts see the elements.
+/// How many entries there may be: as many as jobs may be held, and as many of jobs that ended.
+pub(crate) const MOST_ENTRIES: usize = 2 * MOST_HELD;
+
+/// The jobs that a session holds, by id, in the order of their fetches, at most 64. Contracts see the elements.
 ///
-/// The room for all of them is taken at once, so no fetch can want memory for its job. A job is found by
-/// a walk over those before it, and when it ends, those behind it move up.
+/// The room for all of them is taken at once, so no fetch can want memory for its job.
+///
+/// A map gives the room of an entry back only where at least half of the entries go. So a job that ends leaves its
+/// entry, empty, behind those of the others, until there are as many empty ones as others.
 #[derive(Drop)]
 pub(crate) struct HeldJobs {
-    jobs: Vec<Job>,
+    jobs: IndexMap<u64, Option<Job>>,
+    // How many jobs there are. Behind their entries come empty ones.
+    count: usize,
+    // Empty between calls, with room for all jobs.
+    aside: Vec<Job>,
 }
 
 impl Model for HeldJobs {
-    ghost use Rattle.std.specs.Prelude.{◌≤◌, List, length, vec_capacity};
+    ghost use Rattle.std.specs.Prelude.{◌≡◌, ◌≤◌, List, [], vec_capacity};
     ghost use Rattle.rb_delayed.specs.declared.element.Element.{Element};
     ghost use Rattle.std.specs.Coded.{coded_list};
     ghost use Rattle.rb_delayed.specs.contracts.element.Element.{the_row};
+    ghost use Rattle.rb_session.specs.JobMap.{held_in, AreFiled};
     ghost use Rattle.rb_session.specs.declared.held_jobs.TheConstants.{MOST_HELD};
 
     ghost Value = { List Element };
 
     ghost coded = { coded_list the_row.coded };
 
-    ghost view = { λ held. held.jobs.items };
+    ghost view = { λ held. held_in held.jobs.entries held.count };
 
-    ghost invariant = { λ held. (length held.jobs.items ≤ MOST_HELD) × (MOST_HELD ≤ vec_capacity held.jobs) };
+    ghost invariant = { λ held. AreFiled held.jobs held.count × (held.count ≤ MOST_HELD)
+        × (held.aside.items ≡ []) × (MOST_HELD ≤ vec_capacity held.aside) };
 }
 
 impl HeldJobs {
@@ -40,8 +55,13 @@ impl HeldJobs {
     pub(crate) fn new(alloc: Global) -> Result<Self, AllocError>
         ensures { IfOk result (λ held. held ≡ []) }
     {
-        let jobs = Vec::with_capacity(alloc, MOST_HELD)?;
-        Ok(HeldJobs { jobs })
+        let jobs = IndexMap::with_capacity(alloc, MOST_ENTRIES)?;
+        let aside = Vec::with_capacity(alloc, MOST_HELD)?;
+        Ok(HeldJobs {
+            jobs,
+            count: 0,
+            aside,
+        })
     }
 
     /// How many more may be held.
@@ -49,30 +69,36 @@ impl HeldJobs {
         ensures free { result ≡ MOST_HELD - length self.now }
         ensures few { length self.now ≤ MOST_HELD }
     {
-        MOST_HELD - self.jobs.len()
+        MOST_HELD - self.count
     }
 
     /// The last `count` jobs that were fetched, in their order, or all if there are fewer.
-    pub(crate) fn last(&self, count: usize) -> &[Job]
-        ensures { result.now ≡ drop (length self.now - count) self.now }
+    pub(crate) fn last(&self, count: usize) -> &[Option<Job>]
+        ensures { result.now ≡ map Some (drop (length self.now - count) self.now) }
     {
-        &self.jobs[self.jobs.len().saturating_sub(count)..]
+        let first = self.count.saturating_sub(count);
+        &self.jobs.values().as_slice()[first..self.count]
     }
 
     /// The place of the job of this id, if it is held.
     pub(crate) fn place_of(&self, id: u64) -> Option<usize>
         ensures { result ≡ place_of self.now id }
     {
-        self.jobs.iter().position(|job| job.element().id == id)
+        match self.jobs.get_index_of(&id) {
+            Some(place) if place < self.count => Some(place),
+            _ => None,
+        }
     }
 
-    /// Holds a job after the others.
+    /// Holds a job after the others. Its id is not held.
     #[inline(always)]
     pub(crate) fn hold(&mut self, job: Job)
-        requires { length self.old < MOST_HELD }
+        requires few { length self.old < MOST_HELD }
+        requires new { place_of self.old job.id ≡ None }
         ensures { self.new ≡ self.old ++ job ∷ [] }
     {
-        self.jobs.push_reserved(job);
+        put(&mut self.jobs, self.count, self.count, job);
+        self.count += 1;
     }
 
     /// Takes out the job at this place.
@@ -82,17 +108,22 @@ impl HeldJobs {
         ensures job { slice_get self.old place ≡ Some result }
         ensures rest { self.new ≡ remove self.old place }
         ensures few { length self.new < MOST_HELD }
+        ensures gone { place_of self.new result.id ≡ None }
     {
-        self.jobs.remove(place)
+        let job = take(&mut self.jobs, self.count, place);
+        self.count -= 1;
+        job
     }
 
     /// Puts a job back to the place from which it was taken out.
     pub(crate) fn put_back(&mut self, place: usize, job: Job)
         requires within { place ≤ length self.old }
         requires few { length self.old < MOST_HELD }
+        requires new { place_of self.old job.id ≡ None }
         ensures { self.new ≡ insert self.old place job }
     {
-        self.jobs.insert(place, job).unwrap();
+        put(&mut self.jobs, self.count, place, job);
+        self.count += 1;
     }
 
     /// Fetches at most `max` expired elements, and holds them after the others.
@@ -103,20 +134,29 @@ impl HeldJobs {
         max: u64,
     ) -> Result<(), DeskFault>
         requires few { length self.old + max ≤ MOST_HELD }
+        requires given { AreGiven (D.mine (D.state desk.old)) self.old }
         ensures { MatchResult result
             (λ _. (items : List Element) × (self.new ≡ self.old ++ items)
             × D.Steps (D.state desk.old) asked (Ask.Drain max) (Ok (Reply.Drained items)) (D.state desk.new))
             (λ fault. (self.new ≡ self.old)
             × D.Steps (D.state desk.old) asked (Ask.Drain max) (Err fault) (D.state desk.new)) }
     {
-        drain(desk, asked, max, &mut self.jobs)
+        drain(desk, asked, max, &mut self.aside)?;
+        self.count = put_all(&mut self.jobs, self.count, &mut self.aside);
+        Ok(())
     }
 
-    /// The jobs as a vector, in the order of their fetches.
-    pub(crate) fn into_vec(self) -> Vec<Job>
-        ensures jobs { result.items ≡ self }
+    /// The jobs by value, in the order of their fetches.
+    pub(crate) fn into_values(self) -> IntoValues<u64, Option<Job>>
+        ensures jobs { result ≡ map Some self }
         ensures few { length self ≤ MOST_HELD }
     {
-        self.jobs
+        let HeldJobs {
+            mut jobs,
+            count,
+            ..
+        } = self;
+        jobs.truncate(count);
+        jobs.into_values()
     }
 }

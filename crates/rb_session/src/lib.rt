@@ -12,6 +12,7 @@ mod fetches;
 mod hands_on;
 mod held_job_ends;
 mod held_jobs;
+mod job_map;
 mod laws;
 mod line_buffer;
 mod outlet;

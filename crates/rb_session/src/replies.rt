@@ -24,7 +24,9 @@ pub(crate) fn send_replies<W: Write>(
     outlet.send(reply)?;
     if let LineReply::Drained(count) = reply {
         for job in held.last(*count as usize) {
-            outlet.send(&LineReply::Item(*job.element()))?;
+            if let Some(job) = job {
+                outlet.send(&LineReply::Item(*job.element()))?;
+            }
         }
     }
     outlet.after_replies()

@@ -54,6 +54,7 @@ impl Session {
         policy: &Policy,
     ) -> Result<Stop, WriteFault>
         requires fresh { IsUnserved self.old.buffer [] }
+        requires none { self.old.held ≡ [] }
         ensures stops { Exchanges
             (R.remaining reader.old.inner.now) (R.remaining reader.new.inner.now)
             (sent_to W.Write outlet.old) (sent_to W.Write outlet.new)

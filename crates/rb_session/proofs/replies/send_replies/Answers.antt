@@ -1,6 +1,6 @@
 -- The reply's first line is sent, and only behind a drain's come others: the last jobs held.
 use Rattle.std.proofs.Common.{◌≡◌, ℕ, ◌+◌, ◌-◌, ◌<◌, List, [], ◌∷◌, ◌++◌, refl, sym, ap, subst, ◌∙◌, map, take, drop, length}
-use Rattle.std.proofs.Common.{get_or, append_assoc, arith}
+use Rattle.std.proofs.Common.{get_or, append_assoc, arith, Option, Some, None}
 use Rattle.std.proofs.lemmas.List.{take_more, take_all, take-append-drop, map-append, append-nil}
 use Rattle.std.proofs.KnownBytes.{Appends-trans}
 use Rattle.std.specs.Io.KnownBytes.{Appends}
@@ -9,13 +9,15 @@ use Rattle.rb_protocol.specs.ReplyText.{text_of}
 use Rattle.rb_protocol.specs.declared.line_reply.LineReply.{LineReply}
 use Rattle.rb_protocol.specs.declared.line_reply.LineReply.TheVariants as lines
 use Rattle.rb_protocol.proofs.Sending.{sends_all, sends_then, sends_part}
+use Rattle.rb_session.specs.JobMap.{present}
 use Rattle.rb_session.specs.Outlet.{sent_to}
 use Rattle.rb_session.specs.Progress.{replies_of}
 use Rattle.rb_session.specs.Session.{texts_of}
 use Rattle.rb_session.proofs.Gatherings.{goes_on}
+use Rattle.rb_session.proofs.JobMaps.{present_some, present-append}
 use Rattle.rb_session.proofs.ReplyTexts.{texts_of-append}
 use Rattle.rb_session.proofs.replies.send_replies.Goals as goal
-use Rattle.rb_session.proofs.replies.send_replies.Goals.{in-Drained+else-loop-job-test, in_default}
+use Rattle.rb_session.proofs.replies.send_replies.Goals.{in-Drained+else-loop-job-test, in_default, in-Some+in_ok-send-2, in_default-job}
 
 -- what comes behind the first line of a reply: nothing, if it is not a drain's
 rest_of : (reply : LineReply) (held : List Element) → (rest : List ℕ)
@@ -38,40 +40,55 @@ rest_of lines.Stopped held = ([], refl, λ other. refl)
 rest_of lines.Bye held = ([], refl, λ other. refl)
 rest_of (lines.Err word) held = ([], refl, λ other. refl)
 
-abbrev items_text : List Element → List ℕ
-items_text items = texts_of (map lines.Item items)
+abbrev items_text : List (Option Element) → List ℕ
+items_text items = texts_of (map lines.Item (present items))
 
 -- behind a drain's first line come those of the items
-drained : (reply : LineReply) (held items : List Element) (count : ℕ) → reply ≡ lines.Drained count
-    → items ≡ drop (length held - count) held
+drained : (reply : LineReply) (held : List Element) (items : List (Option Element)) (count : ℕ)
+    → reply ≡ lines.Drained count → items ≡ map (λ element. Some element) (drop (length held - count) held)
     → texts_of (replies_of reply held) ≡ text_of reply ++ items_text items
 drained reply held items count is last =
+    let some = present_some (drop (length held - count) held) in
     subst (λ (r : LineReply). texts_of (replies_of r held) ≡ text_of r ++ items_text items) (sym is)
-    (ap (λ (elements : List Element). text_of (lines.Drained count) ++ items_text elements) (sym last))
+    (ap (λ (elements : List Element). text_of (lines.Drained count) ++ texts_of (map lines.Item elements))
+    (sym (ap present last ∙ some)))
 
-items_text-append : (one two : List Element) → items_text (one ++ two) ≡ items_text one ++ items_text two
+items_text-append : (one two : List (Option Element)) → items_text (one ++ two) ≡ items_text one ++ items_text two
 items_text-append one two =
-    ap texts_of (map-append lines.Item one two) ∙ texts_of-append (map lines.Item one) (map lines.Item two)
+    ap (λ (elements : List Element). texts_of (map lines.Item elements)) (present-append one two)
+    ∙ ap texts_of (map-append lines.Item (present one) (present two))
+    ∙ texts_of-append (map lines.Item (present one)) (map lines.Item (present two))
 
-module _ (items : List Element) (place : ℕ) (item : Element) (within : place < length items)
+module _ (items : List (Option Element)) (place : ℕ) (item : Option Element) (within : place < length items)
     (is : item ≡ get_or items place item) where
   -- the text of the first items, and of one more
-  text_more : items_text (take (place + 1) items) ≡ items_text (take place items) ++ text_of (lines.Item item)
+  text_more : items_text (take (place + 1) items) ≡ items_text (take place items) ++ items_text (item ∷ [])
   text_more =
       ap items_text (take_more items place item within
-      ∙ ap (λ (e : Element). take place items ++ e ∷ []) (sym is))
+      ∙ ap (λ (e : Option Element). take place items ++ e ∷ []) (sym is))
       ∙ items_text-append (take place items) (item ∷ [])
-      ∙ ap (λ (t : List ℕ). items_text (take place items) ++ t) (append-nil (text_of (lines.Item item)))
 
-  -- all text is that of the first items, the next one's, and what follows
-  text_split : items_text items ≡ items_text (take place items) ++ (text_of (lines.Item item) ++ items_text
-      (drop (place + 1) items))
-  text_split =
-      sym (ap items_text (take-append-drop (place + 1) items))
-      ∙ items_text-append (take (place + 1) items) (drop (place + 1) items)
-      ∙ ap (λ (t : List ℕ). t ++ items_text (drop (place + 1) items)) text_more
-      ∙ append_assoc (items_text (take place items)) (text_of (lines.Item item))
-      (items_text (drop (place + 1) items))
+  -- an empty one adds none
+  text_same : item ≡ None → items_text (take (place + 1) items) ≡ items_text (take place items)
+  text_same none = text_more ∙ ap (λ (e : Option Element). items_text (take place items) ++ items_text (e ∷ [])) none
+      ∙ append-nil (items_text (take place items))
+
+  module _ (element : Element) (some : item ≡ Some element) where
+    -- one with a job adds its line
+    text_longer : items_text (take (place + 1) items) ≡ items_text (take place items) ++ text_of (lines.Item element)
+    text_longer =
+        text_more ∙ ap (λ (e : Option Element). items_text (take place items) ++ items_text (e ∷ [])) some
+        ∙ ap (λ (t : List ℕ). items_text (take place items) ++ t) (append-nil (text_of (lines.Item element)))
+
+    -- all text is that of the first items, the next one's, and what follows
+    text_split : items_text items ≡ items_text (take place items) ++ (text_of (lines.Item element) ++ items_text
+        (drop (place + 1) items))
+    text_split =
+        sym (ap items_text (take-append-drop (place + 1) items))
+        ∙ items_text-append (take (place + 1) items) (drop (place + 1) items)
+        ∙ ap (λ (t : List ℕ). t ++ items_text (drop (place + 1) items)) text_longer
+        ∙ append_assoc (items_text (take place items)) (text_of (lines.Item element))
+        (items_text (drop (place + 1) items))
 
 pub returns-in_err-send-clause-sent : goal.returns-in_err-send-clause-sent
 returns-in_err-send-clause-sent g c =
@@ -85,35 +102,46 @@ returns-in_err-send-2-clause-sent g c =
     let first = text_of c.args.reply.now in
     let at = c.loop-job.job-index in
     let failed = subst (λ (e : Element). (some : List ℕ) × (unsent : List ℕ) × (text_of (lines.Item e) ≡ some ++ unsent)
-    × Appends (sent_to g.W.Write c.loop-job.outlet) (sent_to g.W.Write c.send-in-loop-job.new.self) some)
+    × Appends (sent_to g.W.Write c.loop-job.outlet) (sent_to g.W.Write c.send-in-Some.new.self) some)
     c.element.ensures c.in_err-send-2.ensures.sent in
     rw (drained c.args.reply.now c.args.held.now items c.in-Drained.count c.in-Drained.is c.last-job-items.ensures
-    ∙ ap (λ (t : List ℕ). first ++ t) (text_split items at c.job-item.result c.loop-job-test.true c.job-item.is)
+    ∙ ap (λ (t : List ℕ). first ++ t) (text_split items at c.job-item.result c.loop-job-test.true c.job-item.is
+    c.in-Some.job c.in-Some.is)
     ∙ sym (append_assoc first (items_text (take at items)) _))
     (sends_then c.from_residual-in_err-send-2.result _ _ _ (first ++ items_text (take at items)) _
     c.loop-job.invariant.sent
-    (sends_part c.from_residual-in_err-send-2.result _ _ (text_of (lines.Item c.job-item.result)) _
+    (sends_part c.from_residual-in_err-send-2.result _ _ (text_of (lines.Item c.in-Some.job)) _
     c.from_residual-in_err-send-2.ensures.0 failed))
 
 pub returns-in_err-send-2-clause-becomes : goal.returns-in_err-send-2-clause-becomes
 returns-in_err-send-2-clause-becomes g c =
-    goes_on g.W.Write _ _ _ c.loop-job.invariant.becomes c.send-in-loop-job.ensures.becomes
+    goes_on g.W.Write _ _ _ c.loop-job.invariant.becomes c.send-in-Some.ensures.becomes
 
 pub loop-job-preserved : goal.loop-job-preserved
 loop-job-preserved g c =
     let items = c.last-job-items.result.now in
     let first = text_of c.args.reply.now in
-    let at = c.loop-job.job-index in
-    let more = subst (λ (e : Element). Appends (sent_to g.W.Write c.loop-job.outlet)
-    (sent_to g.W.Write c.send-in-loop-job.new.self) (text_of (lines.Item e))) c.element.ensures
-    c.in_ok-send-2.ensures.sent in record {
-      sent = subst (Appends _ _)
-          (append_assoc first (items_text (take at items)) (text_of (lines.Item c.job-item.result))
-          ∙ ap (λ (t : List ℕ). first ++ t)
-          (sym (text_more items at c.job-item.result c.loop-job-test.true c.job-item.is)))
-          (Appends-trans _ _ _ _ _ c.loop-job.invariant.sent more);
-      becomes = goes_on g.W.Write _ _ _ c.loop-job.invariant.becomes c.send-in-loop-job.ensures.becomes;
-    }
+    let at = c.loop-job.job-index in elim c.match-job.branch [
+      | in-Some+in_ok-send-2 w ↦
+          let more = subst (λ (e : Element). Appends (sent_to g.W.Write c.loop-job.outlet)
+          (sent_to g.W.Write w.send-in-Some.new.self) (text_of (lines.Item e))) w.element.ensures
+          w.in_ok-send-2.ensures.sent in record {
+            sent = rw w.outlet-is
+                (subst (Appends _ _)
+                (append_assoc first (items_text (take at items)) (text_of (lines.Item w.in-Some.job))
+                ∙ ap (λ (t : List ℕ). first ++ t) (sym (text_longer items at c.job-item.result c.loop-job-test.true
+                c.job-item.is w.in-Some.job w.in-Some.is)))
+                (Appends-trans _ _ _ _ _ c.loop-job.invariant.sent more));
+            becomes = rw w.outlet-is
+                (goes_on g.W.Write _ _ _ c.loop-job.invariant.becomes w.send-in-Some.ensures.becomes);
+          }
+      | in_default-job w ↦ record {
+        sent = rw w.outlet-is
+            (subst (Appends _ _) (ap (λ (t : List ℕ). first ++ t) (sym (text_same items at c.job-item.result
+            c.loop-job-test.true c.job-item.is w.in_default-job.is))) c.loop-job.invariant.sent);
+        becomes = rw w.outlet-is c.loop-job.invariant.becomes;
+      }
+    ]
 
 pub returns-clause-sent : goal.returns-clause-sent
 returns-clause-sent g c = elim c.match-reply.branch [
@@ -122,7 +150,7 @@ returns-clause-sent g c = elim c.match-reply.branch [
       let first = text_of c.args.reply.now in
       let all : take w.loop-job.job-index items ≡ items =
       take_all w.loop-job.job-index items (omega (arith, w.loop-job-test.false)) in
-      let sent = subst (λ (es : List Element). Appends (sent_to g.W.Write c.args.outlet.now)
+      let sent = subst (λ (es : List (Option Element)). Appends (sent_to g.W.Write c.args.outlet.now)
       (sent_to g.W.Write w.loop-job.outlet) (first ++ items_text es)) all w.loop-job.invariant.sent in
       rw (drained c.args.reply.now c.args.held.now items w.in-Drained.count w.in-Drained.is w.last-job-items.ensures)
       (sends_all c.after_replies.result _ _ _ _ (rw w.outlet-is sent) c.after_replies.ensures.kept)

@@ -3,6 +3,7 @@ use Rattle.std.proofs.Common.{◌++◌, map, take}
 use Rattle.std.specs.Io.KnownBytes.{Appends}
 use Rattle.rb_protocol.specs.ReplyText.{text_of}
 use Rattle.rb_protocol.specs.declared.line_reply.LineReply.TheVariants as lines
+use Rattle.rb_session.specs.JobMap.{present}
 use Rattle.rb_session.specs.Session.{texts_of}
 use Rattle.rb_session.specs.Outlet.{sent_to, Becomes}
 use Rattle.rb_session.proofs.replies.send_replies.Given as goal
@@ -10,6 +11,6 @@ use Rattle.rb_session.proofs.replies.send_replies.Given as goal
 abbrev pub invariant-loop-job : goal.invariant-loop-job
 invariant-loop-job g l = record {
   sent : Appends (sent_to g.W.Write l.fn.outlet) (sent_to g.W.Write l.outlet)
-      (text_of l.reply ++ texts_of (map lines.Item (take l.job-index l.job-items)));
+      (text_of l.reply ++ texts_of (map lines.Item (present (take l.job-index l.job-items))));
   becomes : Becomes g.W.Write l.fn.outlet l.outlet;
 }

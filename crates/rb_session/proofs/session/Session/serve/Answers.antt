@@ -11,6 +11,7 @@ use Rattle.rb_session.specs.Session.{ServesToQuit, texts_of}
 use Rattle.rb_session.specs.Turn.{Point, point, AsksToWait}
 use Rattle.rb_session.specs.declared.delivery.Delivery.{Delivery}
 use Rattle.rb_session.proofs.Gatherings.{goes_on as becomes_on, gets, stays}
+use Rattle.rb_session.proofs.GivenJobs.{given_along}
 use Rattle.rb_session.proofs.LongerExchanges.{exchanges_same, exchanges_more, exchanges_sent}
 use Rattle.rb_session.proofs.Outlets.{gathers, stops_failed, stops_late, fails_to_read, stops_reading}
 use Rattle.rb_session.proofs.Turns.{serves_none, reads_more, goes_on, quits, fails}
@@ -141,6 +142,14 @@ returns-in_err-before_line-clause-stops g c =
 pub returns-in_err-before_line-clause-becomes : goal.returns-in_err-before_line-clause-becomes
 returns-in_err-before_line-clause-becomes g c =
     becomes_on g.W.Write _ _ _ c.loop-reading.invariant.becomes c.before_line.ensures.becomes
+
+-- what is held was given by the desk
+pub answer-reply-requires : goal.answer-reply-requires
+answer-reply-requires g c =
+    let first = c.loop-reading.invariant.served.holds.0 in
+    given_along (desk_rules g.D.Desk c.args.policy.now) g.D.Desk.mine g.met.D.Desk.makes g.met.D.Desk.gives_once
+    g.met.D.Desk.refuses g.met.D.Desk.stays (point (g.D.Desk.state c.args.desk.now) c.args.self.now.held)
+    (point (g.D.Desk.state c.loop-reading.desk) c.loop-reading.self.held) first.turns c.requires.none first.serves
 
 -- a reply could not be sent
 pub returns-in_err-send_replies-clause-stops : goal.returns-in_err-send_replies-clause-stops

@@ -1,0 +1,101 @@
+ghost use Rattle.std.specs.Prelude.{◌≡◌, ◌+◌, ◌-◌, ◌<◌, ◌≤◌, ◌∷◌, ◌++◌, [], None, Some, length, take, insert, remove, slice_get, nat_eq, vec_len, vec_capacity};
+ghost use Rattle.std.specs.Map.{remove_entry};
+ghost use Rattle.indexmap.specs.IndexMap.{index_map_len, spare};
+ghost use Rattle.rb_session.specs.Held.{place_of, AreNew};
+ghost use Rattle.rb_session.specs.JobMap.{filed, held_in, AreFiled};
+ghost use Rattle.rb_session.specs.declared.held_jobs.TheConstants.{MOST_HELD, MOST_ENTRIES};
+
+use indexmap::IndexMap;
+use rb_retry::Job;
+
+/// Puts a job at a place among the first `count` entries, or behind them. Its id is not held.
+#[inline(always)]
+pub(crate) fn put(jobs: &mut IndexMap<u64, Option<Job>>, count: usize, place: usize, job: Job)
+    requires filed { AreFiled jobs.old count }
+    requires few { count < MOST_HELD }
+    requires within { place ≤ count }
+    requires new { place_of (held_in jobs.old.entries count) job.id ≡ None }
+    ensures filed { AreFiled jobs.new (count + 1) }
+    ensures held { held_in jobs.new.entries (count + 1) ≡ insert (held_in jobs.old.entries count) place job }
+{
+    let at = file(jobs, job);
+    jobs.move_index(at, place);
+}
+
+/// Puts all these jobs behind the first `count` entries, in their order, and returns how many there are then.
+pub(crate) fn put_all(
+    jobs: &mut IndexMap<u64, Option<Job>>,
+    count: usize,
+    fetched: &mut Vec<Job>,
+) -> usize
+    requires filed { AreFiled jobs.old count }
+    requires few { count + vec_len fetched.old ≤ MOST_HELD }
+    requires new { AreNew (held_in jobs.old.entries count) fetched.old.items }
+    ensures filed { AreFiled jobs.new result }
+    ensures few { result ≤ MOST_HELD }
+    ensures held { held_in jobs.new.entries result ≡ held_in jobs.old.entries count ++ fetched.old.items }
+    ensures empty { fetched.new.items ≡ [] }
+    ensures capacity { vec_capacity fetched.new ≡ vec_capacity fetched.old }
+{
+    let mut count = count;
+    fetched.reverse();
+    while let Some(job) = fetched.pop() {
+        put(jobs, count, count, job);
+        count += 1;
+    }
+    count
+}
+
+/// Takes the job at a place out of the first `count` entries. Its entry is empty then, and comes behind those of the
+/// others.
+#[inline(always)]
+pub(crate) fn take(jobs: &mut IndexMap<u64, Option<Job>>, count: usize, place: usize) -> Job
+    requires filed { AreFiled jobs.old count }
+    requires within { place < count }
+    ensures filed { AreFiled jobs.new (count - 1) }
+    ensures job { slice_get (held_in jobs.old.entries count) place ≡ Some result }
+    ensures held { held_in jobs.new.entries (count - 1) ≡ remove (held_in jobs.old.entries count) place }
+    ensures gone { place_of (held_in jobs.new.entries (count - 1)) result.id ≡ None }
+{
+    let last = count - 1;
+    jobs.move_index(place, last);
+    let job = jobs[last].take().unwrap();
+    drop_ended(jobs, last);
+    job
+}
+
+// Drops the entries behind the first `count`, if they are at least half of all. So the map has their room again.
+fn drop_ended(jobs: &mut IndexMap<u64, Option<Job>>, count: usize)
+    requires first { take count jobs.old.entries ≡ filed (held_in jobs.old.entries count) }
+    requires counted { length (held_in jobs.old.entries count) ≡ count }
+    requires room { MOST_ENTRIES ≤ index_map_len jobs.old + spare jobs.old }
+    ensures filed { AreFiled jobs.new count }
+    ensures held { held_in jobs.new.entries count ≡ held_in jobs.old.entries count }
+{
+    if count <= jobs.len() / 2 {
+        jobs.truncate(count);
+    }
+}
+
+// Files a job under its id, and returns its index. The other entries keep their order.
+fn file(jobs: &mut IndexMap<u64, Option<Job>>, job: Job) -> usize
+    requires { 0 < spare jobs.old }
+    ensures there { slice_get jobs.new.entries result ≡ Some (job.id, Some job) }
+    ensures others { remove jobs.new.entries result ≡ remove_entry (nat_eq job.id) jobs.old.entries }
+    ensures len { index_map_len jobs.new ≤ index_map_len jobs.old + 1 }
+    ensures room { index_map_len jobs.old + spare jobs.old ≤ index_map_len jobs.new + spare jobs.new }
+{
+    let id = job.element().id;
+    match jobs.get_index_of(&id) {
+        // A job of this id had ended. Its entry is used again.
+        Some(at) => {
+            jobs[at] = Some(job);
+            at
+        }
+        None => {
+            let at = jobs.len();
+            jobs.insert(id, Some(job)).unwrap();
+            at
+        }
+    }
+}
