@@ -196,6 +196,19 @@ filed_insert [] (suc place) element = refl
 filed_insert (first ∷ held) (suc place) element =
     ap (λ (es : List Entry). entry first ∷ es) (filed_insert held place element)
 
+-- an entry that stays in its place
+pub stays_there : (entries : List Entry) (place : ℕ) → move_index entries place place ≡ entries
+stays_there [] place = refl
+stays_there (first ∷ entries) zero = refl
+stays_there (first ∷ entries) (suc place) =
+    behind (slice_get entries place) ∙ ap (λ (es : List Entry). first ∷ es) (stays_there entries place)
+  where
+    behind : (found : Option Entry)
+        → option_map_or (λ (e : Entry). first ∷ insert (remove entries place) place e) found (first ∷ entries)
+        ≡ first ∷ option_map_or (λ (e : Entry). insert (remove entries place) place e) found entries
+    behind None = refl
+    behind (Some e) = refl
+
 -- an entry that moves to a place among the first
 pub moves_in : (entries : List Entry) (held : List Element) (ended : List Entry) (at place : ℕ) (element : Element)
     → slice_get entries at ≡ Some (entry element) → remove entries at ≡ filed held ++ ended → place ≤ length held

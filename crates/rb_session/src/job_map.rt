@@ -1,6 +1,6 @@
 ghost use Rattle.std.specs.Prelude.{◌≡◌, ◌+◌, ◌-◌, ◌<◌, ◌≤◌, ◌∷◌, ◌++◌, [], None, Some, length, take, insert, remove, slice_get, nat_eq, vec_len, vec_capacity};
 ghost use Rattle.std.specs.Map.{remove_entry};
-ghost use Rattle.indexmap.specs.IndexMap.{index_map_len, spare};
+ghost use Rattle.indexmap.specs.IndexMap.{index_map_len, move_index, spare, IsUnique};
 ghost use Rattle.rb_session.specs.Held.{place_of, AreNew};
 ghost use Rattle.rb_session.specs.JobMap.{filed, held_in, AreFiled};
 ghost use Rattle.rb_session.specs.declared.held_jobs.TheConstants.{MOST_HELD, MOST_ENTRIES};
@@ -19,7 +19,7 @@ pub(crate) fn put(jobs: &mut IndexMap<u64, Option<Job>>, count: usize, place: us
     ensures held { held_in jobs.new.entries (count + 1) ≡ insert (held_in jobs.old.entries count) place job }
 {
     let at = file(jobs, job);
-    jobs.move_index(at, place);
+    move_entry(jobs, at, place);
 }
 
 /// Puts all these jobs behind the first `count` entries, in their order, and returns how many there are then.
@@ -58,10 +58,27 @@ pub(crate) fn take(jobs: &mut IndexMap<u64, Option<Job>>, count: usize, place: u
     ensures gone { place_of (held_in jobs.new.entries (count - 1)) result.id ≡ None }
 {
     let last = count - 1;
-    jobs.move_index(place, last);
+    move_entry(jobs, place, last);
     let job = jobs[last].take().unwrap();
     drop_ended(jobs, last);
     job
+}
+
+// Moves an entry, and shifts those in between by one. Most are in their place already.
+#[inline(always)]
+fn move_entry(jobs: &mut IndexMap<u64, Option<Job>>, from: usize, to: usize)
+    requires from_within { from < index_map_len jobs.old }
+    requires to_within { to < index_map_len jobs.old }
+    ensures entries { jobs.new.entries ≡ move_index jobs.old.entries from to }
+    ensures len { index_map_len jobs.new ≡ index_map_len jobs.old }
+    ensures room { spare jobs.new ≡ spare jobs.old }
+    ensures unique { IsUnique nat_eq jobs.new }
+{
+    // The length is what says that the ids are unique.
+    let _len = jobs.len();
+    if from != to {
+        jobs.move_index(from, to);
+    }
 }
 
 // Drops the entries behind the first `count`, if they are at least half of all. So the map has their room again.

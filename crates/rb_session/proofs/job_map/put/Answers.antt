@@ -9,7 +9,7 @@ use Rattle.rb_delayed.specs.declared.element.Element.{Element}
 use Rattle.rb_session.specs.JobMap.{filed, held_in}
 use Rattle.rb_session.proofs.JobMaps.{Entry, entry, moves_in, removes_ended, held_first}
 use Rattle.rb_session.proofs.job_map.put.Goals as goal
-use Rattle.rb_session.proofs.job_map.put.Goals.{After-file-at, After-move_index}
+use Rattle.rb_session.proofs.job_map.put.Goals.{After-file-at, After-move_entry}
 
 abbrev held : After-file-at → List Element
 held c = held_in c.args.jobs.now.entries c.args.count
@@ -27,9 +27,9 @@ others c =
     c.file-at.ensures.others ∙ ap (remove_entry (nat_eq c.args.job.id)) parts
     ∙ removes_ended (held c) (drop c.args.count entries) c.args.job.id c.requires.new
 
-pub move_index-requires-clause-to_in_bounds : goal.move_index-requires-clause-to_in_bounds
-move_index-requires-clause-to_in_bounds c =
-    let on = (goal.at.move_index-requires-clause-to_in_bounds c).After-file-at in
+pub move_entry-requires-clause-to_within : goal.move_entry-requires-clause-to_within
+move_entry-requires-clause-to_within c =
+    let on = (goal.at.move_entry-requires-clause-to_within c).After-file-at in
     omega (
       arith,
       c.requires.within,
@@ -41,18 +41,18 @@ move_index-requires-clause-to_in_bounds c =
           (slice_get_within c.file-at.new.jobs.entries c.file-at.result _ c.file-at.ensures.there),
     )
 
-module _ (c : After-move_index) where
+module _ (c : After-move_entry) where
   abbrev on : After-file-at
-  on = (goal.at.After-move_index c).After-file-at
+  on = (goal.at.After-move_entry c).After-file-at
 
   abbrev more : List Element
   more = insert (held on) c.args.place c.args.job
 
-  first : (take (c.args.count + 1) c.move_index.new.self.entries ≡ filed more)
-      × (held_in c.move_index.new.self.entries (c.args.count + 1) ≡ more)
+  first : (take (c.args.count + 1) c.move_entry.new.jobs.entries ≡ filed more)
+      × (held_in c.move_entry.new.jobs.entries (c.args.count + 1) ≡ more)
   first =
-      held_first more (ended on) c.move_index.new.self.entries (c.args.count + 1)
-      (c.move_index.ensures.entries ∙ moves_in c.file-at.new.jobs.entries (held on) (ended on) c.file-at.result
+      held_first more (ended on) c.move_entry.new.jobs.entries (c.args.count + 1)
+      (c.move_entry.ensures.entries ∙ moves_in c.file-at.new.jobs.entries (held on) (ended on) c.file-at.result
       c.args.place c.args.job c.file-at.ensures.there (others on)
       (omega (arith, c.requires.within, c.requires.filed.counted)))
       (omega (
@@ -64,7 +64,7 @@ module _ (c : After-move_index) where
 
 pub returns-clause-filed : goal.returns-clause-filed
 returns-clause-filed c =
-    let is = first (goal.at.returns-clause-filed c).After-move_index in
+    let is = first (goal.at.returns-clause-filed c).After-move_entry in
     record {
       first = is.0 ∙ ap filed (sym is.1);
       counted = ap length is.1 ∙ omega (
@@ -73,16 +73,16 @@ returns-clause-filed c =
         length-insert (held_in c.args.jobs.now.entries c.args.count) c.args.place c.args.job
             (omega (arith, c.requires.within, c.requires.filed.counted)),
       );
-      few_ended = omega (arith, c.move_index.ensures.reordered.1, c.file-at.ensures.len, c.requires.filed.few_ended);
+      few_ended = omega (arith, c.move_entry.ensures.len, c.file-at.ensures.len, c.requires.filed.few_ended);
       room =
           omega (
             arith,
-            c.move_index.ensures.reordered.1,
-            c.move_index.ensures.same_room,
+            c.move_entry.ensures.len,
+            c.move_entry.ensures.room,
             c.file-at.ensures.room,
             c.requires.filed.room,
           );
     }
 
 pub returns-clause-held : goal.returns-clause-held
-returns-clause-held c = (first (goal.at.returns-clause-held c).After-move_index).1
+returns-clause-held c = (first (goal.at.returns-clause-held c).After-move_entry).1

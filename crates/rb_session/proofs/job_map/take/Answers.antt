@@ -43,17 +43,17 @@ module _ (c : After-take) where
       let one = length-remove held c.args.place (omega (arith, c.requires.within, c.requires.filed.counted)) in
       omega (arith, one, c.requires.filed.counted)
 
-  moved : c.move_index.new.self.entries ≡ filed rest ++ entry at.0 ∷ ended
+  moved : c.move_entry.new.jobs.entries ≡ filed rest ++ entry at.0 ∷ ended
   moved =
       let entries : List Entry = c.args.jobs.now.entries in
       let parts : entries ≡ filed held ++ ended =
       sym (take-append-drop c.args.count entries) ∙ ap (λ (es : List Entry). es ++ ended) c.requires.filed.first in
-      c.move_index.ensures.entries
+      c.move_entry.ensures.entries
       ∙ ap (λ (es : List Entry). move_index es c.args.place (c.args.count - 1)) parts
       ∙ moves_out held ended c.args.place (c.args.count - 1) at.0 at.1
       (omega (arith, c.requires.within, c.requires.filed.counted))
 
-  empty : (set_value_at c.move_index.new.self.entries (c.args.count - 1) c.take.new.self
+  empty : (set_value_at c.move_entry.new.jobs.entries (c.args.count - 1) c.take.new.self
       ≡ filed rest ++ (at.0.id, c.take.new.self) ∷ ended) × (c.take.result ≡ Some at.0)
   empty =
       let last = emptied (filed rest) at.0.id (Some at.0) c.take.new.self ended (c.args.count - 1)
@@ -63,9 +63,9 @@ module _ (c : After-take) where
             ∙ ap (λ (es : List Entry). slice_get (values_of es) (c.args.count - 1)) moved ∙ last.1),
       )
 
-  front : (take (c.args.count - 1) (set_value_at c.move_index.new.self.entries (c.args.count - 1) c.take.new.self)
+  front : (take (c.args.count - 1) (set_value_at c.move_entry.new.jobs.entries (c.args.count - 1) c.take.new.self)
       ≡ filed rest)
-      × (held_in (set_value_at c.move_index.new.self.entries (c.args.count - 1) c.take.new.self) (c.args.count - 1)
+      × (held_in (set_value_at c.move_entry.new.jobs.entries (c.args.count - 1) c.take.new.self) (c.args.count - 1)
       ≡ rest)
   front = held_first rest ((at.0.id, c.take.new.self) ∷ ended) _ (c.args.count - 1) empty.0 shorter
 
@@ -87,9 +87,9 @@ drop_ended-requires-clause-room c =
     omega (
       arith,
       c.requires.filed.room,
-      c.move_index.ensures.reordered.1,
-      c.move_index.ensures.same_room,
-      index_map_len-with_value_at c.move_index.new.self (c.args.count - 1) c.take.new.self,
+      c.move_entry.ensures.len,
+      c.move_entry.ensures.room,
+      index_map_len-with_value_at c.move_entry.new.jobs (c.args.count - 1) c.take.new.self,
     )
 
 -- the job that was taken is the one at the place
@@ -107,7 +107,7 @@ returns-clause-held c = c.drop_ended.ensures.held ∙ (front (goal.at.returns-cl
 pub returns-clause-gone : goal.returns-clause-gone
 returns-clause-gone c =
     let on = (goal.at.returns-clause-gone c).After-take in
-    let apart = subst (λ (es : List Entry). IsDistinct nat_eq (keys_of es)) (moved on) c.move_index.ensures.unique in
+    let apart = subst (λ (es : List Entry). IsDistinct nat_eq (keys_of es)) (moved on) c.move_entry.ensures.unique in
     ap (λ (h : List Element). place_of h c.unwrap-job.result.id) (c.drop_ended.ensures.held ∙ (front on).1)
     ∙ ap (λ (e : Element). place_of (rest on) e.id) (sym (job on c.unwrap-job.result c.unwrap-job.ensures))
     ∙ not_held (rest on) (at on).0.id (absent_before nat_eq_equiv (filed (rest on)) (ended on) (entry (at on).0) apart)
