@@ -4,7 +4,6 @@ use Rattle.std.proofs.Math.Seq.{map-set_same}
 use Rattle.std.proofs.lemmas.Bool.{cases_eq}
 use Rattle.std.proofs.lemmas.List.{map-set, get_or_read}
 use Rattle.rb_wheel.specs.declared.node.Node.{Node}
-use Rattle.rb_wheel.specs.declared.marks.Marks.{Marks}
 use Rattle.rb_wheel.specs.Lists.{Slots}
 use Rattle.rb_wheel.specs.Nodes.{vacant, node_at, expiry_of}
 use Rattle.rb_wheel.specs.WheelLinks.{head_at, cell_in, next_in, previous_in, expiries_of, slots_of, LinksAgree, AreSoundLists}
@@ -35,8 +34,8 @@ module _ (nodes : List Node) (slot : ℕ) (read node : Node) (within : slot < le
       (map-set_same (λ (n : Node). n.cell) nodes slot node vacant (same_cell ∙ ap (λ (n : Node). n.cell) read_is)
       ∙ cells_viewed nodes slots view)
 
-  pub sound_written : (heads : List (Option ℕ)) (marks : Marks) → AreSoundLists heads marks nodes → AreSoundLists heads marks written
-  sound_written heads marks sound =
+  pub sound_written : (heads : List (Option ℕ)) → AreSoundLists heads nodes → AreSoundLists heads written
+  sound_written heads sound =
       let rank = sound.linked.0 in
       let cells : cell_in nodes ≡ cell_in written = λ i s. sym (unchanged (λ n. n.cell) same_cell s) i in
       let nexts : next_in nodes ≡ next_in written = λ i s. sym (unchanged (λ n. n.next) same_next s) i in
@@ -50,7 +49,6 @@ module _ (nodes : List Node) (slot : ℕ) (read node : Node) (within : slot < le
               (subst (λ (next : ℕ → Option ℕ). LinksAgree (head_at heads) (cell_in written) next (previous_in nodes) rank) nexts
               (subst (λ (cell : ℕ → Option ℕ). LinksAgree (head_at heads) cell (next_in nodes) (previous_in nodes) rank) cells sound.linked.1)),
         );
-        marked = sound.marked;
         few_heads = sound.few_heads;
         all_heads = λ some. all (omega arith);
       }

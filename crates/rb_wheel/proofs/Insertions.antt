@@ -1,10 +1,8 @@
 -- The lists after a free slot was put first in one.
-use Rattle.std.proofs.Common.{◌≡◌, ℕ, ◌<◌, ◌≢◌, List, length, set, Option, Some, None, sym, ap, ◌∙◌, refl, ⊎_elim, get_or-set_same, get_or-set_other}
-use Rattle.std.proofs.lemmas.Bool.{cases_eq}
+use Rattle.std.proofs.Common.{◌≡◌, ℕ, ◌<◌, ◌≢◌, List, length, set, Option, Some, None, ap, ◌∙◌, refl, get_or-set_same, get_or-set_other}
 use Rattle.rb_wheel.specs.declared.node.Node.{Node}
 use Rattle.rb_wheel.specs.Nodes.{node_at, with_previous}
 use Rattle.rb_wheel.specs.WheelLinks.{head_at, first_node, with_put, cell_in, next_in, previous_in, AreLinked}
-use Rattle.rb_wheel.specs.Marks.{mark_of}
 use Rattle.rb_wheel.proofs.Linked.{PutsFirst, LinksAgree-put, rank_below}
 use Rattle.rb_wheel.proofs.WrittenLinks.{in_room, with_previous_here, with_previous_other, with_previous_shown, with_put_here, with_put_other}
 
@@ -43,13 +41,3 @@ module _ (heads : List (Option ℕ)) (nodes : List Node) (at slot : ℕ) (rank :
 
   pub AreLinked-insert : AreLinked (set heads at (Some slot)) (with_put heads nodes at slot) (rank_below slot rank)
   AreLinked-insert = LinksAgree-put _ _ _ _ _ _ _ _ at slot rank linked puts
-
--- the marks are right again once the cell's is, where the other heads stay
-pub marks_again : (old_head new_head : ℕ → Option ℕ) (old new : ℕ → ℕ) (at : ℕ)
-    → ((c : ℕ) → old c ≡ mark_of (old_head c)) → ((c : ℕ) → c ≢ at → new_head c ≡ old_head c)
-    → new at ≡ mark_of (new_head at) → ((c : ℕ) → c ≢ at → new c ≡ old c)
-    → (c : ℕ) → new c ≡ mark_of (new_head c)
-marks_again old_head new_head old new at marked heads here elsewhere c = ⊎_elim
-    (λ same. ap new same ∙ here ∙ ap (λ k. mark_of (new_head k)) (sym same))
-    (λ apart. elsewhere c apart ∙ marked c ∙ ap mark_of (sym (heads c apart)))
-    (cases_eq c at)

@@ -1,33 +1,22 @@
 -- Which entries of a wheel are least, and which are due.
-use Rattle.std.proofs.Common.{◌≡◌, ℕ, ◌<◌, ◌≤◌, List, Option, Some, None, IfSome, is_some, sym, ap, ◌∙◌, refl, subst, arith, ⊎_elim, ◌⊎◌, inl, inr}
+use Rattle.std.proofs.Common.{◌≡◌, ℕ, ◌≤◌, List, Option, Some, None, IfSome, sym, ap, ◌∙◌, subst, arith, ⊎_elim, ◌⊎◌}
 use Rattle.std.specs.FinMap as map
 use Rattle.std.specs.Ordering.{nat_cmp}
-use Rattle.std.proofs.lemmas.Option.{none-some, same_Some}
+use Rattle.std.proofs.lemmas.Option.{none-some}
 use Rattle.rb_timer.specs.Content.{Content, IsLeastSlot, IsLeastEntry}
 use Rattle.rb_timer.specs.Slots.{content_of, get-content_of, content_empty}
-use Rattle.rb_wheel.specs.Cells.{IsCellOf}
-use Rattle.rb_wheel.specs.Lists.{cell_at, slot_expiry}
-use Rattle.rb_wheel.specs.Wheel.{LiesRight, IsFirst, early_of, IsWheel}
-use Rattle.rb_wheel.proofs.Linked.{cases_option}
-use Rattle.rb_wheel.proofs.Moves.{entry_at}
+use Rattle.rb_wheel.specs.Lists.{slot_expiry}
+use Rattle.rb_wheel.specs.Wheel.{IsNoEarlier, IsFirst, IsWheel}
+use Rattle.rb_wheel.specs.declared.marks.Marks.{Marks}
 use Rattle.rb_wheel.proofs.Viewed.{if_some}
 
--- what is among the early entries is before the base
-early_before : (base : ℕ) (expiry cell : Option ℕ) (e : ℕ) → LiesRight base expiry cell → early_of expiry cell ≡ Some e
-    → (expiry ≡ Some e) × (e < base)
-early_before base None None e lies is = absurd (none-some e is)
-early_before base (Some expiry) None e lies is = (is, let same = same_Some expiry e is in omega arith)
-early_before base None (Some cell) e lies is = absurd (none-some e is)
-early_before base (Some expiry) (Some cell) e lies is = absurd (none-some e is)
+-- what is no earlier than the first is no earlier than an entry that precedes both
+later_than : (first : Option (ℕ × ℕ)) (now x : ℕ) → IfSome first (λ best. now ≤ best.1) → IsNoEarlier first (Some x) → now ≤ x
+later_than None now x no_worse later = absurd later
+later_than (Some best) now x no_worse later = omega arith
 
--- an entry lies in a cell, or is among the early ones
-in_cell_or_early : (base : ℕ) (expiry cell : Option ℕ) (e : ℕ) → LiesRight base expiry cell → expiry ≡ Some e
-    → ((at : ℕ) × (cell ≡ Some at)) ⊎ (early_of expiry cell ≡ Some e)
-in_cell_or_early base expiry None e lies is = inr is
-in_cell_or_early base expiry (Some cell) e lies is = inl (cell, refl)
-
-module _ (expiries value cells : List (Option ℕ)) (early : Content) (room base len : ℕ) (first : Option (ℕ × ℕ))
-    (wheel : IsWheel expiries cells early room base len first) (same : expiries ≡ value) where
+module _ (expiries value cells : List (Option ℕ)) (early : Content) (room : ℕ) (waiting : Marks) (base len : ℕ) (first : Option (ℕ × ℕ))
+    (wheel : IsWheel expiries cells early room waiting base len first) (same : expiries ≡ value) where
   at_slot : (slot : ℕ) → map.get (content_of value) slot ≡ slot_expiry expiries slot
   at_slot slot = get-content_of value slot ∙ ap (λ es. slot_expiry es slot) (sym same)
 
@@ -35,50 +24,38 @@ module _ (expiries value cells : List (Option ℕ)) (early : Content) (room base
   each_entry : (P : ℕ → Type 0) → ((slot e : ℕ) → slot_expiry expiries slot ≡ Some e → P e) → (slot : ℕ) → IfSome (map.get (content_of value) slot) P
   each_entry P each slot = subst (λ o. IfSome o P) (sym (at_slot slot)) (if_some (slot_expiry expiries slot) P (each slot))
 
-  -- an entry in a cell expires no earlier than the base
-  cell_entry : (slot e at : ℕ) → slot_expiry expiries slot ≡ Some e → cell_at cells slot ≡ Some at → (base ≤ e) × IsCellOf base e at
-  cell_entry slot e at is lies =
-      let it = entry_at base (slot_expiry expiries slot) (cell_at cells slot) at lies (wheel.right.each slot) in
-      let same_expiry : it.at ≡ e = same_Some it.at e (sym it.is ∙ is) in
-      subst (λ x. (base ≤ x) × IsCellOf base x at) same_expiry (it.after, it.in_cell)
+  -- the early timer has only entries of the wheel
+  early_entry : (slot e : ℕ) → map.get early slot ≡ Some e → slot_expiry expiries slot ≡ Some e
+  early_entry slot e is = ⊎_elim (λ there. sym there ∙ is) (λ waits. absurd (none-some e (sym waits.0 ∙ is))) (wheel.stand.each slot)
 
-  -- each entry is early or in a cell
-  where_entry : (slot e : ℕ) → slot_expiry expiries slot ≡ Some e → ((at : ℕ) × (cell_at cells slot ≡ Some at)) ⊎ (map.get early slot ≡ Some e)
-  where_entry slot e is = ⊎_elim (λ lies. inl lies)
-      (λ is_early. inr (wheel.early_entries slot ∙ is_early))
-      (in_cell_or_early base (slot_expiry expiries slot) (cell_at cells slot) e (wheel.right.each slot) is)
+  -- the earlier one of its least and the first is the least of all
+  pub least_both : (entry now : ℕ × ℕ) → IsLeastSlot early entry.0 entry.1 → now.1 ≤ entry.1 → IfSome first (λ best. now.1 ≤ best.1)
+      → (now ≡ entry) ⊎ (first ≡ Some now) → IsLeastSlot (content_of value) now.0 now.1
+  least_both entry now least no_later no_worse either = record {
+    present = at_slot now.0 ∙ ⊎_elim
+        (λ is. subst (λ (x : ℕ × ℕ). slot_expiry expiries x.0 ≡ Some x.1) (sym is) (early_entry entry.0 entry.1 least.present))
+        (λ is. subst (λ o. IfSome o (λ (x : ℕ × ℕ). slot_expiry expiries x.0 ≡ Some x.1)) is wheel.is_first.expires)
+        either;
+    least = each_entry (λ x. now.1 ≤ x) (λ other x is. ⊎_elim
+        (λ there. let later = subst (λ o. IfSome o (λ another. entry.1 ≤ another)) (there ∙ is) (least.least other) in omega arith)
+        (λ later. later_than first now.1 x no_worse (subst (IsNoEarlier first) is later))
+        (wheel.is_first.others other));
+  }
 
-  early_entry : (slot e : ℕ) → map.get early slot ≡ Some e → (slot_expiry expiries slot ≡ Some e) × (e < base)
-  early_entry slot e is =
-      early_before base (slot_expiry expiries slot) (cell_at cells slot) e (wheel.right.each slot) (sym (wheel.early_entries slot) ∙ is)
-
-  -- the least of the early entries is the least of all
-  pub least_early : (slot e : ℕ) → IsLeastSlot early slot e → IsLeastSlot (content_of value) slot e
-  least_early slot e least =
-      let here = early_entry slot e least.present in
-      record {
-        present = at_slot slot ∙ here.0;
-        least = each_entry (λ x. e ≤ x) (λ other x is. ⊎_elim
-            (λ lies. let low = here.1 in let high = (cell_entry other x lies.0 is lies.1).0 in omega arith)
-            (λ is_early. subst (λ o. IfSome o (λ another. e ≤ another)) is_early (least.least other))
-            (where_entry other x is));
-      }
-
-  -- no entry is early
+  -- if it has none, the first is the least of all
   module _ (no_early : early ≡ map.empty) where
-    in_cell : (slot e : ℕ) → slot_expiry expiries slot ≡ Some e → (at : ℕ) × (cell_at cells slot ≡ Some at)
-    in_cell slot e is = ⊎_elim (λ lies. lies)
-        (λ is_early. absurd (none-some e (sym (ap (λ m. map.get m slot) no_early ∙ map.get-empty nat_cmp slot) ∙ is_early)))
-        (where_entry slot e is)
+    none_there : (slot : ℕ) → map.get early slot ≡ None
+    none_there slot = ap (λ m. map.get m slot) no_early ∙ map.get-empty nat_cmp slot
 
-    -- then the first of those in cells is the least of all
-    least_is : (entry : Option (ℕ × ℕ)) → IsFirst expiries cells entry → IsLeastEntry (content_of value) entry
-    least_is None none = content_empty value (λ slot. cases_option (slot_expiry value slot ≡ None) (slot_expiry value slot) (λ is. is)
-        (λ e is. let lies = in_cell slot e (ap (λ es. slot_expiry es slot) same ∙ is) in absurd (none-some lies.0 (sym (none slot) ∙ lies.1))))
-    least_is (Some entry) least = record {
-      present = at_slot entry.0 ∙ least.expires;
-      least = each_entry (λ x. entry.1 ≤ x) (λ other x is.
-          subst (λ o. IfSome o (λ another. entry.1 ≤ another)) is (least.least other (ap is_some (in_cell other x is).1)));
+    least_is : (entry : Option (ℕ × ℕ)) → IsFirst expiries early entry → IsLeastEntry (content_of value) entry
+    least_is None none = content_empty value (λ slot. ap (λ es. slot_expiry es slot) (sym same)
+        ∙ ⊎_elim (λ there. sym there ∙ none_there slot) (λ later. absurd later) (none.others slot))
+    least_is (Some entry) is_first = record {
+      present = at_slot entry.0 ∙ is_first.expires;
+      least = each_entry (λ x. entry.1 ≤ x) (λ other x is. ⊎_elim
+          (λ there. absurd (none-some x (sym (none_there other) ∙ there ∙ is)))
+          (λ later. subst (IsNoEarlier (Some entry)) is later)
+          (is_first.others other));
     }
 
     pub least_first : IsLeastEntry (content_of value) first

@@ -1,9 +1,8 @@
--- The least expiry of a cell, as far as a walk over it has come.
+-- What is known of a cell's slots, as far as a walk over it has come.
 use Rattle.std.proofs.Common.{◌≡◌, ℕ, ◌<◌, ◌≤◌, List, length, Option, Some, None, IfSome, MatchOption, sym, ◌∙◌, subst, arith, ⊎_elim, ◌⊎◌, inl, inr}
 use Rattle.rb_wheel.specs.Lists.{Slots, cell_at, slot_expiry, IsVacant, IsLeastIn}
 use Rattle.std.proofs.lemmas.Option.{IfSome_then}
 use Rattle.rb_wheel.specs.declared.node.Node.{Node}
-use Rattle.rb_wheel.specs.declared.marks.Marks.{Marks}
 use Rattle.rb_wheel.specs.WheelLinks.{head_at, next_in, slots_of, AreSoundLists}
 use Rattle.rb_wheel.proofs.HeldCells.{holds}
 use Rattle.rb_wheel.proofs.Members.{Reaches, met, left, left-next}
@@ -21,25 +20,66 @@ pub record IsEntryOf (cells expiries : List (Option ℕ)) (at : ℕ) (best : ℕ
   pub lies : cell_at cells best.0 ≡ Some at
   pub expires : slot_expiry expiries best.0 ≡ Some best.1
 
-pub record IsLeastSoFar (cells expiries : List (Option ℕ)) (at : ℕ) (next : ℕ → Option ℕ) (cursor : Option ℕ) (best : Option (ℕ × ℕ)) : Type 0 where
+-- each slot of the cell is met, so that P holds of it, or is still to come
+pub record IsOnWay (cells : List (Option ℕ)) (at : ℕ) (next : ℕ → Option ℕ) (cursor : Option ℕ) (P : ℕ → Type 0) : Type 0 where
   pub comes : IfSome cursor (λ slot. cell_at cells slot ≡ Some at)
-  pub best_is : IfSome best (IsEntryOf cells expiries at)
-  pub each : (slot : ℕ) → cell_at cells slot ≡ Some at → IsPassed expiries best slot ⊎ Reaches next cursor slot
+  pub each : (slot : ℕ) → cell_at cells slot ≡ Some at → P slot ⊎ Reaches next cursor slot
 
-module _ (heads : List (Option ℕ)) (marks : Marks) (nodes : List Node) (slots : Slots) (at : ℕ)
-    (sound : AreSoundLists heads marks nodes) (view : slots_of nodes ≡ slots) where
+pub record IsLeastSoFar (cells expiries : List (Option ℕ)) (at : ℕ) (next : ℕ → Option ℕ) (cursor : Option ℕ) (best : Option (ℕ × ℕ)) : Type 0 where
+  pub way : IsOnWay cells at next cursor (IsPassed expiries best)
+  pub best_is : IfSome best (IsEntryOf cells expiries at)
+
+module _ (heads : List (Option ℕ)) (nodes : List Node) (slots : Slots) (at : ℕ)
+    (sound : AreSoundLists heads nodes) (view : slots_of nodes ≡ slots) where
   abbrev next : ℕ → Option ℕ
   next = next_in nodes
 
-  pub so_far_none : (cursor : Option ℕ) → cursor ≡ head_at heads at → IsLeastSoFar slots.cells slots.expiries at next cursor None
-  so_far_none cursor is = record {
+  pub way_begins : (P : ℕ → Type 0) (cursor : Option ℕ) → cursor ≡ head_at heads at → IsOnWay slots.cells at next cursor P
+  way_begins P cursor is = record {
     comes = if_some cursor (λ slot. cell_at slots.cells slot ≡ Some at)
-        (λ slot first. holds heads marks nodes slots sound view at slot (sym is ∙ first));
-    best_is = tt;
+        (λ slot first. holds heads nodes slots sound view at slot (sym is ∙ first));
     each = λ slot lies.
         let met = met _ _ _ _ sound.linked.0 sound.linked.1 at slot (sym (cell_at-viewed nodes slots view slot) ∙ lies) in
         inr (subst (λ from. Reaches next from slot) (sym (is ∙ met.heads)) met.way);
   }
+
+  not_reached : (slot : ℕ) → Reaches next None slot → ⊥
+  not_reached slot way = elim way [ ]
+
+  module _ (P : ℕ → Type 0) (cursor : Option ℕ) (way : IsOnWay slots.cells at next cursor P) where
+    -- where no slot is still to come, P holds of each
+    pub way_ends : cursor ≡ None → (slot : ℕ) → cell_at slots.cells slot ≡ Some at → P slot
+    way_ends ended slot lies = ⊎_elim (λ met. met)
+        (λ to_come. absurd (not_reached slot (subst (λ o. Reaches next o slot) ended to_come))) (way.each slot lies)
+
+    module _ (slot : ℕ) (is : cursor ≡ Some slot) where
+      pub lies_on_way : cell_at slots.cells slot ≡ Some at
+      lies_on_way = subst (λ o. IfSome o (λ s. cell_at slots.cells s ≡ Some at)) is way.comes
+
+      -- the slot has a node
+      pub on_way_low : slot < length nodes
+      on_way_low = in_room nodes slot at (sym (cell_at-viewed nodes slots view slot) ∙ lies_on_way)
+
+      module _ (Q : ℕ → Type 0) (after : Option ℕ) (goes : after ≡ next slot) (met_here : Q slot) (still : (other : ℕ) → P other → Q other) where
+        passes : (other : ℕ) → Reaches next (Some slot) other → Q other ⊎ Reaches next (next slot) other
+        passes other here = inl met_here
+        passes other (later on) = inr on
+
+        pub way_goes : IsOnWay slots.cells at next after Q
+        way_goes = record {
+          comes = if_some after (λ s. cell_at slots.cells s ≡ Some at)
+              (λ s follows. cell_at-viewed nodes slots view s ∙ sound.linked.1.next_cell slot s (sym goes ∙ follows)
+              ∙ sym (cell_at-viewed nodes slots view slot) ∙ lies_on_way);
+          each = λ other lies. ⊎_elim
+              (λ met. inl (still other met))
+              (λ to_come. ⊎_elim (λ met. inl met)
+              (λ further. inr (subst (λ o. Reaches next o other) (sym goes) further))
+              (passes other (subst (λ o. Reaches next o other) is to_come)))
+              (way.each other lies);
+        }
+
+  pub so_far_none : (cursor : Option ℕ) → cursor ≡ head_at heads at → IsLeastSoFar slots.cells slots.expiries at next cursor None
+  so_far_none cursor is = record { way = way_begins (IsPassed slots.expiries None) cursor is; best_is = tt }
 
   passed_again : (best : Option (ℕ × ℕ)) (now : ℕ × ℕ) (slot : ℕ) → IfSome best (λ b. now.1 ≤ b.1)
       → IsPassed slots.expiries best slot → IsPassed slots.expiries (Some now) slot
@@ -58,49 +98,26 @@ module _ (heads : List (Option ℕ)) (marks : Marks) (nodes : List Node) (slots 
       (so_far : IsLeastSoFar slots.cells slots.expiries at next cursor best) (is : cursor ≡ Some slot)
       (expires : slot_expiry slots.expiries slot ≡ Some expiry) (no_later : now.1 ≤ expiry)
       (no_worse : IfSome best (λ b. now.1 ≤ b.1)) (either : (now ≡ (slot, expiry)) ⊎ (best ≡ Some now)) where
-    lies_here : cell_at slots.cells slot ≡ Some at
-    lies_here = subst (λ o. IfSome o (λ s. cell_at slots.cells s ≡ Some at)) is so_far.comes
-
-    passes : (other : ℕ) → Reaches next (Some slot) other → IsPassed slots.expiries (Some now) other ⊎ Reaches next (next slot) other
-    passes other here = inl (subst (λ o. IfSome o (λ e. now.1 ≤ e)) (sym expires) no_later)
-    passes other (later way) = inr way
-
     pub so_far_more : (after : Option ℕ) → after ≡ next slot → IsLeastSoFar slots.cells slots.expiries at next after (Some now)
     so_far_more after goes = record {
-      comes = if_some after (λ s. cell_at slots.cells s ≡ Some at)
-          (λ s follows. cell_at-viewed nodes slots view s ∙ sound.linked.1.next_cell slot s (sym goes ∙ follows)
-          ∙ sym (cell_at-viewed nodes slots view slot) ∙ lies_here);
-      best_is = best_among best now (slot, expiry) either so_far.best_is (record { lies = lies_here; expires = expires });
-      each = λ other lies. ⊎_elim
-          (λ passed. inl (passed_again best now other no_worse passed))
-          (λ way. ⊎_elim (λ passed. inl passed)
-          (λ further. inr (subst (λ o. Reaches next o other) (sym goes) further))
-          (passes other (subst (λ o. Reaches next o other) is way)))
-          (so_far.each other lies);
+      way = way_goes (IsPassed slots.expiries best) cursor so_far.way slot is (IsPassed slots.expiries (Some now)) after goes
+          (subst (λ o. IfSome o (λ e. now.1 ≤ e)) (sym expires) no_later)
+          (λ other passed. passed_again best now other no_worse passed);
+      best_is = best_among best now (slot, expiry) either so_far.best_is
+          (record { lies = lies_on_way (IsPassed slots.expiries best) cursor so_far.way slot is; expires = expires });
     }
-
-  not_reached : (slot : ℕ) → Reaches next None slot → ⊥
-  not_reached slot way = elim way [ ]
 
   -- where no slot is still to come, the best is the cell's least
   pub least_found : (cursor : Option ℕ) (best : Option (ℕ × ℕ)) → cursor ≡ None → IsLeastSoFar slots.cells slots.expiries at next cursor best
       → MatchOption best (IsVacant slots.cells at) (λ entry. IsLeastIn slots.cells slots.expiries at entry.0 entry.1)
-  least_found cursor None ended so_far = λ slot lies. ⊎_elim (λ passed. passed)
-      (λ way. not_reached slot (subst (λ o. Reaches next o slot) ended way)) (so_far.each slot lies)
+  least_found cursor None ended so_far = way_ends (IsPassed slots.expiries None) cursor so_far.way ended
   least_found cursor (Some best) ended so_far = record {
     lies = so_far.best_is.lies;
     expires = so_far.best_is.expires;
-    least = λ slot lies. ⊎_elim (λ passed. passed)
-        (λ way. absurd (not_reached slot (subst (λ o. Reaches next o slot) ended way))) (so_far.each slot lies);
+    least = way_ends (IsPassed slots.expiries (Some best)) cursor so_far.way ended;
   }
 
-  -- the slot that is next to be looked at has a node, and with it fewer are left
-  pub cursor_low : (cursor : Option ℕ) (best : Option (ℕ × ℕ)) (slot : ℕ) → IsLeastSoFar slots.cells slots.expiries at next cursor best
-      → cursor ≡ Some slot → slot < length nodes
-  cursor_low cursor best slot so_far is =
-      in_room nodes slot at (sym (cell_at-viewed nodes slots view slot)
-      ∙ subst (λ o. IfSome o (λ s. cell_at slots.cells s ≡ Some at)) is so_far.comes)
-
+  -- fewer slots are left with each
   pub fewer_left : (cursor after : Option ℕ) (slot : ℕ) → slot < length nodes → cursor ≡ Some slot → after ≡ next slot
       → left next (length nodes) after < left next (length nodes) cursor
   fewer_left cursor after slot within is goes =

@@ -1,7 +1,6 @@
 -- The lemmas of this crate, by subject: cells, their lists and marks, and the entries in them.
 pub mod Entries
 pub mod EntryWrites
-pub mod FirstEntries
 pub mod HeldCells
 pub mod HighestBit
 pub mod Insertions

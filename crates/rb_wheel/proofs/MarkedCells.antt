@@ -1,11 +1,13 @@
 -- The mark of a cell in the words of the levels, after one word was written.
-use Rattle.std.proofs.Common.{◌≡◌, ℕ, ◌+◌, ◌*◌, ◌/◌, ◌%◌, ◌^◌, ◌<◌, ◌≤◌, ◌≢◌, List, length, get_or, set, sym, ap, ◌∙◌, arith, ⊎_elim, get_or-set_same, get_or-set_other, w64}
+use Rattle.std.proofs.Common.{◌≡◌, ℕ, zero, suc, refl, ◌+◌, ◌*◌, ◌/◌, ◌%◌, ◌^◌, ◌<◌, ◌≤◌, ◌≢◌, List, length, get_or, set, sym, ap, ◌∙◌, arith, ⊎_elim, get_or-set_same, get_or-set_other, w64}
 use Rattle.std.specs.Int.{bit_at, trailing_zeros, bit_not}
 use Rattle.std.specs.Int.RustNames.{bit_or}
 use lib.Bits.{bit_and}
 use Rattle.std.proofs.lemmas.Bool.{cases_eq, cases_lt}
 use Rattle.std.proofs.lemmas.Nat.Bits.{bit_at_set_same, bit_at_set_other, bit_at_clear_same, bit_at_clear_other, bit_at-zero, bit_at-trailing_zeros}
 use Rattle.rb_wheel.specs.declared.cells.TheConstants.{DIGITS}
+use Rattle.rb_wheel.specs.declared.marks.Marks.{Marks}
+use Rattle.rb_wheel.specs.Marks.{mark_at}
 
 abbrev mark : List ℕ → ℕ → ℕ
 mark words cell = bit_at (get_or words (cell / DIGITS) 0) (cell % DIGITS)
@@ -98,3 +100,34 @@ module _ (words : List ℕ) (level : ℕ) (low : (k : ℕ) → k < level → get
         (cases_lt (other / DIGITS) level))
         (λ after. after)
         (cases_lt other (level * DIGITS + first_digit))
+
+-- how many cells below one are marked
+pub count_marked : Marks → ℕ → ℕ
+count_marked marks zero = 0
+count_marked marks (suc cell) = mark_at marks cell + count_marked marks cell
+
+-- one less is once one of them is not
+module _ (marks new_marks : Marks) (cell : ℕ) (was : mark_at marks cell ≡ 1) (here : mark_at new_marks cell ≡ 0)
+    (elsewhere : (other : ℕ) → other ≢ cell → mark_at new_marks other ≡ mark_at marks other) where
+  count-same : (below : ℕ) → below ≤ cell → count_marked new_marks below ≡ count_marked marks below
+  unfolding count_marked
+  count-same zero low = refl
+  count-same (suc other) low =
+      let same = elsewhere other (omega arith) in
+      let others = count-same other (omega arith) in
+      omega (arith, same, others)
+
+  pub count-less : (below : ℕ) → cell < below → count_marked new_marks below < count_marked marks below
+  unfolding count_marked
+  count-less zero low = absurd (omega arith)
+  count-less (suc other) low = ⊎_elim
+      (λ same.
+      let others = count-same other (omega arith) in
+      let now : mark_at new_marks other ≡ 0 = ap (mark_at new_marks) same ∙ here in
+      let before : mark_at marks other ≡ 1 = ap (mark_at marks) same ∙ was in
+      omega (arith, others, now, before))
+      (λ apart.
+      let same = elsewhere other apart in
+      let others = count-less other (omega arith) in
+      omega (arith, same, others))
+      (cases_eq other cell)

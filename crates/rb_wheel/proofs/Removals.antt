@@ -6,9 +6,6 @@ use Rattle.std.proofs.lemmas.Option.{none-some}
 use Rattle.rb_wheel.specs.declared.node.Node.{Node}
 use Rattle.rb_wheel.specs.Nodes.{vacant, node_at, expiry_of, with_next, with_previous, with_first}
 use Rattle.rb_wheel.specs.WheelLinks.{head_at, cell_in, next_in, previous_in, cells_of, expiries_of, slots_of, AreLinked, AreSoundLists}
-use Rattle.rb_wheel.specs.declared.marks.Marks.{Marks}
-use Rattle.rb_wheel.specs.Marks.{mark_of, mark_with_first}
-use Rattle.rb_wheel.specs.declared.cells.TheConstants.{CELLS}
 use Rattle.rb_wheel.specs.Lists.{Slots, cell_at}
 use Rattle.rb_wheel.proofs.Members.{met}
 use Rattle.rb_wheel.proofs.Viewed.{in_room_viewed, cells_viewed, expiries_viewed, if_some, in_heads_of}
@@ -152,15 +149,9 @@ pub with_first_other : (heads : List (Option ℕ)) (at : ℕ) (previous next : O
 with_first_other heads at None next c apart = get_or-set_other heads at c next None apart
 with_first_other heads at (Some s) next c apart = refl
 
--- and the cell's mark is right
-pub first_marked : (heads : List (Option ℕ)) (at : ℕ) (previous next : Option ℕ) (mark : ℕ) → at < length heads → mark ≡ mark_of (head_at heads at)
-    → mark_with_first previous next mark ≡ mark_of (head_at (with_first heads at previous next) at)
-first_marked heads at None next mark low was = ap mark_of (sym (get_or-set_same heads at next None low))
-first_marked heads at (Some s) next mark low was = was
-
 -- a slot of sound lists is taken out: its node was read, and its cell is known from that
-module _ (heads : List (Option ℕ)) (marks : Marks) (nodes : List Node) (slots : Slots)
-    (slot at : ℕ) (node : Node) (sound : AreSoundLists heads marks nodes) (view : slots_of nodes ≡ slots)
+module _ (heads : List (Option ℕ)) (nodes : List Node) (slots : Slots)
+    (slot at : ℕ) (node : Node) (sound : AreSoundLists heads nodes) (view : slots_of nodes ≡ slots)
     (lies : IsSome (cell_at slots.cells slot)) (reads : node ≡ get_or nodes slot node) (in_cell : node.cell ≡ Some at) where
   node_is : node ≡ node_at nodes slot
   node_is = get_or_read nodes slot node (in_room_viewed nodes slots view slot lies) reads vacant
@@ -172,9 +163,6 @@ module _ (heads : List (Option ℕ)) (marks : Marks) (nodes : List Node) (slots 
   has_head =
       let met = met _ _ _ _ sound.linked.0 sound.linked.1 at slot lies_in in
       in_heads_of heads at met.first met.heads
-
-  pub in_wheel : at < CELLS
-  in_wheel = let low = has_head in let few = sound.few_heads in omega arith
 
   pub next_low : IfSome node.next (λ s. s < length nodes)
   next_low = if_some node.next (λ s. s < length nodes)

@@ -5,8 +5,6 @@ use Rattle.rb_wheel.specs.declared.node.Node.{Node}
 use Rattle.rb_wheel.specs.Nodes.{vacant, node_at}
 use Rattle.std.proofs.lemmas.List.{take_all, length-replicate}
 use Rattle.rb_wheel.specs.declared.cells.TheConstants.{CELLS}
-use Rattle.rb_wheel.specs.declared.marks.Marks.{Marks}
-use Rattle.rb_wheel.specs.Marks.{mark_at, mark_of}
 use Rattle.rb_wheel.specs.WheelLinks.{head_at, cells_of, expiries_of, LinksAgree, AreLinked, AreSoundLists}
 
 -- lists that look the same are linked the same way
@@ -46,17 +44,16 @@ get_or-padded (x ∷ xs) more zero d = refl
 get_or-padded (x ∷ xs) more (suc i) d = get_or-padded xs more i d
 
 -- the lists stay sound where there are heads for all cells, and no slot's node changes
-pub AreSoundLists-reserved : (heads new_heads : List (Option ℕ)) (marks : Marks) (nodes new_nodes : List Node) (pad : ℕ)
+pub AreSoundLists-reserved : (heads new_heads : List (Option ℕ)) (nodes new_nodes : List Node) (pad : ℕ)
     → length heads + pad ≡ CELLS → new_heads ≡ take CELLS heads ++ replicate pad None
-    → ((slot : ℕ) → node_at new_nodes slot ≡ node_at nodes slot) → AreSoundLists heads marks nodes → AreSoundLists new_heads marks new_nodes
-AreSoundLists-reserved heads new_heads marks nodes new_nodes pad fits padded same_nodes sound =
+    → ((slot : ℕ) → node_at new_nodes slot ≡ node_at nodes slot) → AreSoundLists heads nodes → AreSoundLists new_heads new_nodes
+AreSoundLists-reserved heads new_heads nodes new_nodes pad fits padded same_nodes sound =
     let whole : take CELLS heads ≡ heads = take_all CELLS heads sound.few_heads in
     let now : new_heads ≡ heads ++ replicate pad None = padded ∙ ap (λ hs. hs ++ replicate pad None) whole in
     let same_heads = λ (at : ℕ). ap (λ hs. head_at hs at) now ∙ get_or-padded heads pad at None in
     let long : length new_heads ≡ length heads + pad = ap length now ∙ length-append heads (replicate pad None) ∙ ap (λ n. length heads + n) (length-replicate pad None) in
     record {
       linked = (sound.linked.0, AreLinked-same heads new_heads nodes new_nodes sound.linked.0 same_heads same_nodes sound.linked.1);
-      marked = λ at. sound.marked at ∙ ap mark_of (sym (same_heads at));
       few_heads = omega arith;
       all_heads = λ some. omega arith;
     }
@@ -71,10 +68,10 @@ expiries_of-free zero = refl
 expiries_of-free (suc n) = ap (λ expiries. None ∷ expiries) (expiries_of-free n)
 
 -- as many heads and nodes as before, of which none is taken
-pub AreSoundLists-none : (heads new_heads : List (Option ℕ)) (marks new_marks : Marks) (nodes new_nodes : List Node)
+pub AreSoundLists-none : (heads new_heads : List (Option ℕ)) (nodes new_nodes : List Node)
     → new_heads ≡ replicate (length heads) None → new_nodes ≡ replicate (length nodes) vacant
-    → ((at : ℕ) → mark_at new_marks at ≡ 0) → AreSoundLists heads marks nodes → AreSoundLists new_heads new_marks new_nodes
-AreSoundLists-none heads new_heads marks new_marks nodes new_nodes no_heads no_nodes no_marks sound =
+    → AreSoundLists heads nodes → AreSoundLists new_heads new_nodes
+AreSoundLists-none heads new_heads nodes new_nodes no_heads no_nodes sound =
     let none = λ (at : ℕ). ap (λ hs. head_at hs at) no_heads ∙ get_or-padded [] (length heads) at None in
     let heads_long : length new_heads ≡ length heads = ap length no_heads ∙ length-replicate (length heads) None in
     let nodes_long : length new_nodes ≡ length nodes = ap length no_nodes ∙ length-replicate (length nodes) vacant in
@@ -86,7 +83,6 @@ AreSoundLists-none heads new_heads marks new_marks nodes new_nodes no_heads no_n
         AreLinked-none new_heads new_nodes none
             (λ slot. ap (λ ls. node_at ls slot) no_nodes ∙ get_or-padded [] (length nodes) slot vacant),
       );
-      marked = λ at. no_marks at ∙ sym (ap mark_of (none at));
       few_heads = omega arith;
       all_heads = λ some. let enough = all (omega arith) in omega arith;
     }

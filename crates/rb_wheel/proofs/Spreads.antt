@@ -9,7 +9,9 @@ use Rattle.rb_wheel.specs.declared.node.Node.{Node}
 use Rattle.rb_wheel.specs.Cells.{IsCellOf}
 use Rattle.rb_wheel.specs.Lists.{cell_at, slot_expiry, IsVacant}
 use Rattle.rb_wheel.specs.Nodes.{expiry_of}
-use Rattle.rb_wheel.specs.Wheel.{LiesRight, LieRight, MaySpread, SameInCells}
+use Rattle.rb_wheel.specs.Wheel.{LiesRight, LieRight, MaySpread, SameInCells, Waits, StillWait}
+use Rattle.rb_wheel.specs.declared.marks.Marks.{Marks}
+use Rattle.rb_wheel.specs.Marks.{mark_at}
 use Rattle.rb_wheel.proofs.Moves.{lies_in}
 
 -- how many slots a cell holds
@@ -30,6 +32,16 @@ some_expiry : (is_taken : Bool) (expiry : ℕ) (P : ℕ → Type 0) → IsSomeAn
     → (cond is_taken (Some expiry) None ≡ Some expiry) × P expiry
 some_expiry true expiry P holds = (refl, holds)
 some_expiry false expiry P holds = absurd (holds)
+
+-- one more cell waits
+pub waits-more : (waiting new_waiting : Marks) (at : ℕ) → mark_at new_waiting at ≡ 1
+    → ((other : ℕ) → other ≢ at → mark_at new_waiting other ≡ mark_at waiting other)
+    → (cell : Option ℕ) → Waits waiting cell → Waits new_waiting cell
+waits-more waiting new_waiting at here elsewhere None waits = absurd waits
+waits-more waiting new_waiting at here elsewhere (Some cell) waits = ⊎_elim
+    (λ same. ap (mark_at new_waiting) same ∙ here)
+    (λ apart. elsewhere cell apart ∙ waits)
+    (cases_eq cell at)
 
 -- an entry of the cell is put where it belongs
 module _ (base cell : ℕ) (expiries cells : List (Option ℕ)) (may : MaySpread base cell expiries cells)
@@ -78,6 +90,16 @@ module _ (base cell : ℕ) (expiries cells : List (Option ℕ)) (may : MaySpread
         (λ apart. ap is_some (elsewhere other apart) ∙ same.each other)
         (cases_eq other slot);
   }
+
+  -- where it waits, as the others do where they did
+  pub waits_still : (first_cells : List (Option ℕ)) (first_waiting waiting new_waiting : Marks) → mark_at new_waiting lower ≡ 1
+      → ((other : ℕ) → other ≢ lower → mark_at new_waiting other ≡ mark_at waiting other)
+      → StillWait first_waiting first_cells waiting cells → StillWait first_waiting first_cells new_waiting put
+  waits_still first_cells first_waiting waiting new_waiting marked elsewhere_marked still other waited = ⊎_elim
+      (λ same. subst (λ c. Waits new_waiting c) (sym (ap (cell_at put) same ∙ here)) marked)
+      (λ apart. subst (λ c. Waits new_waiting c) (sym (elsewhere other apart))
+      (waits-more waiting new_waiting lower marked elsewhere_marked (cell_at cells other) (still other waited)))
+      (cases_eq other slot)
 
   -- so that its own cell holds one less
   pub one_less : count_in cell put < count_in cell cells

@@ -3,12 +3,9 @@ use Rattle.std.proofs.Common.{◌≡◌, ℕ, ◌<◌, ◌≤◌, ◌≢◌, Lis
 use Rattle.std.proofs.lemmas.Bool.{cases_eq}
 use Rattle.std.proofs.lemmas.Option.{none-some, same_Some}
 use Rattle.rb_wheel.specs.declared.node.Node.{Node}
-use Rattle.rb_wheel.specs.declared.marks.Marks.{Marks}
 use Rattle.rb_wheel.specs.declared.cells.TheConstants.{CELLS}
 use Rattle.rb_wheel.specs.Nodes.{node_at, with_previous, with_first}
-use Rattle.rb_wheel.specs.Marks.{mark_at, mark_of}
 use Rattle.rb_wheel.specs.WheelLinks.{head_at, with_put, cell_in, next_in, previous_in, AreLinked, AreSoundLists}
-use Rattle.rb_wheel.proofs.Insertions.{marks_again}
 use Rattle.rb_wheel.proofs.Linked.{TakesOut, PutsFirst, LinksAgree-put, rank_below, cases_some}
 use Rattle.rb_wheel.proofs.Removals.{without, takes, AreLinked-remove}
 use Rattle.rb_wheel.proofs.Rooms.{AreLinked-same}
@@ -17,10 +14,9 @@ use Rattle.rb_wheel.proofs.WrittenLinks.{in_room, with_previous_here, with_previ
 
 -- a list was taken off a cell, and this is the first slot of what is left of it: the lists are linked
 -- if that cell begins with this slot and nothing precedes it, as the code need not write
-pub record IsTakenOff (cell : ℕ) (rest : Option ℕ) (heads : List (Option ℕ)) (marks : Marks) (nodes : List Node) : Type 0 where
+pub record IsTakenOff (cell : ℕ) (rest : Option ℕ) (heads : List (Option ℕ)) (nodes : List Node) : Type 0 where
   pub linked : (rank : ℕ → ℕ) × AreLinked (set heads cell rest) (with_previous nodes rest None) rank
   pub none : head_at heads cell ≡ None
-  pub marked : (at : ℕ) → mark_at marks at ≡ mark_of (head_at heads at)
   pub few_heads : length heads ≤ CELLS
   pub all_heads : 0 < length nodes → CELLS ≤ length heads
 
@@ -43,9 +39,8 @@ same_node : (node : Node) → node.previous ≡ None → record node { previous 
 same_node node is = λ i. record node { previous = sym is i }
 
 -- the list of a cell is taken off
-module _ (heads : List (Option ℕ)) (marks new_marks : Marks) (nodes : List Node) (cell : ℕ)
-    (sound : AreSoundLists heads marks nodes) (low : cell < length heads)
-    (here : mark_at new_marks cell ≡ 0) (elsewhere : (other : ℕ) → other ≢ cell → mark_at new_marks other ≡ mark_at marks other) where
+module _ (heads : List (Option ℕ)) (nodes : List Node) (cell : ℕ)
+    (sound : AreSoundLists heads nodes) (low : cell < length heads) where
   abbrev head : Option ℕ
   head = head_at heads cell
 
@@ -66,7 +61,7 @@ module _ (heads : List (Option ℕ)) (marks new_marks : Marks) (nodes : List Nod
       (with_previous_other nodes None head slot)
       (cases_some head slot)
 
-  pub taken_off : IsTakenOff cell head (set heads cell None) new_marks nodes
+  pub taken_off : IsTakenOff cell head (set heads cell None) nodes
   taken_off =
       let long = length-set {A = Option ℕ} heads cell None in
       let few = sound.few_heads in
@@ -74,29 +69,26 @@ module _ (heads : List (Option ℕ)) (marks new_marks : Marks) (nodes : List Nod
       record {
         linked = (sound.linked.0, AreLinked-same heads _ nodes _ sound.linked.0 heads_back nodes_back sound.linked.1);
         none = set_head heads cell None low;
-        marked = marks_again (head_at heads) (head_at (set heads cell None)) (mark_at marks) (mark_at new_marks) cell
-            sound.marked (other_head heads cell None) (here ∙ ap mark_of (sym (set_head heads cell None low))) elsewhere;
         few_heads = omega arith;
         all_heads = λ some. let enough = all some in omega arith;
       }
 
 -- with nothing left of it the lists are sound
-pub put_away : (heads : List (Option ℕ)) (marks : Marks) (nodes : List Node) (cell : ℕ) → cell < length heads
-    → IsTakenOff cell None heads marks nodes → AreSoundLists heads marks nodes
-put_away heads marks nodes cell low off = record {
+pub put_away : (heads : List (Option ℕ)) (nodes : List Node) (cell : ℕ) → cell < length heads
+    → IsTakenOff cell None heads nodes → AreSoundLists heads nodes
+put_away heads nodes cell low off = record {
   linked = (
     off.linked.0,
     AreLinked-same (set heads cell None) heads nodes nodes off.linked.0
         (λ at. sym (same_heads heads cell None off.none low at)) (λ slot. refl) off.linked.1,
   );
-  marked = off.marked;
   few_heads = off.few_heads;
   all_heads = off.all_heads;
 }
 
 -- its first slot is put first in another cell
-module _ (cell slot lower : ℕ) (heads : List (Option ℕ)) (marks : Marks) (nodes : List Node)
-    (off : IsTakenOff cell (Some slot) heads marks nodes) (low : cell < length heads) where
+module _ (cell slot lower : ℕ) (heads : List (Option ℕ)) (nodes : List Node)
+    (off : IsTakenOff cell (Some slot) heads nodes) (low : cell < length heads) where
   -- the lists as they are linked
   abbrev heads_with : List (Option ℕ)
   heads_with = set heads cell (Some slot)
@@ -249,17 +241,14 @@ module _ (cell slot lower : ℕ) (heads : List (Option ℕ)) (marks : Marks) (no
             (cases_some rest s);
       }
 
-      pub put_on : (new_marks : Marks) → mark_at new_marks lower ≡ 1 → ((other : ℕ) → other ≢ lower → mark_at new_marks other ≡ mark_at marks other)
-          → IsTakenOff cell rest heads_put new_marks nodes_put
-      put_on new_marks marked elsewhere =
+      pub put_on : IsTakenOff cell rest heads_put nodes_put
+      put_on =
           let long = length-set heads lower (Some slot) in
           let few = off.few_heads in
           let all = all_cells in
           record {
             linked = (rank_below slot rank, LinksAgree-put _ _ _ _ _ _ _ _ lower slot rank left_linked puts);
             none = other_head heads lower (Some slot) cell (λ same. apart (sym same)) ∙ off.none;
-            marked = marks_again (head_at heads) (head_at heads_put) (mark_at marks) (mark_at new_marks) lower off.marked
-                (other_head heads lower (Some slot)) (marked ∙ ap mark_of (sym (set_head heads lower (Some slot) lower_low))) elsewhere;
             few_heads = omega arith;
             all_heads = λ some. omega arith;
           }

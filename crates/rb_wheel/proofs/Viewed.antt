@@ -4,7 +4,6 @@ use Rattle.std.proofs.lemmas.Bool.{cases_lt}
 use Rattle.std.proofs.lemmas.List.{length-map, take_at, get_or_past}
 use Rattle.std.proofs.Math.ListN.{get_or-map}
 use Rattle.rb_wheel.specs.declared.node.Node.{Node}
-use Rattle.rb_wheel.specs.declared.marks.Marks.{Marks}
 use Rattle.rb_wheel.specs.Nodes.{vacant, node_at, expiry_of}
 use Rattle.rb_wheel.specs.Lists.{Slots, cell_at, slot_expiry}
 use Rattle.rb_wheel.specs.WheelLinks.{head_at, cell_in, cells_of, expiries_of, slots_of, AreSoundLists}
@@ -68,7 +67,7 @@ in_heads_of heads at slot is = ⊎_elim (λ within. within)
     (cases_lt at (length heads))
 
 -- lists that are equal to sound ones are sound
-pub sound_moved : {heads new_heads : List (Option ℕ)} {marks : Marks} {nodes new_nodes : List Node}
-    → new_heads ≡ heads → new_nodes ≡ nodes → AreSoundLists heads marks nodes → AreSoundLists new_heads marks new_nodes
-sound_moved {heads} {new_heads} {marks} {nodes} {new_nodes} heads_are nodes_are sound =
-    subst (λ hs. AreSoundLists hs marks new_nodes) (sym heads_are) (subst (λ ls. AreSoundLists heads marks ls) (sym nodes_are) sound)
+pub sound_moved : {heads new_heads : List (Option ℕ)} {nodes new_nodes : List Node}
+    → new_heads ≡ heads → new_nodes ≡ nodes → AreSoundLists heads nodes → AreSoundLists new_heads new_nodes
+sound_moved {heads} {new_heads} {nodes} {new_nodes} heads_are nodes_are sound =
+    subst (λ hs. AreSoundLists hs new_nodes) (sym heads_are) (subst (λ ls. AreSoundLists heads ls) (sym nodes_are) sound)

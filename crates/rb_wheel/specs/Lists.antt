@@ -22,11 +22,6 @@ IsHeld cells cell = (slot : ℕ) × (cell_at cells slot ≡ Some cell)
 abbrev pub IsVacant : List (Option ℕ) → ℕ → Type 0
 IsVacant cells cell = (slot : ℕ) → cell_at cells slot ≢ Some cell
 
--- the cell holds a slot, and no cell before it does
-pub record IsFirstCell (cells : List (Option ℕ)) (cell : ℕ) : Type 0 where
-  pub held : IsHeld cells cell
-  pub first : (slot : ℕ) → IfSome (cell_at cells slot) (λ other. cell ≤ other)
-
 -- the slot lies in the cell, and no slot of that cell expires before it
 pub record IsLeastIn (cells expiries : List (Option ℕ)) (cell slot expiry : ℕ) : Type 0 where
   pub lies : cell_at cells slot ≡ Some cell

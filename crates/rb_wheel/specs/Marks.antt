@@ -12,13 +12,3 @@ mark_at marks cell = bit_at (slice_index marks.words (cell / DIGITS)) (cell % DI
 abbrev pub IsFirstMarked : Marks → Option ℕ → Type 0
 IsFirstMarked marks None = (cell : ℕ) → mark_at marks cell ≡ 0
 IsFirstMarked marks (Some cell) = (mark_at marks cell ≡ 1) × ((other : ℕ) → mark_at marks other ≡ 1 → cell ≤ other)
-
--- the mark of a cell with this first slot
-abbrev pub mark_of : Option ℕ → ℕ
-mark_of None = 0
-mark_of (Some slot) = 1
-
--- its mark once its list begins with `next`, if nothing precedes that
-abbrev pub mark_with_first : Option ℕ → Option ℕ → ℕ → ℕ
-mark_with_first None next mark = mark_of next
-mark_with_first (Some previous) next mark = mark

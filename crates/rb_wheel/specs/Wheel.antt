@@ -1,10 +1,12 @@
 -- How the entries of a wheel lie, seen from its base.
-use Rattle.std.specs.Prelude.{◌≡◌, ◌≢◌, ◌^◌, ℕ, ◌<◌, ◌≤◌, List, length, Option, Some}
-use Rattle.std.specs.Prelude.{None, IsSome, IfSome, IsSomeAnd, is_some, count_by}
+use Rattle.std.specs.Prelude.{◌≡◌, ◌≢◌, ◌^◌, ◌⊎◌, ℕ, ◌<◌, ◌≤◌, List, length, Option, Some}
+use Rattle.std.specs.Prelude.{None, IfSome, IsSomeAnd, is_some, count_by}
 use Rattle.std.specs.FinMap as map
 use Rattle.rb_timer.specs.Content.{Content}
+use Rattle.rb_wheel.specs.declared.marks.Marks.{Marks}
 use Rattle.rb_wheel.specs.Cells.{IsCellOf}
 use Rattle.rb_wheel.specs.Lists.{cell_at, slot_expiry}
+use Rattle.rb_wheel.specs.Marks.{mark_at}
 
 -- each expiry is a moment
 abbrev pub AreMoments : List (Option ℕ) → Type 0
@@ -38,31 +40,48 @@ abbrev pub ExpireTogether : List (Option ℕ) → List (Option ℕ) → ℕ → 
 ExpireTogether expiries cells cell = (slot other : ℕ) → cell_at cells slot ≡ Some cell → cell_at cells other ≡ Some cell
     → slot_expiry expiries slot ≡ slot_expiry expiries other
 
--- the slot lies in a cell, and no entry that lies in one expires before its own
-pub record IsLeastInCells (expiries cells : List (Option ℕ)) (slot expiry : ℕ) : Type 0 where
-  pub lies : IsSome (cell_at cells slot)
-  pub expires : slot_expiry expiries slot ≡ Some expiry
-  pub least : (other : ℕ) → IsSome (cell_at cells other)
-      → IfSome (slot_expiry expiries other) (λ another. expiry ≤ another)
+-- the cell waits, and slots that lay in waiting cells still do
+abbrev pub Waits : Marks → Option ℕ → Type 0
+Waits waiting cell = IsSomeAnd cell (λ at. mark_at waiting at ≡ 1)
 
--- an entry of least expiry among those that lie in cells, or none if no entry lies in a cell
-abbrev pub IsFirst : List (Option ℕ) → List (Option ℕ) → Option (ℕ × ℕ) → Type 0
-IsFirst expiries cells None = (slot : ℕ) → cell_at cells slot ≡ None
-IsFirst expiries cells (Some entry) = IsLeastInCells expiries cells entry.0 entry.1
+abbrev pub StillWait : Marks → List (Option ℕ) → Marks → List (Option ℕ) → Type 0
+StillWait waiting cells new_waiting new_cells = (slot : ℕ) → Waits waiting (cell_at cells slot) → Waits new_waiting (cell_at new_cells slot)
 
--- the expiry of an entry that lies in no cell
-abbrev pub early_of : Option ℕ → Option ℕ → Option ℕ
-early_of expiry None = expiry
-early_of expiry (Some cell) = None
+-- the early timer has at a slot what the slot has
+abbrev pub IsThere : List (Option ℕ) → Content → ℕ → Type 0
+IsThere expiries early slot = map.get early slot ≡ slot_expiry expiries slot
 
--- the wheel's parts agree: each entry lies right, in its cell or among the early ones, there is room
--- for each in both, and the first entry is one of least expiry among those in cells
-pub record IsWheel (expiries cells : List (Option ℕ)) (early : Content) (room base len : ℕ)
+-- it has at each slot that or nothing
+abbrev pub AreCopies : List (Option ℕ) → Content → Type 0
+AreCopies expiries early = (slot : ℕ) → IsThere expiries early slot ⊎ (map.get early slot ≡ None)
+
+-- what was there still is
+abbrev pub AreStillThere : List (Option ℕ) → Content → Content → Type 0
+AreStillThere expiries early new_early = (slot : ℕ) → IsThere expiries early slot → IsThere expiries new_early slot
+
+-- each entry is there, or lies in a waiting cell
+pub record Stand (expiries cells : List (Option ℕ)) (early : Content) (waiting : Marks) : Type 0 where
+  pub each : (slot : ℕ) → IsThere expiries early slot ⊎ ((map.get early slot ≡ None) × Waits waiting (cell_at cells slot))
+
+-- no expiry is before that of the entry
+abbrev pub IsNoEarlier : Option (ℕ × ℕ) → Option ℕ → Type 0
+IsNoEarlier None expiry = ⊥
+IsNoEarlier (Some entry) expiry = IfSome expiry (λ another. entry.1 ≤ another)
+
+-- an entry, before which none expires that is not in the early timer; or none if all are there
+pub record IsFirst (expiries : List (Option ℕ)) (early : Content) (first : Option (ℕ × ℕ)) : Type 0 where
+  pub expires : IfSome first (λ entry. slot_expiry expiries entry.0 ≡ Some entry.1)
+  pub others : (slot : ℕ) → IsThere expiries early slot ⊎ IsNoEarlier first (slot_expiry expiries slot)
+
+-- the wheel's parts agree: each entry lies right, in its cell or in none, and stands in the early timer or
+-- in a waiting cell; there is room for each in both; and the first is one of least expiry among those
+-- that are not in the early timer
+pub record IsWheel (expiries cells : List (Option ℕ)) (early : Content) (room : ℕ) (waiting : Marks) (base len : ℕ)
     (first : Option (ℕ × ℕ)) : Type 0 where
   pub right : LieRight base expiries cells
   pub moments : AreMoments expiries
-  pub early_entries : (slot : ℕ) → map.get early slot ≡ early_of (slot_expiry expiries slot) (cell_at cells slot)
+  pub stand : Stand expiries cells early waiting
   pub in_lists : length expiries ≤ length cells
   pub in_early : length expiries ≤ room
   pub counted : len ≡ count_by is_some expiries
-  pub is_first : IsFirst expiries cells first
+  pub is_first : IsFirst expiries early first

@@ -1,9 +1,7 @@
 -- How the lists lie: at each cell its first slot, at each slot its neighbours.
 use Rattle.std.specs.Prelude.{◌≡◌, ℕ, ◌<◌, ◌≤◌, List, length, map, Option, Some, None, slice_index_or, slice_set}
 use Rattle.rb_wheel.specs.declared.node.Node.{Node}
-use Rattle.rb_wheel.specs.declared.marks.Marks.{Marks}
 use Rattle.rb_wheel.specs.declared.cells.TheConstants.{CELLS}
-use Rattle.rb_wheel.specs.Marks.{mark_at, mark_of}
 use Rattle.rb_wheel.specs.Lists.{Slots}
 use Rattle.rb_wheel.specs.Nodes.{node_at, expiry_of, with_previous}
 
@@ -57,10 +55,8 @@ pub record LinksAgree (head cell next previous : ℕ → Option ℕ) (rank : ℕ
 abbrev pub AreLinked : List (Option ℕ) → List Node → (ℕ → ℕ) → Type 0
 AreLinked heads nodes rank = LinksAgree (head_at heads) (cell_in nodes) (next_in nodes) (previous_in nodes) rank
 
--- the lists are linked, the cells that hold a slot are marked, and there are heads for all cells
--- once there is room for a slot
-pub record AreSoundLists (heads : List (Option ℕ)) (marks : Marks) (nodes : List Node) : Type 0 where
+-- the lists are linked, and there are heads for all cells once there is room for a slot
+pub record AreSoundLists (heads : List (Option ℕ)) (nodes : List Node) : Type 0 where
   pub linked : (rank : ℕ → ℕ) × AreLinked heads nodes rank
-  pub marked : (at : ℕ) → mark_at marks at ≡ mark_of (head_at heads at)
   pub few_heads : length heads ≤ CELLS
   pub all_heads : 0 < length nodes → CELLS ≤ length heads

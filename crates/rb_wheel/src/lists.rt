@@ -1,14 +1,15 @@
 ghost use Rattle.std.specs.Prelude.{◌≡◌, ◌≢◌, ◌⊎◌, ◌<◌, ◌≤◌, ◌-◌, ◌^◌, ◌++◌, ℕ, List, [], Option, Some, None, IsSome};
 ghost use Rattle.std.specs.Prelude.{OnOk, OnErr, IfSome, MatchOption, length, replicate, slice_set, slice_index_or};
 ghost use Rattle.rb_wheel.specs.Nodes.{with_first};
-ghost use Rattle.rb_wheel.specs.Marks.{mark_at, mark_of, mark_with_first};
-ghost use Rattle.rb_wheel.specs.Lists.{cell_at, slot_expiry, IsHeld, IsVacant, IsFirstCell, IsLeastIn, HasExpiries};
-ghost use Rattle.rb_wheel.specs.Wheel.{LieRight, MaySpread, SameInCells};
+ghost use Rattle.std.specs.FinMap as map;
+ghost use Rattle.rb_wheel.specs.Lists.{cell_at, slot_expiry, IsHeld, IsVacant, IsLeastIn, HasExpiries};
+ghost use Rattle.rb_wheel.specs.Wheel.{LieRight, MaySpread, SameInCells, StillWait, IsThere, AreStillThere, AreCopies};
 
 use crate::cells::CELLS;
 use crate::marks::Marks;
 use crate::node::{Node, set_next, set_previous};
 use crate::spread::{put_first, spread};
+use rb_timer::Timer;
 use rb_timer::optional_index::OptionalIndex;
 use std::alloc::{AllocError, Global};
 use std::marker::Model;
@@ -19,8 +20,6 @@ use std::marker::Model;
 pub(crate) struct Lists {
     // The first slot of each cell's list. There are none until the first `reserve`.
     heads: Vec<OptionalIndex>,
-    // The cells that hold a slot.
-    marks: Marks,
     nodes: Vec<Node>,
 }
 
@@ -33,7 +32,7 @@ impl Model for Lists {
 
     ghost view = { λ lists. slots_of lists.nodes.items };
 
-    ghost invariant = { λ lists. AreSoundLists lists.heads.items lists.marks lists.nodes.items };
+    ghost invariant = { λ lists. AreSoundLists lists.heads.items lists.nodes.items };
 }
 
 impl Lists {
@@ -43,7 +42,6 @@ impl Lists {
     {
         Lists {
             heads: Vec::new(alloc),
-            marks: Marks::new(),
             nodes: Vec::new(alloc),
         }
     }
@@ -108,13 +106,7 @@ impl Lists {
         requires free { cell_at self.old.cells slot ≡ None }
         ensures { self.new ≡ record self.old { cells = slice_set self.old.cells slot (Some cell) } }
     {
-        put_first(
-            &mut self.heads,
-            &mut self.marks,
-            &mut self.nodes,
-            slot,
-            cell,
-        );
+        put_first(&mut self.heads, &mut self.nodes, slot, cell);
     }
 
     /// Takes a slot out of its cell.
@@ -126,39 +118,21 @@ impl Lists {
         let cell = node.cell.unwrap() as usize;
         set_previous(&mut self.nodes, node.next, node.previous);
         set_next(&mut self.nodes, node.previous, node.next);
-        set_first(
-            &mut self.heads,
-            &mut self.marks,
-            cell,
-            node.previous,
-            node.next,
-        );
+        set_first(&mut self.heads, cell, node.previous, node.next);
         self.nodes[slot].take_out();
     }
 
-    /// Moves the slots of a cell to the lower cells where they belong, now that the base has entered it.
-    pub(crate) fn spread(&mut self, base: u64, cell: usize)
+    /// Moves the slots of a cell to the lower cells where they belong, now that the base has entered it,
+    /// and marks these as waiting.
+    pub(crate) fn spread(&mut self, waiting: &mut Marks, base: u64, cell: usize)
         requires held { IsHeld self.old.cells cell }
         requires may { MaySpread base cell self.old.expiries self.old.cells }
         ensures expiries { self.new.expiries ≡ self.old.expiries }
         ensures right { LieRight base self.old.expiries self.new.cells }
         ensures same { SameInCells self.old.cells self.new.cells }
+        ensures waits { StillWait waiting.old self.old.cells waiting.new self.new.cells }
     {
-        spread(
-            &mut self.heads,
-            &mut self.marks,
-            &mut self.nodes,
-            base,
-            cell,
-        );
-    }
-
-    /// The first cell that holds a slot, if any does.
-    pub(crate) fn first_cell(&self) -> Option<usize>
-        ensures in_wheel { IfSome result (λ cell. cell < CELLS) }
-        ensures first { MatchOption result ((cell : ℕ) → IsVacant self.now.cells cell) (IsFirstCell self.now.cells) }
-    {
-        self.marks.first()
+        spread(&mut self.heads, &mut self.nodes, waiting, base, cell);
     }
 
     /// A slot of the cell, if it holds one.
@@ -185,6 +159,24 @@ impl Lists {
         least
     }
 
+    /// Puts the entries of a cell into a timer that may have some of them.
+    pub(crate) fn copy_into<E: Timer>(&self, early: &mut E, cell: usize)
+        requires expiries { HasExpiries self.now.cells self.now.expiries cell }
+        requires in_room { length self.now.expiries ≤ E.room early.old }
+        requires copies { AreCopies self.now.expiries (E.content early.old) }
+        ensures copies { AreCopies self.now.expiries (E.content early.new) }
+        ensures kept { AreStillThere self.now.expiries (E.content early.old) (E.content early.new) }
+        ensures all { (slot : ℕ) → cell_at self.now.cells slot ≡ Some cell → IsThere self.now.expiries (E.content early.new) slot }
+        ensures room { E.room early.new ≡ E.room early.old }
+    {
+        let mut cursor = head_of(&self.heads, cell);
+        while let Some(slot) = cursor {
+            let node = &self.nodes[slot];
+            add_unless_there(early, slot, node.expiry().unwrap());
+            cursor = node.next.as_option();
+        }
+    }
+
     /// Takes every slot out of its cell, and removes its entry.
     pub(crate) fn clear(&mut self)
         ensures expiries { self.new.expiries ≡ replicate (length self.old.expiries) None }
@@ -192,7 +184,19 @@ impl Lists {
     {
         self.heads.fill(OptionalIndex::none());
         self.nodes.fill(Node::vacant());
-        self.marks = Marks::new();
+    }
+}
+
+// Adds an entry to a timer, unless it has that entry.
+fn add_unless_there<E: Timer>(early: &mut E, slot: usize, expiry: u64)
+    requires in_room { slot < E.room early.old }
+    requires copy { IfSome (map.get (E.content early.old) slot) (λ there. there ≡ expiry) }
+    ensures here { map.get (E.content early.new) slot ≡ Some expiry }
+    ensures others { (other : ℕ) → other ≢ slot → map.get (E.content early.new) other ≡ map.get (E.content early.old) other }
+    ensures room { E.room early.new ≡ E.room early.old }
+{
+    if early.get(slot).is_none() {
+        early.insert(slot, expiry);
     }
 }
 
@@ -215,34 +219,12 @@ pub(crate) fn earlier_of(best: Option<(usize, u64)>, entry: (usize, u64)) -> (us
     }
 }
 
-// If `previous` is none, begins the cell's list with `next`, and marks the cell accordingly.
-fn set_first(
-    heads: &mut [OptionalIndex],
-    marks: &mut Marks,
-    cell: usize,
-    previous: OptionalIndex,
-    next: OptionalIndex,
-)
-    requires in_heads { cell < length heads.old }
-    requires in_wheel { cell < CELLS }
-    ensures heads { heads.new ≡ with_first heads.old cell previous next }
-    ensures here { mark_at marks.new cell ≡ mark_with_first previous next (mark_at marks.old cell) }
-    ensures elsewhere { (other : ℕ) → other ≢ cell → mark_at marks.new other ≡ mark_at marks.old other }
+// If `previous` is none, begins the cell's list with `next`.
+fn set_first(heads: &mut [OptionalIndex], cell: usize, previous: OptionalIndex, next: OptionalIndex)
+    requires { cell < length heads.old }
+    ensures { heads.new ≡ with_first heads.old cell previous next }
 {
     if previous.as_option().is_none() {
         heads[cell] = next;
-        mark_held(marks, cell, next);
-    }
-}
-
-// Marks the cell if it has a first slot, and otherwise takes the mark off.
-fn mark_held(marks: &mut Marks, cell: usize, first: OptionalIndex)
-    requires { cell < CELLS }
-    ensures here { mark_at marks.new cell ≡ mark_of first }
-    ensures elsewhere { (other : ℕ) → other ≢ cell → mark_at marks.new other ≡ mark_at marks.old other }
-{
-    match first.as_option() {
-        Some(_) => marks.insert(cell),
-        None => marks.remove(cell),
     }
 }

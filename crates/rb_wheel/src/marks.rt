@@ -1,4 +1,4 @@
-ghost use Rattle.std.specs.Prelude.{◌≡◌, ◌<◌, ◌≤◌, ℕ, ◌≢◌, MatchOption};
+ghost use Rattle.std.specs.Prelude.{◌≡◌, ◌<◌, ◌≤◌, ℕ, ◌≢◌, ◌↔◌, IsTrue, IfSome, MatchOption};
 ghost use Rattle.rb_wheel.specs.declared.cells.TheConstants.{CELLS};
 
 use crate::cells::{DIGITS, LEVELS};
@@ -37,9 +37,18 @@ impl Marks {
         self.words[cell / DIGITS] &= !(1 << (cell % DIGITS));
     }
 
+    /// Whether a cell is marked.
+    pub(crate) fn contains(&self, cell: usize) -> bool
+        requires { cell < CELLS }
+        ensures { IsTrue result ↔ (mark_at self.now cell ≡ 1) }
+    {
+        (self.words[cell / DIGITS] >> (cell % DIGITS)) & 1 == 1
+    }
+
     /// The first marked cell, if any is marked.
     pub(crate) fn first(&self) -> Option<usize>
-        ensures { IsFirstMarked self.now result }
+        ensures in_wheel { IfSome result (λ cell. cell < CELLS) }
+        ensures first { IsFirstMarked self.now result }
     {
         for (level, word) in self.words.iter().enumerate() {
             if *word != 0 {

@@ -1,5 +1,8 @@
+use crate::advance::advance;
 use crate::cells::cell_of;
+use crate::leave::{leave_cell, take_out};
 use crate::lists::{Lists, earlier_of};
+use crate::marks::Marks;
 use crate::next_first::first_without;
 use rb_pairing::PairingTimer;
 use rb_timer::{Timer, clears_one_by_one};
@@ -11,27 +14,38 @@ pub type WheelTimer = Wheel<PairingTimer>;
 
 /// A hierarchical timing wheel. A moment has 11 digits in base 64, and each level of the wheel has a
 /// cell for each value of its digit. An entry lies in the cell of its digit on the highest level on
-/// which its expiry's digit differs from the base's, or on the lowest level if none does.
+/// which its expiry's digit differs from the base's, or on the lowest level if none does. An entry that
+/// expires before the base is kept in a timer of its own, `E`.
 ///
-/// The base moves only when the first entry in cells leaves: to the expiry of the next one, whose cell
-/// is then spread over lower levels. An entry that is put in later and expires before the base is kept
-/// in a timer of its own, `E`. Once no entry is left, the base is 0 again.
+/// Only `due` moves the base: up to its `now`, but not past the least expiry. Then it spreads the cell
+/// that the base has entered over lower levels.
 ///
-/// What calls cost, besides those of `E`: `insert`, `least` and `due` cost a constant, and so does a
-/// `remove` of any entry but the first one in cells. When that one leaves, the entries of one cell,
-/// which may be all, are walked over twice: to find the next one, and to move each to a lower level. An
-/// entry is moved at most ten times before it is taken out, so in the long run this `remove` costs a
-/// constant too. `clear` costs a constant for each entry, whatever the room. A `reserve` that makes
-/// room costs all the room that there is then.
+/// The wheel keeps an entry of least expiry among those that are not in `E`, and so `least` searches
+/// nothing. When that entry leaves, the next is in the first cell that holds such entries. A cell is
+/// walked over once to find it. When the cell is searched again, its entries are put into `E` too, where
+/// each stays until it leaves the wheel; and so are those that are put into this cell from then on. On
+/// the lowest level all entries of a cell expire together, and any of them is the next.
+///
+/// What calls cost, besides those of `E`: `insert` and `least` cost a constant. A `due` whose base enters
+/// a cell above the lowest level moves each entry of that cell, and a `remove` of the entry that is kept
+/// may walk over a cell, which may hold all entries. But an entry is moved at most ten times, met by two
+/// walks on each level, and put into `E` once. So in the long run both cost a constant too. A `clear` of
+/// few entries removes each, and one of many passes over the room. A `reserve` that makes room costs all
+/// the room that there is then.
 #[derive(Debug, Drop)]
 pub struct Wheel<E: Timer> {
     // The slots of the room, each with its entry's expiry, in a cell or not.
     lists: Lists,
+    // The entries before the base, and copies of some that lie in cells.
     early: E,
     base: u64,
     len: usize,
-    // An entry of least expiry among those in cells.
+    // An entry of least expiry among those that are not in `early`, if any is not.
     first: Option<(usize, u64)>,
+    // The cells that may hold an entry that is not in `early`.
+    waiting: Marks,
+    // Those that were walked over for their least entry, which decides only what the next search costs.
+    walked: Marks,
 }
 
 impl<E: Timer> Model for Wheel<E> {
@@ -44,7 +58,7 @@ impl<E: Timer> Model for Wheel<E> {
     ghost view = { λ wheel. wheel.lists.expiries };
 
     ghost invariant = { λ wheel. IsWheel wheel.lists.expiries wheel.lists.cells
-        (E.content wheel.early) (E.room wheel.early) wheel.base wheel.len wheel.first };
+        (E.content wheel.early) (E.room wheel.early) wheel.waiting wheel.base wheel.len wheel.first };
 }
 
 impl<E: Timer> Timer for Wheel<E> {
@@ -64,6 +78,8 @@ impl<E: Timer> Timer for Wheel<E> {
             base: 0,
             len: 0,
             first: None,
+            waiting: Marks::new(),
+            walked: Marks::new(),
         }
     }
 
@@ -92,27 +108,61 @@ impl<E: Timer> Timer for Wheel<E> {
         self.len += 1;
         if expiry < self.base {
             self.early.insert(slot, expiry);
-        } else {
-            self.lists.insert(slot, cell_of(self.base, expiry));
+            return;
+        }
+        let cell = cell_of(self.base, expiry);
+        let waits = self.waiting.contains(cell) || self.lists.first_in(cell).is_none();
+        self.lists.insert(slot, cell);
+        if waits {
+            self.waiting.insert(cell);
             self.first = Some(earlier_of(self.first, (slot, expiry)));
+        } else {
+            self.early.insert(slot, expiry);
         }
     }
 
     fn remove(&mut self, slot: usize) -> u64 {
-        let expiry = self.take_out(slot);
-        self.reset_if_empty();
+        let expiry = self.lists.vacate(slot);
+        self.len -= 1;
+        take_out(&mut self.early, slot);
+        leave_cell(
+            &mut self.lists,
+            &mut self.waiting,
+            &mut self.walked,
+            self.base,
+            slot,
+            expiry,
+        );
+        self.first = first_without(
+            &self.lists,
+            &mut self.early,
+            &mut self.waiting,
+            &mut self.walked,
+            self.base,
+            self.first,
+            slot,
+        );
         expiry
     }
 
     fn least(&self) -> Option<(usize, u64)> {
-        if let Some(entry) = self.early.least() {
-            return Some(entry);
+        match self.early.least() {
+            Some(entry) => Some(earlier_of(self.first, entry)),
+            None => self.first,
         }
-        self.first
     }
 
     fn due(&mut self, now: u64) -> Option<(usize, u64)> {
-        self.least().filter(|&(_, expiry)| expiry <= now)
+        let least = self.least()?;
+        advance(
+            &mut self.lists,
+            &mut self.waiting,
+            &mut self.walked,
+            &mut self.base,
+            now,
+            least.1,
+        );
+        Some(least).filter(|&(_, expiry)| expiry <= now)
     }
 
     fn clear(&mut self) {
@@ -125,37 +175,9 @@ impl<E: Timer> Timer for Wheel<E> {
 }
 
 impl<E: Timer> Wheel<E> {
-    ghost use Rattle.std.specs.Prelude.{◌≡◌, Some, None, IsSome, length, replicate, slice_set};
+    ghost use Rattle.std.specs.Prelude.{◌≡◌, None, length, replicate};
     ghost use Rattle.std.specs.FinMap as map;
     ghost use Rattle.rb_timer.specs.Slots.{content_of};
-    ghost use Rattle.rb_wheel.specs.Lists.{slot_expiry};
-
-    // Takes out the entry at a slot that has one, and returns its expiry.
-    fn take_out(&mut self, slot: usize) -> u64
-        requires { IsSome (slot_expiry self.old slot) }
-        ensures value { slot_expiry self.old slot ≡ Some result }
-        ensures left { self.new ≡ slice_set self.old slot None }
-    {
-        let expiry = self.lists.vacate(slot);
-        self.len -= 1;
-        if expiry < self.base {
-            self.early.remove(slot);
-        } else {
-            self.lists.remove(slot);
-            self.first = first_without(&mut self.lists, &mut self.base, self.first, slot);
-        }
-        expiry
-    }
-
-    // If no entry is left, begins again with base 0, so that the next one lies in a cell, whatever its
-    // expiry.
-    fn reset_if_empty(&mut self)
-        ensures { self.new ≡ self.old }
-    {
-        if self.len == 0 {
-            self.base = 0;
-        }
-    }
 
     // Takes the entries out one by one.
     fn take_each(&mut self)
@@ -173,8 +195,9 @@ impl<E: Timer> Wheel<E> {
     {
         self.lists.clear();
         self.early.clear();
-        self.base = 0;
         self.len = 0;
         self.first = None;
+        self.waiting = Marks::new();
+        self.walked = Marks::new();
     }
 }

@@ -17,11 +17,11 @@ invariant_of-self c =
     let lists = c.self.inside in
     let heads_long : lists.heads.len ≡ length lists.heads.items = omega arith in
     let nodes_long : lists.nodes.len ≡ length lists.nodes.items = omega arith in
-    AreSoundLists-none lists.heads.items c.fill.new.self.items lists.marks c.new-self-inside.result lists.nodes.items c.fill-2.new.self.items
+    AreSoundLists-none lists.heads.items c.fill.new.self.items lists.nodes.items c.fill-2.new.self.items
     (c.fill.ensures.items (λ y is. search rules) ∙ ap (λ (o : Option ℕ). replicate lists.heads.len o) c.none.ensures
     ∙ ap (λ n. replicate {A = Option ℕ} n None) heads_long)
     (nodes_are (goal.at.invariant_of-self c).After-fill-2 ∙ ap (λ n. replicate n vacant) nodes_long)
-    c.new-self-inside.ensures c.self.invariant
+    c.self.invariant
 
 pub returns-clause-expiries : goal.returns-clause-expiries
 returns-clause-expiries c =

@@ -1,10 +1,9 @@
 -- The slot's node comes first, and the one that was first knows it.
-use Rattle.std.proofs.Common.{◌≡◌, ◌<◌, ℕ, ◌++◌, List, length, set, take, drop, Option, Some, None, IfSome, sym, ap, ◌∙◌, subst, arith, length-set, get_or-set_same, get_or-set_other}
+use Rattle.std.proofs.Common.{◌≡◌, ◌<◌, ℕ, ◌++◌, List, length, set, take, drop, Option, Some, IfSome, sym, ap, ◌∙◌, subst, arith, length-set}
 use Rattle.rb_wheel.specs.declared.node.Node.{Node}
-use Rattle.rb_wheel.specs.Marks.{mark_at, mark_of}
 use Rattle.rb_wheel.specs.WheelLinks.{head_at, with_put, cells_of, expiries_of, AreSoundLists}
 use Rattle.rb_wheel.proofs.Linked.{rank_below}
-use Rattle.rb_wheel.proofs.Insertions.{AreLinked-insert, marks_again}
+use Rattle.rb_wheel.proofs.Insertions.{AreLinked-insert}
 use Rattle.rb_wheel.proofs.Viewed.{length-viewed, cell_at-viewed, cells_viewed, expiries_viewed, slots_of-parts, if_some, sound_moved, written_back}
 use Rattle.rb_wheel.proofs.WrittenLinks.{in_room, cells_of-with_put, expiries_of-with_put, length-with_put}
 use Rattle.rb_wheel.proofs.lists.Lists.insert.Goals as goal
@@ -59,12 +58,8 @@ invariant_of-self c =
     let heads_long = length-set heads at (Some slot) in
     let few = sound.few_heads in
     let all = sound.all_heads in
-    let sound_now : AreSoundLists (set heads at (Some slot)) c.put_first.new.marks (with_put heads nodes at slot) = record {
+    let sound_now : AreSoundLists (set heads at (Some slot)) (with_put heads nodes at slot) = record {
       linked = (rank_below slot sound.linked.0, AreLinked-insert heads nodes at slot sound.linked.0 sound.linked.1 (in_heads at_put) (in_nodes at_put) free);
-      marked = marks_again (head_at heads) (head_at (set heads at (Some slot))) (mark_at c.self.inside.marks) (mark_at c.put_first.new.marks) at
-          sound.marked (λ other apart. get_or-set_other heads at other (Some slot) None apart)
-          (c.put_first.ensures.here ∙ ap mark_of (sym (get_or-set_same heads at (Some slot) None (in_heads at_put))))
-          c.put_first.ensures.elsewhere;
       few_heads = omega arith;
       all_heads = λ some. let enough = all (omega arith) in omega arith;
     } in

@@ -1,8 +1,7 @@
--- Nothing is linked, and nothing is marked.
-use Rattle.std.proofs.Common.{ℕ, sym, ap, ◌∙◌, arith, length, get_or, None}
+-- Nothing is linked.
+use Rattle.std.proofs.Common.{ℕ, ap, arith, length, get_or, None}
 use Rattle.rb_wheel.specs.Nodes.{vacant}
 use Rattle.rb_wheel.proofs.Rooms.{AreLinked-none}
-use Rattle.rb_wheel.specs.Marks.{mark_of}
 use Rattle.rb_wheel.proofs.lists.Lists.new.Goals as goal
 
 pub invariant_of-result : goal.invariant_of-result
@@ -11,10 +10,9 @@ invariant_of-result c =
     record {
       linked = (
         λ slot. 0,
-        AreLinked-none c.new.result.items c.new-3.result.items no_heads
-            (λ slot. ap (λ ls. get_or ls slot vacant) c.new-3.ensures.items),
+        AreLinked-none c.new.result.items c.new-2.result.items no_heads
+            (λ slot. ap (λ ls. get_or ls slot vacant) c.new-2.ensures.items),
       );
-      marked = λ at. c.new-2.ensures at ∙ sym (ap mark_of (no_heads at));
       few_heads = rw c.new.ensures.items (omega arith);
-      all_heads = λ some. let none = ap length c.new-3.ensures.items in absurd (omega arith);
+      all_heads = λ some. let none = ap length c.new-2.ensures.items in absurd (omega arith);
     }

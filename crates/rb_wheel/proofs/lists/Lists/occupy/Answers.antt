@@ -10,7 +10,7 @@ invariant_of-self c =
     let read = c.index_mut-node.result.now in
     let room = length-expiries lists.nodes.items c.args.self.now c.self.view_is in
     sound_written lists.nodes.items c.args.slot read (record read { expiry = c.args.expiry; is_taken = true }) (omega arith)
-    c.index_mut-node.ensures.value refl refl refl lists.heads.items lists.marks c.self.invariant
+    c.index_mut-node.ensures.value refl refl refl lists.heads.items c.self.invariant
 
 pub returns-clause-noted : goal.returns-clause-noted
 returns-clause-noted c =

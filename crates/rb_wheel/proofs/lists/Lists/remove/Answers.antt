@@ -2,10 +2,8 @@
 use Rattle.std.proofs.Common.{◌≡◌, ◌<◌, ℕ, ◌++◌, List, length, set, take, drop, Option, None, IfSome, sym, ap, ◌∙◌, subst, arith}
 use Rattle.rb_wheel.specs.declared.node.Node.{Node}
 use Rattle.rb_wheel.specs.Nodes.{node_at, with_next, with_previous, with_first}
-use Rattle.rb_wheel.specs.WheelLinks.{head_at, cells_of, expiries_of, AreSoundLists}
-use Rattle.rb_wheel.specs.Marks.{mark_at}
-use Rattle.rb_wheel.proofs.Insertions.{marks_again}
-use Rattle.rb_wheel.proofs.Removals.{has_head, in_wheel, next_low, previous_low, left_linked, cells_left, expiries_left, taken_out, length-nodes_left, length-with_first, with_first_other, first_marked}
+use Rattle.rb_wheel.specs.WheelLinks.{cells_of, expiries_of, AreSoundLists}
+use Rattle.rb_wheel.proofs.Removals.{has_head, next_low, previous_low, left_linked, cells_left, expiries_left, taken_out, length-nodes_left, length-with_first}
 use Rattle.rb_wheel.proofs.Viewed.{in_room_viewed, slots_of-parts, sound_moved, written_back}
 use Rattle.rb_wheel.proofs.WrittenLinks.{changed_there, length-with_previous, length-with_next}
 use Rattle.rb_wheel.proofs.lists.Lists.remove.Goals as goal
@@ -51,32 +49,27 @@ heads_are c =
     let heads = c.self.inside.heads.items in
     let node = c.index-node.result.now in
     let begun : c.set_first.new.heads ≡ with_first heads c.unwrap-cell.result node.previous node.next =
-    c.set_first.ensures.heads ∙ ap (λ hs. with_first hs c.unwrap-cell.result node.previous node.next) c.deref_mut-3.ensures.value in
+    c.set_first.ensures ∙ ap (λ hs. with_first hs c.unwrap-cell.result node.previous node.next) c.deref_mut-3.ensures.value in
     let long : length c.set_first.new.heads ≡ length heads = ap length begun ∙ length-with_first heads c.unwrap-cell.result node.previous node.next in
     written_back c.self.inside.heads.len c.set_first.new.heads heads (omega arith) ∙ begun
 
 pub set_previous-requires : goal.set_previous-requires
 set_previous-requires c =
     subst (λ (ls : List Node). IfSome c.index-node.result.now.next (λ s. s < length ls)) (sym c.deref_mut.ensures.value)
-    (next_low c.self.inside.heads.items c.self.inside.marks c.self.inside.nodes.items c.args.self.now c.args.slot c.unwrap-cell.result c.index-node.result.now
+    (next_low c.self.inside.heads.items c.self.inside.nodes.items c.args.self.now c.args.slot c.unwrap-cell.result c.index-node.result.now
     c.self.invariant c.self.view_is c.requires c.index-node.ensures c.unwrap-cell.ensures)
 
 pub set_next-requires : goal.set_next-requires
 set_next-requires c =
     subst (λ (ls : List Node). IfSome c.index-node.result.now.previous (λ s. s < length ls)) (sym (c.deref_mut-2.ensures.value ∙ noted_is (goal.at.set_next-requires c).After-set_previous))
-    (previous_low c.self.inside.heads.items c.self.inside.marks c.self.inside.nodes.items c.args.self.now c.args.slot c.unwrap-cell.result c.index-node.result.now
+    (previous_low c.self.inside.heads.items c.self.inside.nodes.items c.args.self.now c.args.slot c.unwrap-cell.result c.index-node.result.now
     c.self.invariant c.self.view_is c.requires c.index-node.ensures c.unwrap-cell.ensures)
 
-pub set_first-requires-clause-in_heads : goal.set_first-requires-clause-in_heads
-set_first-requires-clause-in_heads c =
+pub set_first-requires : goal.set_first-requires
+set_first-requires c =
     subst (λ (hs : List (Option ℕ)). c.unwrap-cell.result < length hs) (sym c.deref_mut-3.ensures.value)
-    (has_head c.self.inside.heads.items c.self.inside.marks c.self.inside.nodes.items c.args.self.now c.args.slot c.unwrap-cell.result c.index-node.result.now
+    (has_head c.self.inside.heads.items c.self.inside.nodes.items c.args.self.now c.args.slot c.unwrap-cell.result c.index-node.result.now
     c.self.invariant c.self.view_is c.requires c.index-node.ensures c.unwrap-cell.ensures)
-
-pub set_first-requires-clause-in_wheel : goal.set_first-requires-clause-in_wheel
-set_first-requires-clause-in_wheel c =
-    in_wheel c.self.inside.heads.items c.self.inside.marks c.self.inside.nodes.items c.args.self.now c.args.slot c.unwrap-cell.result c.index-node.result.now
-    c.self.invariant c.self.view_is c.requires c.index-node.ensures c.unwrap-cell.ensures
 
 pub invariant_of-self : goal.invariant_of-self
 invariant_of-self c =
@@ -92,20 +85,14 @@ invariant_of-self c =
     let nodes_now = changed_there taken_out _ (with_next (with_previous nodes node.next node.previous) node.previous node.next) slot c.index_mut.result.now c.take_out.new.self
     (joined_is (goal.at.invariant_of-self c).After-set_next (noted_is (goal.at.invariant_of-self c).After-set_previous)) low_joined c.index_mut.ensures.value c.take_out.ensures in
     let heads_now = heads_are (goal.at.invariant_of-self c).After-set_first in
-    let low = has_head heads lists.marks nodes c.args.self.now slot at node sound c.self.view_is c.requires c.index-node.ensures c.unwrap-cell.ensures in
-    let linked = left_linked heads lists.marks nodes c.args.self.now slot at node sound c.self.view_is c.requires c.index-node.ensures c.unwrap-cell.ensures in
-    let long = length-nodes_left heads lists.marks nodes c.args.self.now slot at node sound c.self.view_is c.requires c.index-node.ensures c.unwrap-cell.ensures in
+    let linked = left_linked heads nodes c.args.self.now slot at node sound c.self.view_is c.requires c.index-node.ensures c.unwrap-cell.ensures in
+    let long = length-nodes_left heads nodes c.args.self.now slot at node sound c.self.view_is c.requires c.index-node.ensures c.unwrap-cell.ensures in
     let heads_long = length-with_first heads at node.previous node.next in
     let few = sound.few_heads in
     let all = sound.all_heads in
-    let mark_new = mark_at c.set_first.new.marks in
-    let marked = marks_again (head_at heads) (head_at (with_first heads at node.previous node.next)) (mark_at lists.marks) mark_new at
-    sound.marked (with_first_other heads at node.previous node.next)
-    (c.set_first.ensures.here ∙ first_marked heads at node.previous node.next (mark_at lists.marks at) low (sound.marked at)) c.set_first.ensures.elsewhere in
     let joined : List Node = with_next (with_previous nodes node.next node.previous) node.previous node.next in
-    let sound_now : AreSoundLists (with_first heads at node.previous node.next) c.set_first.new.marks (set joined slot (taken_out (node_at joined slot))) = record {
+    let sound_now : AreSoundLists (with_first heads at node.previous node.next) (set joined slot (taken_out (node_at joined slot))) = record {
       linked = (rank, linked);
-      marked = marked;
       few_heads = omega arith;
       all_heads = λ some. let enough = all (omega arith) in omega arith;
     } in
@@ -123,8 +110,8 @@ returns c =
     (joined_is (goal.at.returns c).After-set_next (noted_is (goal.at.returns c).After-set_previous)) low_joined c.index_mut.ensures.value c.take_out.ensures in
     slots_of-parts _ now.expiries (set now.cells slot None)
     (ap expiries_of nodes_now
-    ∙ expiries_left lists.heads.items lists.marks nodes now slot c.unwrap-cell.result node
+    ∙ expiries_left lists.heads.items nodes now slot c.unwrap-cell.result node
     c.self.invariant c.self.view_is c.requires c.index-node.ensures c.unwrap-cell.ensures)
     (ap cells_of nodes_now
-    ∙ cells_left lists.heads.items lists.marks nodes now slot c.unwrap-cell.result node
+    ∙ cells_left lists.heads.items nodes now slot c.unwrap-cell.result node
     c.self.invariant c.self.view_is c.requires c.index-node.ensures c.unwrap-cell.ensures)

@@ -28,7 +28,7 @@ invariant_of-self-in-Continue-branch-2 c =
     let lists = c.self.inside in
     let nodes = lists.nodes.items in
     let few = c.self.invariant.few_heads in
-    AreSoundLists-reserved lists.heads.items c.resize.new.self.items lists.marks nodes c.resize-then-wanted-len.new.self.items (CELLS - lists.heads.len)
+    AreSoundLists-reserved lists.heads.items c.resize.new.self.items nodes c.resize-then-wanted-len.new.self.items (CELLS - lists.heads.len)
     (omega arith) (heads_are (goal.at.invariant_of-self-in-Continue-branch-2 c).In_ok-resize)
     (λ slot. ap (λ ns. node_at ns slot) (nodes_are (goal.at.invariant_of-self-in-Continue-branch-2 c).In_ok-resize-2)
     ∙ get_or-padded nodes (c.args.wanted - lists.nodes.len) slot vacant)
@@ -38,7 +38,7 @@ pub invariant_of-self-in_err-resize-2 : goal.invariant_of-self-in_err-resize-2
 invariant_of-self-in_err-resize-2 c =
     let lists = c.self.inside in
     let few = c.self.invariant.few_heads in
-    AreSoundLists-reserved lists.heads.items c.resize.new.self.items lists.marks lists.nodes.items c.resize-then-wanted-len.new.self.items (CELLS - lists.heads.len)
+    AreSoundLists-reserved lists.heads.items c.resize.new.self.items lists.nodes.items c.resize-then-wanted-len.new.self.items (CELLS - lists.heads.len)
     (omega arith) (heads_are (goal.at.invariant_of-self-in_err-resize-2 c).In_ok-resize)
     (λ slot. ap (λ ns. node_at ns slot) c.in_err-resize-2.ensures.items) c.self.invariant
 

@@ -2,7 +2,7 @@
 use Rattle.std.proofs.Common.{◌≡◌, ◌<◌, ℕ, ◌++◌, List, length, take, drop, Option, sym, ap, ◌∙◌, subst, arith}
 use Rattle.rb_wheel.specs.declared.node.Node.{Node}
 use Rattle.rb_wheel.specs.Lists.{Slots}
-use Rattle.rb_wheel.specs.Wheel.{LieRight, MaySpread, SameInCells}
+use Rattle.rb_wheel.specs.Wheel.{LieRight, MaySpread, SameInCells, StillWait}
 use Rattle.rb_wheel.specs.WheelLinks.{cells_of, expiries_of, slots_of}
 use Rattle.rb_wheel.proofs.Members.{met}
 use Rattle.rb_wheel.proofs.Viewed.{cell_at-viewed, in_heads_of, sound_moved, written_back}
@@ -57,3 +57,9 @@ returns-clause-same c =
     let now = (goal.at.returns-clause-same c).After-spread in
     subst (λ (ns : List Node). SameInCells c.args.self.now.cells (cells_of ns)) (sym (nodes_are now))
     (subst (λ (s : Slots). SameInCells s.cells (cells_of c.spread.new.nodes)) (viewed now) c.spread.ensures.same)
+
+pub returns-clause-waits : goal.returns-clause-waits
+returns-clause-waits c =
+    let now = (goal.at.returns-clause-waits c).After-spread in
+    subst (λ (ns : List Node). StillWait c.args.waiting.now c.args.self.now.cells c.spread.new.waiting (cells_of ns)) (sym (nodes_are now))
+    (subst (λ (s : Slots). StillWait c.args.waiting.now s.cells c.spread.new.waiting (cells_of c.spread.new.nodes)) (viewed now) c.spread.ensures.waits)

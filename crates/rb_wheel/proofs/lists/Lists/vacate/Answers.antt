@@ -10,7 +10,7 @@ invariant_of-self c =
     let read = c.index_mut-node.result.now in
     let within = in_room_expiry lists.nodes.items c.args.self.now c.self.view_is c.args.slot c.requires in
     sound_written lists.nodes.items c.args.slot read (record read { is_taken = false }) within
-    c.index_mut-node.ensures.value refl refl refl lists.heads.items lists.marks c.self.invariant
+    c.index_mut-node.ensures.value refl refl refl lists.heads.items c.self.invariant
 
 pub returns-clause-left : goal.returns-clause-left
 returns-clause-left c =

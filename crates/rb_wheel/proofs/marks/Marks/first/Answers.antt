@@ -3,8 +3,8 @@ use Rattle.std.proofs.Common.{◌<◌, ◌^◌, get_or, refl, arith}
 use Rattle.rb_wheel.proofs.MarkedCells.{first_marked, first_least}
 use Rattle.rb_wheel.proofs.marks.Marks.first.Goals as goal
 
-pub returns-then-word-ne0 : goal.returns-then-word-ne0
-returns-then-word-ne0 c =
+pub returns-then-word-ne0-clause-first : goal.returns-then-word-ne0-clause-first
+returns-then-word-ne0-clause-first c =
     let words = c.args.self.now.words in
     let level = c.loop-level.level in
     let low = c.loop-level.invariant in

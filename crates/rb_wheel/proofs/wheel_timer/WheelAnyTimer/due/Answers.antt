@@ -1,13 +1,15 @@
--- The least entry is due, or none is.
-use Rattle.std.proofs.Common.{rules, ◌≡◌, None, MatchOption, nat_le}
-use Rattle.std.specs.Bool.{then_some}
-use Rattle.rb_timer.specs.Slots.{content_of}
+-- The base passes no entry, and the least entry is due, or none is.
+use Rattle.std.proofs.Common.{rules, ◌≤◌, ◌∙◌, None, IfSome, sym, ap, subst}
+use Rattle.rb_timer.specs.Slots.{content_of, get-content_of}
 use Rattle.rb_timer.proofs.Least.{IsDueEntry-from_least}
+use Rattle.rb_wheel.specs.Lists.{slot_expiry}
 use Rattle.rb_wheel.proofs.wheel_timer.WheelAnyTimer.due.Goals as goal
 
-pub returns-clause-due : goal.returns-clause-due
-returns-clause-due g c =
-    let due = c.filter.result in
-    let filtered : MatchOption c.least.result (due ≡ None) (λ entry. due ≡ then_some (nat_le entry.1 c.args.now) entry) =
-    search rules in
-    IsDueEntry-from_least (content_of c.args.self.now) c.args.now c.least.result due c.least.ensures filtered
+pub returns-in_err-least-clause-due : goal.returns-in_err-least-clause-due
+returns-in_err-least-clause-due g c =
+    IsDueEntry-from_least (content_of c.args.self.now) c.args.now None c.from_residual.result c.in_err-least.ensures (search rules)
+
+pub advance-requires-clause-least : goal.advance-requires-clause-least
+advance-requires-clause-least g c = λ slot lies.
+    subst (λ o. IfSome o (λ expiry. c.in_ok-least.least.1 ≤ expiry))
+    (get-content_of c.args.self.now slot ∙ ap (λ es. slot_expiry es slot) (sym c.self.view_is)) (c.in_ok-least.ensures.least slot)

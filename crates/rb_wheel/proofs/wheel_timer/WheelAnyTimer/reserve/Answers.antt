@@ -28,7 +28,7 @@ invariant_of-self-in-Continue-branch-2 g c =
     let cells_long = long old.cells new.cells more_cells cells in
     let room = c.in_ok-reserve.ensures.ok in
     let fits = c.self.invariant.in_lists in
-    IsWheel-reserved old.expiries new.expiries old.cells new.cells _ _ _ _ wheel.base wheel.len _
+    IsWheel-reserved old.expiries new.expiries old.cells new.cells _ _ _ _ wheel.waiting wheel.base wheel.len _
     (same_at old.expiries new.expiries more_expiries expiries) (same_at old.cells new.cells more_cells cells)
     c.in_ok-reserve.ensures.content (omega arith) (omega arith) c.self.invariant
 
