@@ -1,5 +1,5 @@
 -- The entries of a cell, spread over lower ones one after another.
-use Rattle.std.proofs.Common.{◌≡◌, ℕ, ◌<◌, ◌≤◌, ◌≢◌, Bool, true, false, cond, eqb, List, length, set, Option, Some, None, is_some, sym, ap, ◌∙◌, refl, subst, arith, ⊎_elim, get_or-set_same, get_or-set_other, length-set}
+use Rattle.std.proofs.Common.{◌≡◌, ℕ, ◌<◌, ◌≤◌, ◌≢◌, Bool, true, false, cond, eqb, List, length, set, Option, Some, None, sym, ap, ◌∙◌, refl, subst, arith, ⊎_elim, get_or-set_same, get_or-set_other}
 use Rattle.std.specs.Prelude.{count_by, IsSomeAnd}
 use Rattle.std.proofs.lemmas.Bool.{cases_lt, cases_eq, eq-eqb, ne_eqb}
 use Rattle.std.proofs.lemmas.List.{get_or_past}
@@ -9,7 +9,7 @@ use Rattle.rb_wheel.specs.declared.node.Node.{Node}
 use Rattle.rb_wheel.specs.Cells.{IsCellOf}
 use Rattle.rb_wheel.specs.Lists.{cell_at, slot_expiry, IsVacant}
 use Rattle.rb_wheel.specs.Nodes.{expiry_of}
-use Rattle.rb_wheel.specs.Wheel.{LiesRight, LieRight, MaySpread, SameInCells, Waits, StillWait}
+use Rattle.rb_wheel.specs.Wheel.{LiesRight, LieRight, MaySpread, Waits, StillWait}
 use Rattle.rb_wheel.specs.declared.marks.Marks.{Marks}
 use Rattle.rb_wheel.specs.Marks.{mark_at}
 use Rattle.rb_wheel.proofs.Moves.{lies_in}
@@ -80,15 +80,6 @@ module _ (base cell : ℕ) (expiries cells : List (Option ℕ)) (may : MaySpread
         (sym (elsewhere other
         (λ same. let low = before in let at = same_Some lower cell (sym here ∙ ap (cell_at put) (sym same) ∙ in_cell) in omega arith))
         ∙ in_cell);
-  }
-
-  pub same_still : (first_cells : List (Option ℕ)) → SameInCells first_cells cells → SameInCells first_cells put
-  same_still first_cells same = record {
-    room = length-set cells slot (Some lower) ∙ same.room;
-    each = λ other. ⊎_elim
-        (λ at. ap (λ s. is_some (cell_at put s)) at ∙ ap is_some here ∙ sym (ap is_some lies) ∙ ap (λ s. is_some (cell_at cells s)) (sym at) ∙ same.each other)
-        (λ apart. ap is_some (elsewhere other apart) ∙ same.each other)
-        (cases_eq other slot);
   }
 
   -- where it waits, as the others do where they did

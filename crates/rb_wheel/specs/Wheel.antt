@@ -30,11 +30,6 @@ pub record MaySpread (base cell : ℕ) (expiries cells : List (Option ℕ)) : Ty
       → IsSomeAnd (slot_expiry expiries slot)
       (λ expiry. (base ≤ expiry) × ((lower : ℕ) → IsCellOf base expiry lower → lower < cell))
 
--- the same slots lie in some cell
-pub record SameInCells (cells new_cells : List (Option ℕ)) : Type 0 where
-  pub room : length new_cells ≡ length cells
-  pub each : (slot : ℕ) → is_some (cell_at new_cells slot) ≡ is_some (cell_at cells slot)
-
 -- the entries of the cell expire at one moment
 abbrev pub ExpireTogether : List (Option ℕ) → List (Option ℕ) → ℕ → Type 0
 ExpireTogether expiries cells cell = (slot other : ℕ) → cell_at cells slot ≡ Some cell → cell_at cells other ≡ Some cell
@@ -45,9 +40,14 @@ abbrev pub Waits : Marks → Option ℕ → Type 0
 Waits waiting cell = IsSomeAnd cell (λ at. mark_at waiting at ≡ 1)
 
 abbrev pub StillWait : Marks → List (Option ℕ) → Marks → List (Option ℕ) → Type 0
-StillWait waiting cells new_waiting new_cells = (slot : ℕ) → Waits waiting (cell_at cells slot) → Waits new_waiting (cell_at new_cells slot)
+StillWait waiting cells new_waiting new_cells =
+    (slot : ℕ) → Waits waiting (cell_at cells slot) → Waits new_waiting (cell_at new_cells slot)
 
--- the early timer has at a slot what the slot has
+-- the early timer has the same but at one slot
+abbrev pub IsSameElsewhere : ℕ → Content → Content → Type 0
+IsSameElsewhere slot early new_early = (other : ℕ) → other ≢ slot → map.get new_early other ≡ map.get early other
+
+-- it has at a slot what the slot has
 abbrev pub IsThere : List (Option ℕ) → Content → ℕ → Type 0
 IsThere expiries early slot = map.get early slot ≡ slot_expiry expiries slot
 
@@ -61,7 +61,8 @@ AreStillThere expiries early new_early = (slot : ℕ) → IsThere expiries early
 
 -- each entry is there, or lies in a waiting cell
 pub record Stand (expiries cells : List (Option ℕ)) (early : Content) (waiting : Marks) : Type 0 where
-  pub each : (slot : ℕ) → IsThere expiries early slot ⊎ ((map.get early slot ≡ None) × Waits waiting (cell_at cells slot))
+  pub each : (slot : ℕ) → IsThere expiries early slot
+      ⊎ ((map.get early slot ≡ None) × Waits waiting (cell_at cells slot))
 
 -- no expiry is before that of the entry
 abbrev pub IsNoEarlier : Option (ℕ × ℕ) → Option ℕ → Type 0

@@ -1,6 +1,6 @@
-ghost use Rattle.std.specs.Prelude.{◌≡◌, ◌≤◌, ℕ, IsSome, IfSome, max, min};
+ghost use Rattle.std.specs.Prelude.{◌≡◌, ◌≤◌, ℕ, IsSome, IfSome, length, max, min};
 ghost use Rattle.rb_wheel.specs.Lists.{cell_at, slot_expiry};
-ghost use Rattle.rb_wheel.specs.Wheel.{LieRight, SameInCells, StillWait};
+ghost use Rattle.rb_wheel.specs.Wheel.{LieRight, StillWait};
 
 use crate::cells::{DIGITS, cell_of};
 use crate::lists::Lists;
@@ -22,7 +22,7 @@ pub(crate) fn advance(
     ensures base { base.new ≡ max base.old (min now least) }
     ensures expiries { lists.new.expiries ≡ lists.old.expiries }
     ensures right { LieRight base.new lists.old.expiries lists.new.cells }
-    ensures same { SameInCells lists.old.cells lists.new.cells }
+    ensures room { length lists.new.cells ≡ length lists.old.cells }
     ensures waits { StillWait waiting.old lists.old.cells waiting.new lists.new.cells }
 {
     let next = now.min(least);

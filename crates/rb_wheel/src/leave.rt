@@ -1,7 +1,7 @@
 ghost use Rattle.std.specs.Prelude.{◌≡◌, ◌≢◌, ◌<◌, ℕ, Some, None, length};
 ghost use Rattle.std.specs.FinMap as map;
 ghost use Rattle.rb_wheel.specs.Lists.{cell_at};
-ghost use Rattle.rb_wheel.specs.Wheel.{LiesRight, Waits};
+ghost use Rattle.rb_wheel.specs.Wheel.{LiesRight, Waits, IsSameElsewhere};
 
 use crate::cells::cell_of;
 use crate::lists::Lists;
@@ -11,7 +11,7 @@ use rb_timer::Timer;
 /// Takes the entry at a slot out of a timer, if it has one there.
 pub(crate) fn take_out<E: Timer>(early: &mut E, slot: usize)
     ensures here { map.get (E.content early.new) slot ≡ None }
-    ensures others { (other : ℕ) → other ≢ slot → map.get (E.content early.new) other ≡ map.get (E.content early.old) other }
+    ensures others { IsSameElsewhere slot (E.content early.old) (E.content early.new) }
     ensures room { E.room early.new ≡ E.room early.old }
 {
     if early.get(slot).is_some() {

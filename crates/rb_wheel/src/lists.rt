@@ -3,7 +3,7 @@ ghost use Rattle.std.specs.Prelude.{OnOk, OnErr, IfSome, MatchOption, length, re
 ghost use Rattle.rb_wheel.specs.Nodes.{with_first};
 ghost use Rattle.std.specs.FinMap as map;
 ghost use Rattle.rb_wheel.specs.Lists.{cell_at, slot_expiry, IsHeld, IsVacant, IsLeastIn, HasExpiries};
-ghost use Rattle.rb_wheel.specs.Wheel.{LieRight, MaySpread, SameInCells, StillWait, IsThere, AreStillThere, AreCopies};
+ghost use Rattle.rb_wheel.specs.Wheel.{LieRight, MaySpread, StillWait, IsSameElsewhere, IsThere, AreStillThere, AreCopies};
 
 use crate::cells::CELLS;
 use crate::marks::Marks;
@@ -129,7 +129,7 @@ impl Lists {
         requires may { MaySpread base cell self.old.expiries self.old.cells }
         ensures expiries { self.new.expiries ≡ self.old.expiries }
         ensures right { LieRight base self.old.expiries self.new.cells }
-        ensures same { SameInCells self.old.cells self.new.cells }
+        ensures room { length self.new.cells ≡ length self.old.cells }
         ensures waits { StillWait waiting.old self.old.cells waiting.new self.new.cells }
     {
         spread(&mut self.heads, &mut self.nodes, waiting, base, cell);
@@ -166,7 +166,8 @@ impl Lists {
         requires copies { AreCopies self.now.expiries (E.content early.old) }
         ensures copies { AreCopies self.now.expiries (E.content early.new) }
         ensures kept { AreStillThere self.now.expiries (E.content early.old) (E.content early.new) }
-        ensures all { (slot : ℕ) → cell_at self.now.cells slot ≡ Some cell → IsThere self.now.expiries (E.content early.new) slot }
+        ensures all { (slot : ℕ) → cell_at self.now.cells slot ≡ Some cell
+            → IsThere self.now.expiries (E.content early.new) slot }
         ensures room { E.room early.new ≡ E.room early.old }
     {
         let mut cursor = head_of(&self.heads, cell);
@@ -192,7 +193,7 @@ fn add_unless_there<E: Timer>(early: &mut E, slot: usize, expiry: u64)
     requires in_room { slot < E.room early.old }
     requires copy { IfSome (map.get (E.content early.old) slot) (λ there. there ≡ expiry) }
     ensures here { map.get (E.content early.new) slot ≡ Some expiry }
-    ensures others { (other : ℕ) → other ≢ slot → map.get (E.content early.new) other ≡ map.get (E.content early.old) other }
+    ensures others { IsSameElsewhere slot (E.content early.old) (E.content early.new) }
     ensures room { E.room early.new ≡ E.room early.old }
 {
     if early.get(slot).is_none() {

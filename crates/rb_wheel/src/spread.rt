@@ -1,5 +1,5 @@
 ghost use Rattle.std.specs.Prelude.{◌≡◌, ◌<◌, Some, IfSome, length, slice_set};
-ghost use Rattle.rb_wheel.specs.Wheel.{LieRight, MaySpread, SameInCells, StillWait};
+ghost use Rattle.rb_wheel.specs.Wheel.{LieRight, MaySpread, StillWait};
 ghost use Rattle.rb_wheel.specs.WheelLinks.{head_at, cells_of, expiries_of, with_put, AreSoundLists};
 
 use crate::cells::{CELLS, cell_of};
@@ -40,7 +40,7 @@ pub(crate) fn spread(
     ensures sound { AreSoundLists heads.new nodes.new }
     ensures expiries { expiries_of nodes.new ≡ expiries_of nodes.old }
     ensures right { LieRight base (expiries_of nodes.old) (cells_of nodes.new) }
-    ensures same { SameInCells (cells_of nodes.old) (cells_of nodes.new) }
+    ensures room { length (cells_of nodes.new) ≡ length (cells_of nodes.old) }
     ensures waits { StillWait waiting.old (cells_of nodes.old) waiting.new (cells_of nodes.new) }
 {
     let mut rest = heads[cell].take();

@@ -20,11 +20,11 @@ pub type WheelTimer = Wheel<PairingTimer>;
 /// Only `due` moves the base: up to its `now`, but not past the least expiry. Then it spreads the cell
 /// that the base has entered over lower levels.
 ///
-/// The wheel keeps an entry of least expiry among those that are not in `E`, and so `least` searches
-/// nothing. When that entry leaves, the next is in the first cell that holds such entries. A cell is
-/// walked over once to find it. When the cell is searched again, its entries are put into `E` too, where
-/// each stays until it leaves the wheel; and so are those that are put into this cell from then on. On
-/// the lowest level all entries of a cell expire together, and any of them is the next.
+/// The wheel keeps the first of the entries that are not in `E`, so `least` searches for nothing. When
+/// that entry leaves, the next is in the first cell that holds such entries. One walk over the cell finds
+/// it. When the same cell is searched again, its entries are put into `E` too, where each stays until it
+/// leaves the wheel, and so are those that come into this cell later. On the lowest level all entries of a
+/// cell expire together, and any of them is the next.
 ///
 /// What calls cost, besides those of `E`: `insert` and `least` cost a constant. A `due` whose base enters
 /// a cell above the lowest level moves each entry of that cell, and a `remove` of the entry that is kept
@@ -40,7 +40,7 @@ pub struct Wheel<E: Timer> {
     early: E,
     base: u64,
     len: usize,
-    // An entry of least expiry among those that are not in `early`, if any is not.
+    // An entry before which none expires that is not in `early`, or none if all are there.
     first: Option<(usize, u64)>,
     // The cells that may hold an entry that is not in `early`.
     waiting: Marks,

@@ -4,10 +4,10 @@ use Rattle.std.proofs.lemmas.List.{get_or_read}
 use Rattle.rb_wheel.specs.declared.node.Node.{Node}
 use Rattle.rb_wheel.specs.Lists.{cell_at, slot_expiry}
 use Rattle.rb_wheel.specs.Nodes.{vacant, node_at, expiry_of}
-use Rattle.rb_wheel.specs.Wheel.{LieRight, MaySpread, SameInCells, StillWait}
+use Rattle.rb_wheel.specs.Wheel.{LieRight, MaySpread, StillWait}
 use Rattle.rb_wheel.specs.WheelLinks.{head_at, cells_of, expiries_of, slots_of, with_put, AreSoundLists}
 use Rattle.rb_wheel.proofs.HeldCells.{vacant as none_there}
-use Rattle.rb_wheel.proofs.Spreads.{count_in, before, may_still, same_still, waits_still, one_less, all_right}
+use Rattle.rb_wheel.proofs.Spreads.{count_in, before, may_still, waits_still, one_less, all_right}
 use Rattle.rb_wheel.proofs.TakenOff.{IsTakenOff, taken_off, put_away, lies_in, slot_low, all_cells, second_low, put_on}
 use Rattle.rb_wheel.proofs.Viewed.{cell_at-viewed, expiry_at-viewed}
 use Rattle.rb_wheel.proofs.WrittenLinks.{cells_of-with_put, expiries_of-with_put}
@@ -28,7 +28,7 @@ loop-rest-init c =
       low = let long = length-set heads cell c.take-rest.new.self in let within = c.requires.in_heads in omega arith;
       expiries = refl;
       may = c.requires.may;
-      same = record { room = refl; each = λ slot. refl };
+      room = refl;
       waits = λ slot waits. waits;
     }
 
@@ -125,8 +125,6 @@ loop-rest-preserved c =
     let rest_is : c.as_option-rest.result ≡ (node_at nodes slot).next = c.as_option-rest.ensures ∙ ap (λ (n : Node). n.next) (node_is now) in
     let off = put_on cell slot lower heads nodes (off now) c.loop-rest.invariant.low (apart now) (has_head now) in
     let may = may_still base cell (expiries_of nodes) (cells_of nodes) c.loop-rest.invariant.may slot node (lies now) (expires now) lower c.cell_of-lower.ensures.cell in
-    let same = same_still base cell (expiries_of nodes) (cells_of nodes) c.loop-rest.invariant.may slot node (lies now) (expires now) lower c.cell_of-lower.ensures.cell
-    (cells_of c.args.nodes.now) c.loop-rest.invariant.same in
     let waits = waits_still base cell (expiries_of nodes) (cells_of nodes) c.loop-rest.invariant.may slot node (lies now) (expires now) lower c.cell_of-lower.ensures.cell
     (cells_of c.args.nodes.now) c.args.waiting.now c.loop-rest.waiting c.insert.new.self c.insert.ensures.here c.insert.ensures.elsewhere c.loop-rest.invariant.waits in
     record {
@@ -137,7 +135,7 @@ loop-rest-preserved c =
       expiries = expiries_are put ∙ c.loop-rest.invariant.expiries;
       may = subst (λ es. MaySpread base cell es (cells_of c.put_first.new.nodes)) (sym (expiries_are put))
           (subst (λ cs. MaySpread base cell (expiries_of nodes) cs) (sym (cells_are put)) may);
-      same = subst (λ cs. SameInCells (cells_of c.args.nodes.now) cs) (sym (cells_are put)) same;
+      room = ap length (cells_are put) ∙ length-set (cells_of nodes) slot (Some lower) ∙ c.loop-rest.invariant.room;
       waits = subst (λ cs. StillWait c.args.waiting.now (cells_of c.args.nodes.now) c.insert.new.self cs) (sym (cells_are put)) waits;
     }
 

@@ -1,6 +1,6 @@
 -- What is left of the list that was taken off is still to be put into lower cells.
 use Rattle.std.proofs.Common.{◌≡◌, ◌<◌, length}
-use Rattle.rb_wheel.specs.Wheel.{MaySpread, SameInCells, StillWait}
+use Rattle.rb_wheel.specs.Wheel.{MaySpread, StillWait}
 use Rattle.rb_wheel.specs.WheelLinks.{cells_of, expiries_of}
 use Rattle.rb_wheel.proofs.Spreads.{count_in}
 use Rattle.rb_wheel.proofs.TakenOff.{IsTakenOff}
@@ -12,7 +12,7 @@ invariant-loop-rest l = record {
   low : l.cell < length l.heads;
   expiries : expiries_of l.nodes ≡ expiries_of l.initial.nodes;
   may : MaySpread l.base l.cell (expiries_of l.nodes) (cells_of l.nodes);
-  same : SameInCells (cells_of l.initial.nodes) (cells_of l.nodes);
+  room : length (cells_of l.nodes) ≡ length (cells_of l.initial.nodes);
   waits : StillWait l.initial.waiting (cells_of l.initial.nodes) l.waiting (cells_of l.nodes);
 }
 

@@ -2,7 +2,7 @@
 use Rattle.std.proofs.Common.{◌≡◌, ◌<◌, ℕ, ◌++◌, List, length, take, drop, Option, sym, ap, ◌∙◌, subst, arith}
 use Rattle.rb_wheel.specs.declared.node.Node.{Node}
 use Rattle.rb_wheel.specs.Lists.{Slots}
-use Rattle.rb_wheel.specs.Wheel.{LieRight, MaySpread, SameInCells, StillWait}
+use Rattle.rb_wheel.specs.Wheel.{LieRight, MaySpread, StillWait}
 use Rattle.rb_wheel.specs.WheelLinks.{cells_of, expiries_of, slots_of}
 use Rattle.rb_wheel.proofs.Members.{met}
 use Rattle.rb_wheel.proofs.Viewed.{cell_at-viewed, in_heads_of, sound_moved, written_back}
@@ -52,11 +52,10 @@ returns-clause-right c =
     subst (λ (ns : List Node). LieRight c.args.base c.args.self.now.expiries (cells_of ns)) (sym (nodes_are now))
     (subst (λ (s : Slots). LieRight c.args.base s.expiries (cells_of c.spread.new.nodes)) (viewed now) c.spread.ensures.right)
 
-pub returns-clause-same : goal.returns-clause-same
-returns-clause-same c =
-    let now = (goal.at.returns-clause-same c).After-spread in
-    subst (λ (ns : List Node). SameInCells c.args.self.now.cells (cells_of ns)) (sym (nodes_are now))
-    (subst (λ (s : Slots). SameInCells s.cells (cells_of c.spread.new.nodes)) (viewed now) c.spread.ensures.same)
+pub returns-clause-room : goal.returns-clause-room
+returns-clause-room c =
+    let now = (goal.at.returns-clause-room c).After-spread in
+    ap (λ (ns : List Node). length (cells_of ns)) (nodes_are now) ∙ c.spread.ensures.room ∙ ap (λ (s : Slots). length s.cells) (viewed now)
 
 pub returns-clause-waits : goal.returns-clause-waits
 returns-clause-waits c =
