@@ -57,6 +57,7 @@ fn next_first<E: Timer>(
             return Some(entry);
         }
         waiting.remove(cell);
+        walked.remove(cell);
     }
     None
 }
