@@ -1,13 +1,15 @@
 use crate::tests::devices::{
-    Bytes, Dialogue, NEVER, Sheet, expect, expect_bytes, expect_count, expect_end, expect_number,
-    push_line, run, with_kept,
+    NEVER, Sheet, expect, expect_bytes, expect_count, expect_number, push_line, run_by, with_kept,
 };
 use rb_binary::BinaryTimer;
-use rb_kept::Kept;
+use rb_delayed::Payload;
+use rb_kept::{Kept, Outcome, Step};
 use rb_ledger::Tally;
-use rb_queue::{Act, Event};
+use rb_queue::{Act, Ask, Draft, Event, Reply};
+use rb_retry::Policy;
 use rb_session::{Ended, SessionFault};
 use std::alloc::{AllocError, Global};
+use std::ops::Range;
 use std::process::Abort;
 use std::test::Fail;
 
@@ -23,145 +25,70 @@ const MOST_CALLS: u64 = 300;
 // The number of jobs that are held before the first of them fails.
 const JOBS: u64 = 64;
 
-// The greatest number of elements that stand when the one job fails.
-const MOST_STANDING: u64 = 64;
+// A number of bytes that no script of a session reaches, and no text of its replies.
+const PAGE_BYTES: usize = 8192;
+
+// What the test writes, in memory that is taken once for all sessions: the requests of a session, the
+// replies that it wants, a line of them, and what the session wrote.
+#[derive(Drop)]
+struct Pages {
+    script: Vec<u8>,
+    replies: Vec<u8>,
+    line: Vec<u8>,
+    sheet: Sheet,
+}
 
 // Takes memory for the test itself, and tries once more if memory is refused.
-fn roomy(alloc: Global) -> Result<Vec<u8>, AllocError> {
-    match Vec::with_capacity(alloc, 8192) {
+fn page(alloc: Global) -> Result<Vec<u8>, AllocError> {
+    match Vec::with_capacity(alloc, PAGE_BYTES) {
         Ok(bytes) => Ok(bytes),
-        Err(_) => Vec::with_capacity(alloc, 8192),
+        Err(_) => Vec::with_capacity(alloc, PAGE_BYTES),
     }
 }
 
-fn sheet(alloc: Global) -> Result<Sheet, AllocError> {
-    Ok(Sheet {
-        bytes: roomy(alloc)?,
-        calls: 0,
-        fails_at: NEVER,
+fn blank_pages(alloc: Global) -> Result<Pages, AllocError> {
+    Ok(Pages {
+        script: page(alloc)?,
+        replies: page(alloc)?,
+        line: page(alloc)?,
+        sheet: Sheet {
+            bytes: page(alloc)?,
+            calls: 0,
+            fails_at: NEVER,
+        },
     })
 }
 
-fn is_memory(ended: &Result<Ended, SessionFault>) -> bool {
-    matches!(ended, Err(SessionFault::Memory))
-}
-
-// Runs a session with one offer. Returns the number of refusals: 1 if memory is refused for the
-// session itself or for the offer.
-fn refused_offer(rt: &impl Abort, alloc: Global) -> Result<u32, Fail> {
-    with_kept(
-        alloc,
-        MOST_CALLS,
-        |kept, tally| refused_offer_over(rt, alloc, kept, tally),
-    )?
-}
-
-fn refused_offer_over(
-    rt: &impl Abort,
-    alloc: Global,
-    kept: &mut Kept<BinaryTimer>,
-    tally: &mut Tally,
-) -> Result<u32, Fail> {
-    let script = b"AT 100\nOFFER 50 a\nSIZE\nPOLL\nPEEK\n";
-    let (mut reader, mut writer) = (Bytes::of(script, NEVER), sheet(alloc)?);
-    let ended = run(rt, alloc, kept, tally, &mut reader, &mut writer);
-    let calls = (reader.calls, writer.calls);
-    Ok(offers_refused(rt, ended, calls, kept, &writer.bytes))
-}
-
-// Returns the number of refusals. The queue and the text are borrowed, because a function drops
-// what it owns at each of its exits.
-fn offers_refused(
-    rt: &impl Abort,
-    ended: Result<Ended, SessionFault>,
-    calls: (usize, usize),
-    kept: &Kept<BinaryTimer>,
-    text: &[u8],
-) -> u32 {
-    if is_memory(&ended) {
-        expect(rt, calls.0 == 0 && calls.1 == 0);
-        expect(rt, kept.history().is_empty());
-        return 1;
+impl Pages {
+    // Begins a dialogue with this request and its reply.
+    fn begin(&mut self, request: &[u8], reply: &[u8]) -> Result<(), AllocError> {
+        self.script.clear();
+        self.replies.clear();
+        self.push(request, reply)
     }
-    expect_end(rt, ended, Ok(Ended::EndOfInput { lost: 0 }), 0);
-    if kept.audit().offered == 1 {
-        let replies = b"NOW 100\nOFFERED 0 150\nSIZE 1\nNONE\nHEAD 0 150 1 a\n";
-        expect_bytes(rt, text, replies, 0);
-        return 0;
+
+    // Appends a request with its replies.
+    fn push(&mut self, request: &[u8], replies: &[u8]) -> Result<(), AllocError> {
+        self.script.extend_from_slice(request)?;
+        self.replies.extend_from_slice(replies)
     }
-    let replies = b"NOW 100\nERR 7 memory\nSIZE 0\nNONE\nNONE\n";
-    expect_bytes(rt, text, replies, 0);
-    expect_count(rt, kept.history().len(), 3, 0);
-    1
+
+    // Appends the offer of an element that stands, `id`.
+    fn push_standing(&mut self, id: u64) -> Result<(), AllocError> {
+        self.script.extend_from_slice(b"OFFER 9 b\n")?;
+        push_line(&mut self.replies, b"OFFERED ", id, b" 109\n")
+    }
 }
 
-// Returns a dialogue in which jobs are offered and fetched. Each is fetched before the next is
-// offered, while no other element stands.
-fn fetches(alloc: Global) -> Result<Dialogue, AllocError> {
-    let (mut script, mut replies) = (roomy(alloc)?, roomy(alloc)?);
-    script.extend_from_slice(b"AT 100\n")?;
-    replies.extend_from_slice(b"NOW 100\n")?;
-    for id in 0..JOBS {
-        script.extend_from_slice(b"OFFER 0 j\nPOLL\n")?;
-        push_line(&mut replies, b"OFFERED ", id, b" 100\n")?;
-        push_line(&mut replies, b"ITEM ", id, b" 100 1 j\n")?;
-    }
-    Ok(Dialogue { script, replies })
-}
-
-// Returns the dialogue of `fetches`, followed by failures. First job 0 fails while no element
-// stands, and a further job is fetched in its place. Then each of the other jobs fails. The replies
-// to these last 64 failures are left out.
-fn failures(alloc: Global) -> Result<Dialogue, AllocError> {
-    let Dialogue {
-        mut script,
-        mut replies,
-    } = fetches(alloc)?;
-    script.extend_from_slice(b"FAIL 0\nOFFER 0 j\nPOLL\n")?;
-    replies.extend_from_slice(b"AGAIN 64 1100\nOFFERED 65 100\nITEM 65 100 1 j\n")?;
-    for id in 1..JOBS {
-        push_line(&mut script, b"FAIL ", id, b"\n")?;
-    }
-    script.extend_from_slice(b"FAIL 65\n")?;
-    Ok(Dialogue { script, replies })
-}
-
-// Returns how many of these lines say that memory ran out.
-fn refused_lines(text: &[u8]) -> u32 {
-    let mut count = 0_u32;
-    for line in text.split_inclusive(|&byte| byte == b'\n') {
-        if line == REFUSED {
-            count = count.saturating_add(1);
-        }
-    }
-    count
-}
-
-// Asserts that the replies to the last 64 failures have the next ids in order, except where memory
-// was refused. Returns the number of refusals.
-fn expect_again(rt: &impl Abort, replies: &[u8], line: &mut Vec<u8>) -> Result<u32, AllocError> {
-    let (mut next_id, mut refused) = (66_u64, 0_u32);
-    for reply in replies.split_inclusive(|&byte| byte == b'\n') {
-        if reply == REFUSED {
-            refused = refused.saturating_add(1);
-            continue;
-        }
-        line.clear();
-        push_line(line, b"AGAIN ", next_id, b" 1100\n")?;
-        expect_bytes(rt, reply, line, 0);
-        next_id = next_id.saturating_add(1);
-    }
-    expect_number(rt, next_id.saturating_add(u64::from(refused)), 130, 0);
-    Ok(refused)
-}
-
-// The outcome of a session over a queue of its own.
-#[derive(Drop)]
+// A session that came to the end of its input, over a queue of its own.
+#[derive(Clone, Copy)]
 struct Session {
-    ended: Result<Ended, SessionFault>,
-    text: Vec<u8>,
-    calls: (usize, usize),
+    /// The number of refusals that it met.
+    met: u64,
+    /// The number of jobs that were lost at its end.
+    lost: u64,
     offered: u64,
+    events: usize,
     /// The id, the origin and the attempt of the element that the last event offered. `None` if the
     /// last event is not an offer.
     last: Option<(u64, u64, u32)>,
@@ -179,175 +106,330 @@ fn last_offer(kept: &Kept<BinaryTimer>) -> Option<(u64, u64, u32)> {
     }
 }
 
-fn session_at_last(rt: &impl Abort, alloc: Global, script: &[u8]) -> Result<Session, Fail> {
-    with_kept(
-        alloc,
-        MOST_CALLS,
-        |kept, tally| session_over(rt, alloc, kept, tally, script),
-    )?
+// How a session ended, and how often it was refused as a whole before.
+#[derive(Clone, Copy)]
+struct Ending {
+    ended: Result<Ended, SessionFault>,
+    met: u64,
 }
 
-fn session_over(
+fn run_over(
+    rt: &impl Abort,
+    alloc: Global,
+    kept: &mut Kept<BinaryTimer>,
+    tally: &mut Tally,
+    reader: &mut &[u8],
+    sheet: &mut Sheet,
+) -> Result<Ended, SessionFault> {
+    let policy = Policy::fixed(1_000, 3).expect(rt, "a policy");
+    run_by(alloc, kept, tally, reader, sheet, &policy)
+}
+
+// Runs the session of the script. If memory is refused to the session itself, asserts that it has done
+// nothing, and runs it once more.
+fn ended_at_last(
     rt: &impl Abort,
     alloc: Global,
     kept: &mut Kept<BinaryTimer>,
     tally: &mut Tally,
     script: &[u8],
-) -> Result<Session, Fail> {
-    let (mut reader, mut writer) = (Bytes::of(script, NEVER), sheet(alloc)?);
-    let ended = run(rt, alloc, kept, tally, &mut reader, &mut writer);
-    Ok(Session {
-        ended,
-        calls: (reader.calls, writer.calls),
-        text: writer.bytes,
-        offered: kept.audit().offered,
-        last: last_offer(kept),
-    })
-}
-
-// Runs a session in which jobs fail while 0, 1, and so on up to 64 elements stand. A job whose
-// failure is refused stays held, and is offered again at the end. Returns the number of refusals.
-fn refused_failures(rt: &impl Abort, alloc: Global) -> Result<u32, Fail> {
-    let dialogue = failures(alloc)?;
-    let session = session_at_last(rt, alloc, &dialogue.script)?;
-    if is_memory(&session.ended) {
-        return Ok(no_calls(rt, session.calls));
+    sheet: &mut Sheet,
+) -> Ending {
+    let mut reader = script;
+    let ended = run_over(rt, alloc, kept, tally, &mut reader, sheet);
+    if ended != Err(SessionFault::Memory) {
+        return Ending { ended, met: 0 };
     }
-    let mut line = roomy(alloc)?;
-    Ok(failures_refused(rt, &session, &dialogue.replies, &mut line)?)
+    expect_count(rt, reader.len(), script.len(), 0);
+    expect_count(rt, sheet.calls, 0, 0);
+    expect_count(rt, kept.history().len(), 0, 0);
+    let ended = run_over(rt, alloc, kept, tally, &mut reader, sheet);
+    Ending { ended, met: 1 }
 }
 
-fn no_calls(rt: &impl Abort, calls: (usize, usize)) -> u32 {
-    expect(rt, calls.0 == 0 && calls.1 == 0);
-    1
+fn lost_at(rt: &impl Abort, ended: Result<Ended, SessionFault>) -> u64 {
+    match ended {
+        Ok(Ended::EndOfInput { lost }) => lost,
+        _ => rt.abort(),
+    }
 }
 
-fn failures_refused(
+// Returns how many lines of the text begin with `front`.
+fn lines_with(text: &[u8], front: &[u8]) -> u64 {
+    let lines = text.split_inclusive(|&byte| byte == b'\n');
+    lines.filter(|line| line.starts_with(front)).count() as u64
+}
+
+// Asserts that the next offer gets this id.
+fn expect_next_id(rt: &impl Abort, kept: &mut Kept<BinaryTimer>, tally: &mut Tally, wanted: u64) {
+    let payload = Payload::new(b"z").ok().expect(rt, "a payload");
+    let step = kept.act(tally, 0, 0, Ask::Offer(Draft::first(0, payload)));
+    expect_number(rt, offered_id(rt, &step), wanted, 0);
+}
+
+fn offered_id(rt: &impl Abort, step: &Step) -> u64 {
+    match step {
+        Ok(Outcome::Done(Reply::Offered(element))) => element.id,
+        _ => rt.abort(),
+    }
+}
+
+// Runs the session of the script. Each job that it fetched has failed, by a request or at the end. So
+// each `OFFERED` and each `ITEM` stands for an id, except if the job was lost, and a refused request
+// for none: after a refusal one more offer shows that no id is left out.
+fn served(
     rt: &impl Abort,
-    session: &Session,
-    wanted: &[u8],
-    line: &mut Vec<u8>,
-) -> Result<u32, AllocError> {
-    expect_end(rt, session.ended, Ok(Ended::EndOfInput { lost: 0 }), 0);
-    let Some(replies) = session.text.strip_prefix(wanted) else {
+    alloc: Global,
+    kept: &mut Kept<BinaryTimer>,
+    tally: &mut Tally,
+    script: &[u8],
+    sheet: &mut Sheet,
+) -> Session {
+    sheet.bytes.clear();
+    sheet.calls = 0;
+    let Ending { ended, met } = ended_at_last(rt, alloc, kept, tally, script, sheet);
+    let (text, lost) = (sheet.bytes.as_slice(), lost_at(rt, ended));
+    let met = met
+        .saturating_add(lost)
+        .saturating_add(lines_with(text, REFUSED));
+    let (offered, events) = (kept.audit().offered, kept.history().len());
+    let last = last_offer(kept);
+    if met > 0 {
+        let told = lines_with(text, b"OFFERED ").saturating_add(lines_with(text, b"ITEM "));
+        expect_next_id(rt, kept, tally, told.saturating_sub(lost));
+    }
+    Session {
+        met,
+        lost,
+        offered,
+        events,
+        last,
+    }
+}
+
+// Runs the session of the pages' script over a queue of its own.
+fn session_of(rt: &impl Abort, alloc: Global, pages: &mut Pages) -> Result<Session, Fail> {
+    let (script, sheet) = (&pages.script, &mut pages.sheet);
+    with_kept(
+        alloc,
+        MOST_CALLS,
+        |kept, tally| served(rt, alloc, kept, tally, script, sheet),
+    )
+}
+
+// Runs a session with one offer, over the requests of a first example. Returns the number of refusals.
+fn refused_offer(rt: &impl Abort, alloc: Global, pages: &mut Pages) -> Result<u64, Fail> {
+    pages.begin(
+        b"AT 100\nOFFER 50 a\nSIZE\nPOLL\nPEEK\n",
+        b"NOW 100\nOFFERED 0 150\nSIZE 1\nNONE\nHEAD 0 150 1 a\n",
+    )?;
+    let session = session_of(rt, alloc, pages)?;
+    expect_one_offer(rt, session, &pages.sheet.bytes, &pages.replies);
+    Ok(session.met)
+}
+
+fn expect_one_offer(rt: &impl Abort, session: Session, text: &[u8], wanted: &[u8]) {
+    expect_number(rt, session.lost, 0, 0);
+    if session.offered == 1 {
+        expect_bytes(rt, text, wanted, 0);
+        return;
+    }
+    expect_bytes(rt, text, b"NOW 100\nERR 7 memory\nSIZE 0\nNONE\nNONE\n", 0);
+    expect_count(rt, session.events, 3, 0);
+}
+
+// Writes a dialogue in which jobs are offered and fetched. Each is fetched before the next is offered,
+// while no other element stands.
+fn write_fetches(pages: &mut Pages) -> Result<(), AllocError> {
+    pages.begin(b"AT 100\n", b"NOW 100\n")?;
+    for id in 0..JOBS {
+        pages.push(b"OFFER 0 j\nPOLL\n", b"")?;
+        push_line(&mut pages.replies, b"OFFERED ", id, b" 100\n")?;
+        push_line(&mut pages.replies, b"ITEM ", id, b" 100 1 j\n")?;
+    }
+    Ok(())
+}
+
+// Writes the dialogue of the fetches, followed by failures. First job 0 fails while no element stands,
+// and a further job is fetched in its place. Then each of the other jobs fails. The replies to these
+// last 64 failures are left out.
+fn write_failures(pages: &mut Pages) -> Result<(), AllocError> {
+    write_fetches(pages)?;
+    pages.push(
+        b"FAIL 0\nOFFER 0 j\nPOLL\n",
+        b"AGAIN 64 1100\nOFFERED 65 100\nITEM 65 100 1 j\n",
+    )?;
+    for id in 1..JOBS {
+        push_line(&mut pages.script, b"FAIL ", id, b"\n")?;
+    }
+    pages.push(b"FAIL 65\n", b"")
+}
+
+// Asserts that the replies to the last 64 failures have the next ids in order, except where memory was
+// refused.
+fn expect_again(rt: &impl Abort, replies: &[u8], line: &mut Vec<u8>) -> Result<(), AllocError> {
+    let mut next_id = 66_u64;
+    for reply in replies.split_inclusive(|&byte| byte == b'\n') {
+        if reply != REFUSED {
+            line.clear();
+            push_line(line, b"AGAIN ", next_id, b" 1100\n")?;
+            expect_bytes(rt, reply, line, 0);
+            next_id = next_id.saturating_add(1);
+        }
+    }
+    expect_number(
+        rt,
+        next_id.saturating_add(lines_with(replies, REFUSED)),
+        130,
+        0,
+    );
+    Ok(())
+}
+
+// Runs a session in which jobs fail while 0, 1, and so on up to 64 elements stand. A job whose failure
+// is refused stays held, and is offered again at the end. Returns the number of refusals.
+fn refused_failures(rt: &impl Abort, alloc: Global, pages: &mut Pages) -> Result<u64, Fail> {
+    write_failures(pages)?;
+    let session = session_of(rt, alloc, pages)?;
+    expect_number(rt, session.lost, 0, 0);
+    match pages.sheet.bytes.strip_prefix(pages.replies.as_slice()) {
         // An offer was refused, so its job was not fetched.
-        return Ok(refused_lines(&session.text));
-    };
-    expect_number(rt, session.offered, 130, 0);
-    expect_again(rt, replies, line)
+        None => expect(rt, session.met == 1),
+        Some(replies) => {
+            expect_number(rt, session.offered, 130, 0);
+            expect_again(rt, replies, &mut pages.line)?;
+        }
+    }
+    Ok(session.met)
 }
 
 // Runs a session at whose end all jobs are held, and fail. A job whose failure is refused is lost.
 // Returns the number of refusals.
-fn refused_endings(rt: &impl Abort, alloc: Global) -> Result<u32, Fail> {
-    let dialogue = fetches(alloc)?;
-    let session = session_at_last(rt, alloc, &dialogue.script)?;
-    let (calls, offered) = (session.calls, session.offered);
-    Ok(endings_refused(
-        rt,
-        session.ended,
-        calls,
-        offered,
-        &session.text,
-        &dialogue.replies,
-    ))
-}
-
-fn endings_refused(
-    rt: &impl Abort,
-    ended: Result<Ended, SessionFault>,
-    calls: (usize, usize),
-    offered: u64,
-    text: &[u8],
-    wanted: &[u8],
-) -> u32 {
-    let lost = match ended {
-        Ok(Ended::EndOfInput { lost }) => lost,
-        ended => {
-            expect_end(rt, ended, Err(SessionFault::Memory), 0);
-            return no_calls(rt, calls);
-        }
-    };
-    if text != wanted {
+fn refused_endings(rt: &impl Abort, alloc: Global, pages: &mut Pages) -> Result<u64, Fail> {
+    write_fetches(pages)?;
+    let session = session_of(rt, alloc, pages)?;
+    if pages.sheet.bytes == pages.replies {
+        expect_number(rt, session.offered.saturating_add(session.lost), 128, 0);
+    } else {
         // An offer was refused, so its job was not fetched.
-        return refused_lines(text);
+        expect(rt, session.met == 1 && session.lost == 0);
     }
-    expect_number(rt, offered.saturating_add(lost), 128, 0);
-    u32::from(lost == 1)
+    Ok(session.met)
 }
 
-// Returns a dialogue in which a job is fetched, `standing` others are offered, and the job fails.
-// The reply to the failure is left out.
-fn failure_among(alloc: Global, standing: u64) -> Result<Dialogue, AllocError> {
-    let (mut script, mut replies) = (roomy(alloc)?, roomy(alloc)?);
-    script.extend_from_slice(b"AT 100\nOFFER 0 j\nPOLL\n")?;
-    replies.extend_from_slice(b"NOW 100\nOFFERED 0 100\nITEM 0 100 1 j\n")?;
-    for id in 1..=standing {
-        script.extend_from_slice(b"OFFER 9 b\n")?;
-        push_line(&mut replies, b"OFFERED ", id, b" 109\n")?;
-    }
-    script.extend_from_slice(b"FAIL 0\n")?;
-    Ok(Dialogue { script, replies })
-}
-
-// Asserts that a refused failure takes no id: the job stays held, and the end of the session offers
-// it under the next id. Returns the number of refusals.
-fn failure_refused(
+// Asserts that a refused failure takes no id: the job stays held, and the end of the session offers it
+// under the next id.
+fn expect_failure(
     rt: &impl Abort,
-    session: &Session,
-    wanted: &[u8],
+    session: Session,
+    pages: &mut Pages,
     standing: u64,
-    line: &mut Vec<u8>,
-) -> Result<u32, AllocError> {
-    expect_end(rt, session.ended, Ok(Ended::EndOfInput { lost: 0 }), 0);
-    let Some(reply) = session.text.strip_prefix(wanted) else {
+) -> Result<(), AllocError> {
+    expect_number(rt, session.lost, 0, 0);
+    let Some(reply) = pages.sheet.bytes.strip_prefix(pages.replies.as_slice()) else {
         // An offer was refused.
-        return Ok(refused_lines(&session.text));
+        expect(rt, session.met == 1);
+        return Ok(());
     };
     let next_id = standing.saturating_add(1);
     expect(rt, session.last == Some((next_id, 0, 2)));
-    if reply == REFUSED {
-        return Ok(1);
+    if reply != REFUSED {
+        pages.line.clear();
+        push_line(&mut pages.line, b"AGAIN ", next_id, b" 1100\n")?;
+        expect_bytes(rt, reply, &pages.line, 0);
     }
-    push_line(line, b"AGAIN ", next_id, b" 1100\n")?;
-    expect_bytes(rt, reply, line, 0);
+    Ok(())
+}
+
+// Runs a session in which a job is fetched, `standing` others are offered, and the job fails, which is
+// the script's last line. Returns the number of refusals. The pages have the lines before that one.
+fn refused_failure_among(
+    rt: &impl Abort,
+    alloc: Global,
+    pages: &mut Pages,
+    standing: u64,
+) -> Result<u64, Fail> {
+    let len = pages.script.len();
+    pages.push(b"FAIL 0\n", b"")?;
+    let session = session_of(rt, alloc, pages)?;
+    expect_failure(rt, session, pages, standing)?;
+    pages.script.truncate(len);
+    Ok(session.met)
+}
+
+// Runs sessions in which one job fails, while so many elements stand, and none after one that met a
+// refusal: no other is to come. Returns the number of refusals.
+fn refused_failures_among(
+    rt: &impl Abort,
+    alloc: Global,
+    pages: &mut Pages,
+    standing: Range<u64>,
+) -> Result<u64, Fail> {
+    pages.begin(
+        b"AT 100\nOFFER 0 j\nPOLL\n",
+        b"NOW 100\nOFFERED 0 100\nITEM 0 100 1 j\n",
+    )?;
+    for id in 1..=standing.start {
+        pages.push_standing(id)?;
+    }
+    for count in standing {
+        let met = refused_failure_among(rt, alloc, pages, count)?;
+        if met > 0 {
+            return Ok(met);
+        }
+        pages.push_standing(count.saturating_add(1))?;
+    }
     Ok(0)
 }
 
-fn refused_failure_among(rt: &impl Abort, alloc: Global, standing: u64) -> Result<u32, Fail> {
-    let dialogue = failure_among(alloc, standing)?;
-    let session = session_at_last(rt, alloc, &dialogue.script)?;
-    if is_memory(&session.ended) {
-        return Ok(no_calls(rt, session.calls));
-    }
-    let mut line = roomy(alloc)?;
-    let replies = &dialogue.replies;
-    Ok(failure_refused(rt, &session, replies, standing, &mut line)?)
+fn refused_sessions(rt: &impl Abort, alloc: Global) -> Result<u64, Fail> {
+    let mut pages = blank_pages(alloc)?;
+    let offer = refused_offer(rt, alloc, &mut pages)?;
+    let failures = refused_failures(rt, alloc, &mut pages)?;
+    let endings = refused_endings(rt, alloc, &mut pages)?;
+    Ok(offer.saturating_add(failures).saturating_add(endings))
 }
 
-fn expect_refusals(rt: &impl Abort, refusals: u32) {
-    assert_eq!(rt; refusals, REFUSALS);
-}
-
-// Runs 65 sessions, in each of which one job fails, while 0, 1, and so on up to 64 elements stand.
-// Returns the number of refusals.
-fn refused_failures_among(rt: &impl Abort, alloc: Global) -> Result<u32, Fail> {
-    let mut refused = 0_u32;
-    for standing in 0..=MOST_STANDING {
-        let met = refused_failure_among(rt, alloc, standing)?;
-        refused = refused.saturating_add(met);
-    }
-    Ok(refused)
+fn expect_refusals(rt: &impl Abort, refusals: u64) {
+    assert_eq!(rt; refusals, u64::from(REFUSALS));
 }
 
 #[test]
 fn a_refused_allocation_refuses_one_request(rt: HostRuntime) -> Result<(), Fail> {
-    let alloc = rt.alloc();
-    let offers = refused_offer(&rt, alloc)?;
-    let failures = refused_failures(&rt, alloc)?;
-    let endings = refused_endings(&rt, alloc)?;
-    let among = refused_failures_among(&rt, alloc)?;
-    let refusals = offers.saturating_add(failures).saturating_add(endings);
-    expect_refusals(&rt, refusals.saturating_add(among));
+    expect_refusals(&rt, refused_sessions(&rt, rt.alloc())?);
     Ok(())
+}
+
+fn expect_among(rt: &impl Abort, alloc: Global, standing: Range<u64>) -> Result<(), Fail> {
+    let mut pages = blank_pages(alloc)?;
+    expect_refusals(rt, refused_failures_among(rt, alloc, &mut pages, standing)?);
+    Ok(())
+}
+
+// The next five tests let a job fail while 0, 1, and so on up to 64 elements stand. They are five, since
+// for each refusal a test runs from its begin.
+
+#[test]
+fn a_failure_is_refused_among_up_to_12(rt: HostRuntime) -> Result<(), Fail> {
+    expect_among(&rt, rt.alloc(), 0..13)
+}
+
+#[test]
+fn a_failure_is_refused_among_13_to_25(rt: HostRuntime) -> Result<(), Fail> {
+    expect_among(&rt, rt.alloc(), 13..26)
+}
+
+#[test]
+fn a_failure_is_refused_among_26_to_38(rt: HostRuntime) -> Result<(), Fail> {
+    expect_among(&rt, rt.alloc(), 26..39)
+}
+
+#[test]
+fn a_failure_is_refused_among_39_to_51(rt: HostRuntime) -> Result<(), Fail> {
+    expect_among(&rt, rt.alloc(), 39..52)
+}
+
+#[test]
+fn a_failure_is_refused_among_52_to_64(rt: HostRuntime) -> Result<(), Fail> {
+    expect_among(&rt, rt.alloc(), 52..65)
 }
