@@ -6,7 +6,11 @@ use crate::tests::devices::{
     Counts, DELIVERIES, Received, at_once, counts_of, expect, expect_bytes, expect_counts,
     expect_number, hundred_calls, planned, served_so,
 };
+use rb_delayed::Payload;
 use rb_ending::BrokerFault;
+use rb_kept::{Kept, Outcome, Step};
+use rb_ledger::Books;
+use rb_queue::{Ask, Draft, Reply};
 use rb_serving::{ServeReport, end_server};
 use rb_session::Delivery;
 use rb_timer::ListTimer;
@@ -170,17 +174,33 @@ fn expect_fault(rt: &impl Abort, fault: BrokerFault, sent: Sent, visitors: u64) 
     }
 }
 
+fn offered_id(rt: &impl Abort, step: &Step) -> u64 {
+    match step {
+        Ok(Outcome::Done(Reply::Offered(element))) => element.id,
+        _ => rt.abort(),
+    }
+}
+
+// Asserts that one more offer gets this id, so that no refused offer has used one up.
+fn expect_next_id(rt: &impl Abort, kept: &mut Kept<ListTimer>, wanted: u64) {
+    let payload = Payload::new(b"b").ok().expect(rt, "a payload");
+    let (_, mut tally) = Books::new();
+    let step = kept.act(&mut tally, 0, 7, Ask::Offer(Draft::first(7, payload)));
+    expect_number(rt, offered_id(rt, &step), wanted);
+}
+
 // Returns the report of a server that met no refusal, or `None` if it met one. Asserts what its
-// visitors were sent in either case.
+// visitors were sent in either case, and the next id after a refusal.
 fn whole_report(rt: &impl Abort, served: Served, visitors: u64) -> Option<ServeReport<ListTimer>> {
     let Served { outcome, sent } = served;
     match outcome {
-        Ok(report) => {
+        Ok(mut report) => {
             let events = report.kept.history().len();
             expect_report(rt, counts_of(&report), events, sent, visitors);
             if sent.is_whole(visitors) {
                 Some(report)
             } else {
+                expect_next_id(rt, &mut report.kept, sent.offered());
                 None
             }
         }
