@@ -1,23 +1,28 @@
 """A crate's tests of allocations, built once, and run with allocations refused by a patch of their machine code.
 
 `rt try --test --fail-alloc N` builds a program that counts its allocations and refuses the one of number N. It compares
-the count with N and jumps on if they differ: `cmp rax, N` and `jne`, the bytes 48 3d, N as four bytes, and 75. Before
-each run another number is written there; and for all later ones too `jb` (72), which jumps on if the count is less. If
-the program has no such place, or N elsewhere too, nothing is tried. The sanitizer that is built in prints at each end
-how many blocks were given.
+the count with N and jumps on if they differ: `cmp rax, N` and `jne`, the bytes 48 3d, N as four bytes, and 75 with the
+length of the jump. Before each run another number is written there; and for all later ones too `jb` (72), which jumps
+on if the count is less. A trap (cc) behind the jump, where an allocation is refused, shows whether a test makes the one
+of a number. If the program has no such place, or N elsewhere too, nothing is tried. The sanitizer that is built in
+prints at each end how many blocks were given.
 """
 import errno
 import os
 import re
 import shutil
+import signal
 import subprocess
+import threading
 from dataclasses import dataclass
 from functools import cached_property
 from pathlib import Path
+from queue import SimpleQueue
 
 from building.crates import copy_crates
 from checking.trying import built
 from common.program import TOP
+from side_by_side import side_by_side
 
 # The modules of tests that are built, of those that a crate has.
 KEPT = (
@@ -34,21 +39,28 @@ KEPT = (
 REFUSALS = re.compile(r"^(const REFUSALS: u32 =) 0;$", re.M)
 # The allocation that the built program refuses: one that no test reaches, and a number that it has nowhere else.
 NONE = 987654321
-COMPARE, IF_OTHER, IF_LESS = b"\x48\x3d", b"\x75", b"\x72"
-# Lets the sanitizer print its counts wherever a test ends.
-COUNTING = "atexit=1:handle_abort=1:print_stats=1"
+COMPARE, IF_OTHER, IF_LESS, TRAP = b"\x48\x3d", b"\x75", b"\x72", b"\xcc"
+# Lets the sanitizer print its counts wherever a test ends, and leave a trap to the system.
+COUNTING = "atexit=1:handle_abort=1:print_stats=1:handle_sigtrap=0"
 COUNTS = re.compile(r" malloced .* by (\d+) calls\n.* realloced by (\d+) calls")
 # How long a run may take, in seconds. Each takes less than one on a processor of its own.
 PATIENCE = 240
+# So many tests run at once, over all crates.
+AT_ONCE = os.cpu_count() or 1
+RUNS = threading.BoundedSemaphore(AT_ONCE)
 # How many refusals no call of a test meets: those of what the test makes for itself, and those that change nothing,
-# where a vector gives back the room that is left over. One more is a call that asks for memory in vain. Of the tests of
-# servers and of sessions nothing is said: the system allocates for threads too, and the latter take long.
+# where a vector gives back the room that is left over. One more is a call that asks for memory in vain, or one that
+# does without and says nothing.
 UNMET = {
     "rb_blocking_tests": 2,
     "rb_kept_tests": 7,
     "rb_replay_tests": 2,
     "rb_retry_tests": 14,
     "rb_runs_tests": 101,
+    # Two pages for each of three servers, and two for the end of one.
+    "rb_serving_tests": 3 * 2 + 2,
+    # Four pages in each of six tests, and the history of each of 68 queues.
+    "rb_session_tests": 6 * 4 + 68,
 }
 
 
@@ -75,33 +87,49 @@ class Ran:
     @property
     def is_unmet(self) -> bool:
         """Whether it failed by the test's last comparison: no refusal was counted, and one was wanted."""
-        return bool(self.fault and re.search(r"left: 0\s+right: 1\s", self.said))
+        return bool(self.fault and re.search(r" failed\n +left: 0\n +right: 1\n", self.said))
 
 
 class CrateTests:
-    """The built tests of a crate. The program is in `room`, in which no other tests are built."""
+    """The built tests of a crate. The program and its copies are in `room`, in which no other tests are built."""
 
     def __init__(self, crate: str, room: str) -> None:
         self.crate, self.room = crate, room
-        self.program = Path(built(copied(crate, room), room, "--test", "--fail-alloc", str(NONE)))
-        code = self.program.read_bytes()
-        self.places = [found.start() for found in re.finditer(re.escape(comparison(NONE, IF_OTHER)), code)]
-        if not len(self.places) == code.count(word(NONE)) > 0:
+        program = Path(built(copied(crate, room), room, "--test", "--fail-alloc", str(NONE)))
+        self.code = program.read_bytes()
+        self.places = [found.start() for found in re.finditer(re.escape(comparison(NONE, IF_OTHER)), self.code)]
+        if not len(self.places) == self.code.count(word(NONE)) > 0:
             raise ValueError(f"{crate}: the program does not choose the allocation to refuse as is known here")
+        # Those that no test runs now: each run writes to its own.
+        self.free: SimpleQueue[Path] = SimpleQueue()
+        for number in range(AT_ONCE):
+            self.free.put(Path(shutil.copy2(program, f"{room}/{number}")))
         # The blocks that the program itself is given, before it looks for a test.
         self.first_blocks = self.run("").counts[0]
 
-    def run(self, test: str, number: int = NONE, and_later: bool = False) -> Ran:
+    def run(self, test: str, number: int = NONE, jump: bytes = IF_OTHER, trap: bytes = b"") -> Ran:
         """Runs a test with the allocation of this number refused, or with this one and all later ones."""
-        with open(self.program, "r+b") as it:
-            for place in self.places:
-                it.seek(place)
-                it.write(comparison(number, IF_LESS if and_later else IF_OTHER))
+        program = self.free.get()
+        try:
+            with open(program, "r+b") as it:
+                for place in self.places:
+                    code = comparison(number, jump)
+                    behind = place + len(code) + 1
+                    it.seek(place)
+                    it.write(code)
+                    it.seek(behind)
+                    it.write(trap or self.code[behind : behind + len(TRAP)])
+            with RUNS:
+                return self.ran(program, test)
+        finally:
+            self.free.put(program)
+
+    def ran(self, program: Path, test: str) -> Ran:
         how = {"cwd": self.room, "env": {**os.environ, "ASAN_OPTIONS": COUNTING}, "timeout": PATIENCE, "check": False}
         streams = {"stdin": subprocess.DEVNULL, "stdout": subprocess.PIPE, "stderr": subprocess.STDOUT}
         while True:
             try:
-                ran = subprocess.run([self.program, test], **how, **streams)
+                ran = subprocess.run([program, test], **how, **streams)
                 return Ran(ran.returncode, ran.stdout.decode(errors="replace"))
             except subprocess.TimeoutExpired:
                 return Ran(None, "")
@@ -110,23 +138,28 @@ class CrateTests:
                 if fault.errno != errno.ETXTBSY:
                     raise
 
-    def allocations(self, ran: Ran) -> int:
-        """How many allocations a test made."""
-        return ran.counts[0] - self.first_blocks
+    def allocations(self, ran: Ran, test: str) -> int:
+        """How many allocations a test made that can be refused. The system's are counted too, as for a thread."""
+        blocks = ran.counts[0] - self.first_blocks
+        return next((number for number in range(blocks, 0, -1) if self.makes(test, number)), 0)
+
+    def makes(self, test: str, number: int) -> bool:
+        """Whether a test makes the allocation of this number."""
+        return self.run(test, number, trap=TRAP).status == -signal.SIGTRAP
 
     def count_calls(self) -> tuple[str, str]:
         """Compares how often the tests of allocations.rt allocate, of which both make the same things and only one
         makes the calls, and then refuses the calls all memory. Returns what was done, and what is wrong."""
         names = [f"tests::allocations::{name}_of_the_calls" for name in ("none", "each")]
         none, each = map(self.run, names)
-        made, with_calls = self.allocations(none), self.allocations(each)
+        made, with_calls = map(self.allocations, (none, each), names)
         done = f"{made} allocations without the calls, {with_calls} with them"
         if fault := none.fault or each.fault:
             return done, fault
         if none.counts != each.counts or made < 1:
             return done, "the calls take memory" if made else "nothing was made"
         for test in names:
-            if fault := self.run(test, made + 1, and_later=True).fault:
+            if fault := self.run(test, made + 1, IF_LESS).fault:
                 return f"{test} with each allocation from {made + 1} on refused", fault
         return f"{done}, which answer with all memory refused", ""
 
@@ -137,9 +170,8 @@ class CrateTests:
             whole = self.run(test)
             if not whole.is_unmet:
                 return "with no allocation refused", whole.fault or "a refusal was counted"
-            made = self.allocations(whole)
-            for number in range(1, made + 1):
-                ran = self.run(test, number)
+            made = self.allocations(whole, test)
+            for number, ran in side_by_side(lambda number: self.run(test, number), range(1, made + 1), AT_ONCE):
                 if ran.fault and not ran.is_unmet:
                     return f"with allocation {number} of {made} refused", ran.fault
                 met += not ran.fault
@@ -147,7 +179,7 @@ class CrateTests:
         done = f"each of {every} allocations refused in turn, {met} refusals met"
         if not met:
             return done, "no call has met one"
-        unmet = UNMET.get(self.crate, every - met)
+        unmet = UNMET.get(self.crate, 0)
         return done, "" if every - met == unmet else f"{every - met} are not met, and {unmet} must not be"
 
 

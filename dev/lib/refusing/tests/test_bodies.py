@@ -55,3 +55,12 @@ class BodyTest(RoomTest):
         # The test makes 28 calls through a pass, and 40 that ring or wait.
         said = r"each of 118 allocations refused in turn, 48 refusals met \(\d+ s\): 70 are not met, and 2 must not be"
         self.expect("rb_blocking_tests", "rb_kept/act_asks_in_vain", said)
+
+    def test_a_session_that_ignores_a_refusal(self) -> None:
+        # Each of the 68 sessions asks once more for the room of its jobs.
+        said = r"each of \d+ allocations refused in turn, \d+ refusals met \(\d+ s\): 160 are not met, and 92 must not be"
+        self.expect("rb_session_tests", "rb_session/session_ignores_a_refusal", said)
+
+    def test_a_refused_offer_that_uses_up_an_id(self) -> None:
+        said = r"with allocation \d+ of 85 refused \(\d+ s\): status -6"
+        self.expect("rb_session_tests", "rb_queue/refused_offer_uses_an_id", said)
