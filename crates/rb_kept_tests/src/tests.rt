@@ -7,6 +7,7 @@ mod level_boundaries;
 mod limits;
 mod long_runs;
 mod memory_refusals;
+mod new_queues;
 mod openings;
 mod optional_indices;
 mod payloads;
