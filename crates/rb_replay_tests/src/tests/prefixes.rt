@@ -10,6 +10,10 @@ const NEXT_RUN: &[u8] =
     b"history 3\nopen 2 0 1\nkeep 1 1000 0 0 2 a\n0 0 0 size 1\n0 1000 1000 poll 1\n\
         0 1000 1000 offer 2 1000 2 1000 1 b\nend 3\n";
 
+// A text of version 1.
+const FIRST_VERSION: &[u8] =
+    b"history 1\n0 10 10 offer 0 10 0 1 a\n1 5 10 poll 0\n1 3 10 pollfor 3 4 none\n0 11 11 size 0\nend 4\n";
+
 // Asserts that the first fault of the text is `reason`, on line `line`.
 fn unreadable(rt: &impl Abort, alloc: Global, text: &[u8], line: u64, reason: TextReason) {
     expect_unreadable(rt, read_history(alloc, text).err(), line, reason);
@@ -20,19 +24,26 @@ fn whole_lines(text: &[u8]) -> u64 {
     text.iter().filter(|&&byte| byte == b'\n').count() as u64
 }
 
-// Asserts that the first `len` bytes of the text are refused after their last whole line.
-fn prefix_is_unreadable(rt: &impl Abort, alloc: Global, len: usize) {
-    let text = NEXT_RUN.get(..len).unwrap_or_default();
-    match whole_lines(text) {
-        0 => unreadable(rt, alloc, text, 1, TextReason::Header),
-        lines => unreadable(rt, alloc, text, lines.saturating_add(1), TextReason::End),
+// Asserts that a part of a text is refused after its last whole line. A part of at most nine bytes has
+// no whole line, and so no header.
+fn prefix_is_unreadable(rt: &impl Abort, alloc: Global, text: &[u8]) {
+    if text.len() <= 9 {
+        unreadable(rt, alloc, text, 1, TextReason::Header);
+    } else {
+        let line = whole_lines(text).saturating_add(1);
+        unreadable(rt, alloc, text, line, TextReason::End);
     }
+}
+
+fn expect_prefixes(rt: &impl Abort, alloc: Global, text: &[u8]) {
+    for len in 0..text.len() {
+        prefix_is_unreadable(rt, alloc, text.get(..len).unwrap_or_default());
+    }
+    expect(rt, read_history(alloc, text).is_ok());
 }
 
 #[test]
 fn each_prefix_of_a_text_is_refused(rt: HostRuntime) {
-    for len in 0..NEXT_RUN.len() {
-        prefix_is_unreadable(&rt, rt.alloc(), len);
-    }
-    expect(&rt, read_history(rt.alloc(), NEXT_RUN).is_ok());
+    expect_prefixes(&rt, rt.alloc(), NEXT_RUN);
+    expect_prefixes(&rt, rt.alloc(), FIRST_VERSION);
 }
