@@ -4,6 +4,7 @@ use crate::tests::devices::{
 };
 use rb_ending::BrokerFault;
 use std::alloc::{AllocError, Global};
+use std::io::Write;
 use std::process::Abort;
 use std::test::Fail;
 
@@ -112,16 +113,50 @@ fn replies_to(alloc: Global, part: &[u8]) -> Result<Vec<u8>, AllocError> {
     Ok(replies)
 }
 
-fn expect_part(rt: &impl Abort, alloc: Global, way: Way, len: usize) -> Result<(), AllocError> {
+// The events of the job's whole lines, from the first on: an offer and a poll, a failure, and so on. A
+// line that sets the clock has none, and neither have the last two.
+const JOB_EVENTS: &[u8] =
+    b"0 100 100 offer 0 100 0 100 1 j\n0 100 100 poll 0\n0 200 200 offer 1 1200 0 100 2 j\n\
+        0 1200 1200 poll 1\n0 1200 1200 offer 2 2200 0 100 3 j\n0 2200 2200 poll 2\n";
+
+// What a part of the job's lines leaves: the number of its events, and the event of the failure at the
+// end if the job is held there. A job that has had its last attempt fails without an event.
+fn left_by(lines: usize) -> (usize, &'static [u8]) {
+    match lines {
+        0 | 1 => (0, b""),
+        2 => (1, b""),
+        3 => (2, b"0 100 100 offer 1 1100 0 100 2 j\n"),
+        4 => (2, b"0 200 200 offer 1 1200 0 100 2 j\n"),
+        5 | 6 => (3, b""),
+        7 => (4, b"0 1200 1200 offer 2 2200 0 100 3 j\n"),
+        8 | 9 => (5, b""),
+        _ => (6, b""),
+    }
+}
+
+// Returns the history of a part of the job's lines.
+fn history_of(alloc: Global, lines: usize) -> Result<Vec<u8>, Fail> {
+    let (events, failure) = left_by(lines);
+    let mut text = Vec::from_slice(alloc, b"history 3\nopen 0 0 0\n")?;
+    text.extend_from_slice(first_lines(JOB_EVENTS, events))?;
+    text.extend_from_slice(failure)?;
+    let count = events.saturating_add(feeds_of(failure));
+    write!(text, "end {count}\n")?;
+    Ok(text)
+}
+
+fn expect_part(rt: &impl Abort, alloc: Global, way: Way, len: usize) -> Result<(), Fail> {
     let part = JOB.get(..len).unwrap_or(JOB);
-    let replies = replies_to(alloc, part)?;
-    let source = Source::of(part, usize::MAX);
-    let outcome = ran(rt, alloc, way, 100, source, Sink::new(alloc));
+    let (source, sink) = (Source::of(part, usize::MAX), Sink::new(alloc));
+    let mut history = Some(Sink::new(alloc));
+    let outcome = recorded(rt, alloc, way, 100, source, sink, &mut history);
     expect_end(rt, outcome.ended, AT_END, len);
-    expect_bytes(rt, &outcome.bytes, &replies, len);
+    expect_bytes(rt, &outcome.bytes, &replies_to(alloc, part)?, len);
+    expect_history(rt, &history, &history_of(alloc, feeds_of(part))?);
     Ok(())
 }
 
+// What is held at the end of a part fails there, and nothing else does.
 #[test]
 fn each_part_of_a_script_gets_its_part_of_the_replies(rt: HostRuntime) -> Result<(), Fail> {
     for way in [AT_ONCE, GATHERED] {
