@@ -191,8 +191,21 @@ impl<'a> Caller<'a> {
         start: u64,
         timeout: u64,
     ) -> Result<Option<Element>, WaitFault> {
-        let (shared, bell, counts) = (self.shared, self.bell, self.counts);
+        let counts = self.counts;
         let gate = &mut CountingGate { counts, limit };
+        self.poll_by(rt, clock, gate, start, timeout)
+    }
+
+    /// Does the same, with this gate.
+    pub fn poll_by<C: Clock, G: Gate, R: Wait + time::Clock>(
+        &mut self,
+        rt: &R,
+        clock: &C,
+        gate: &mut G,
+        start: u64,
+        timeout: u64,
+    ) -> Result<Option<Element>, WaitFault> {
+        let (shared, bell) = (self.shared, self.bell);
         poll_for(
             rt,
             shared,
