@@ -1,9 +1,14 @@
-use crate::tests::devices::{expect, expect_bytes, expect_end, with_kept};
+use crate::tests::devices::{
+    NEVER, Sheet, expect, expect_bytes, expect_count, expect_end, run_by, with_kept,
+};
 use rb_binary::BinaryTimer;
+use rb_kept::Kept;
+use rb_ledger::Tally;
 use rb_protocol::{LimitedReader, ReaderState};
 use rb_retry::{KeptDesk, Policy};
-use rb_session::{Delivery, Ended, run_limited};
+use rb_session::{Delivery, Ended, SessionFault, run_limited};
 use std::alloc::Global;
+use std::io::{self, Read};
 use std::process::Abort;
 use std::test::Fail;
 
@@ -27,4 +32,49 @@ fn expect_reads(rt: &impl Abort, alloc: Global, desk: &mut KeptDesk<'_, BinaryTi
     expect_bytes(rt, &writer, b"NOW 7\n", 0);
     expect(rt, leaves_some);
     expect(rt, state == ReaderState::AtEnd);
+}
+
+// A reader that gives a byte at each read, never a line feed, and has no end.
+#[derive(Drop)]
+struct Endless {
+    reads: usize,
+}
+
+impl Read for Endless {
+    fn read(&mut self, buf: &mut [u8]) -> io::Result<usize> {
+        self.reads = self.reads.saturating_add(1);
+        match buf.first_mut() {
+            Some(byte) => {
+                *byte = b'x';
+                Ok(1)
+            }
+            None => Ok(0),
+        }
+    }
+}
+
+fn expect_given_up(
+    rt: &impl Abort,
+    alloc: Global,
+    kept: &mut Kept<BinaryTimer>,
+    tally: &mut Tally,
+) {
+    let policy = Policy::fixed(1_000, 3).expect(rt, "a policy");
+    let (mut reader, mut writer) = (Endless { reads: 0 }, Sheet::new(alloc, NEVER));
+    let ended = run_by(alloc, kept, tally, &mut reader, &mut writer, &policy);
+    expect_end(rt, ended, Err(SessionFault::ReadTurns { lost: 0 }), 0);
+    expect_count(rt, reader.reads, 10_000_000, 0);
+    expect_count(rt, writer.calls, 0, 0);
+    expect_count(rt, kept.history().len(), 0, 0);
+}
+
+// A line without an end, of which each read gives one byte, is given up, and gets no reply.
+#[test]
+fn a_line_without_an_end_is_given_up(rt: HostRuntime) -> Result<(), Fail> {
+    let alloc = rt.alloc();
+    with_kept(
+        alloc,
+        1,
+        |kept, tally| expect_given_up(&rt, alloc, kept, tally),
+    )
 }
