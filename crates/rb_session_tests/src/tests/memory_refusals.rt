@@ -407,7 +407,7 @@ fn expect_among(rt: &impl Abort, alloc: Global, standing: Range<u64>) -> Result<
 }
 
 // The next five tests let a job fail while 0, 1, and so on up to 64 elements stand. They are five, since
-// for each refusal a test runs from its begin.
+// for each refusal a test runs from its beginning.
 
 #[test]
 fn a_failure_is_refused_among_up_to_12(rt: HostRuntime) -> Result<(), Fail> {
