@@ -71,23 +71,22 @@ fn stops_after_so_many_turns(rt: HostRuntime) -> Result<(), Fail> {
     with_caller(rt.alloc(), 1, |caller| expect_stops(&rt, caller))
 }
 
-// A gate that ends a wait after three turns, and notes when it was asked.
+// A gate that ends a wait after three turns, and counts the rests between its questions.
 #[derive(Drop)]
-struct TimedGate<'a, C> {
+struct RestGate<'a, C> {
     watch: &'a C,
     asked: u64,
     last: u64,
-    // The shortest time between two questions.
-    shortest: u64,
+    rests: u64,
 }
 
-impl<'a, C: Clock> Gate for TimedGate<'a, C> {
+impl<'a, C: Clock> Gate for RestGate<'a, C> {
     ghost answers = { λ _ _ _. Unit {0} };
 
     fn turn(&mut self, turns: u64) -> bool {
         let now = self.watch.now();
-        if self.asked > 0 {
-            self.shortest = self.shortest.min(now.saturating_sub(self.last));
+        if self.asked > 0 && REST <= now.saturating_sub(self.last) {
+            self.rests = self.rests.saturating_add(1);
         }
         self.asked = self.asked.saturating_add(1);
         self.last = now;
@@ -95,33 +94,41 @@ impl<'a, C: Clock> Gate for TimedGate<'a, C> {
     }
 }
 
-// Polls at moment 7 with a timeout of 5 nanoseconds, and asserts that the call rests at the bell after
-// each of the first three questions to its gate, and ends by the fourth. Returns whether it was seen not
-// to rest before the first question or after the last, since neither took as long as a rest.
-fn expect_three_rests<R: Wait + time::Clock + Abort>(rt: &R, caller: &mut Caller<'_>) -> bool {
+// Polls at moment 7, and asserts that the call rests at least so often between the questions to its
+// gate, and ends by the fourth. Returns whether it was seen not to rest after that.
+fn expect_rests<R: Wait + time::Clock + Abort>(
+    rt: &R,
+    caller: &mut Caller<'_>,
+    timeout: u64,
+    rests: u64,
+) -> bool {
     let watch = MachineClock::new(rt);
-    let mut gate = TimedGate {
+    let mut gate = RestGate {
         watch: &watch,
         asked: 0,
         last: 0,
-        shortest: u64::MAX,
+        rests: 0,
     };
-    let polled = caller.poll_by(rt, &FixedClock(7), &mut gate, 7, 5);
+    let polled = caller.poll_by(rt, &FixedClock(7), &mut gate, 7, timeout);
     let since_last = watch.now().saturating_sub(gate.last);
     expect_same(rt, polled, Err(WaitFault::Stopped));
     expect_same(rt, gate.asked, 4);
-    expect(rt, REST <= gate.shortest);
+    expect(rt, rests <= gate.rests);
     since_last < REST
 }
 
-// On a busy machine a call may be held up as long as a rest takes, but not each of twenty.
-fn expect_rests<R: Wait + time::Clock + Abort>(rt: &R, caller: &mut Caller<'_>) {
-    let is_seen = (0..20_u32).any(|_| expect_three_rests(rt, caller));
-    expect(rt, is_seen);
+// A deadline that is only 5 nanoseconds ahead ends the first rest: by a clock that stands still, the two
+// others are whole. On a busy machine a call may be held up as long as a rest takes, but not each of
+// twenty.
+fn expect_three_rests<R: Wait + time::Clock + Abort>(rt: &R, caller: &mut Caller<'_>) {
+    for (timeout, rests) in [(5, 2), (1_000_000_000, 3)] {
+        let is_seen = (0..20_u32).any(|_| expect_rests(rt, caller, timeout, rests));
+        expect(rt, is_seen);
+    }
     expect_same(rt, caller.pass.calls(), 0);
 }
 
 #[test]
 fn a_timed_poll_rests_between_its_questions(rt: HostRuntime) -> Result<(), Fail> {
-    with_caller(rt.alloc(), 1, |caller| expect_rests(&rt, caller))
+    with_caller(rt.alloc(), 1, |caller| expect_three_rests(&rt, caller))
 }
