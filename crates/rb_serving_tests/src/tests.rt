@@ -3,6 +3,7 @@ pub mod devices;
 mod endings;
 mod machine_clock;
 mod memory_refusals;
+mod recorders;
 mod retries;
 mod session_events;
 mod tcp;

@@ -4,6 +4,7 @@ ghost use Rattle.std.specs.Prelude.{◌≡◌};
 
 use crate::tests::devices::{expect, expect_bytes};
 use rb_ending::BrokerFault;
+use rb_history::HistoryRoom;
 use rb_kept::Kept;
 use rb_queue::Audit;
 use rb_serving::{ServeReport, end_server, print_listening};
@@ -82,6 +83,10 @@ fn device_failing(alloc: Global, fails_at: Option<usize>) -> Held {
     }
 }
 
+fn text_room(rt: &impl Abort, alloc: Global) -> HistoryRoom {
+    HistoryRoom::new(alloc).ok().expect(rt, "a room")
+}
+
 fn expect_outcome(
     rt: &impl Abort,
     outcome: Result<(), BrokerFault>,
@@ -105,7 +110,8 @@ fn expect_end(rt: &impl Abort, alloc: Global, end: &End) {
     let report = report(rt, alloc);
     let mut writer = device_failing(alloc, end.writer_fails_at);
     let mut device = Some(device_failing(alloc, end.device_fails_at));
-    let outcome = end_server(alloc, &report, &mut writer, device.as_mut()).result();
+    let text = text_room(rt, alloc);
+    let outcome = end_server(alloc, text, &report, &mut writer, device.as_mut()).result();
     expect_outcome(rt, outcome, end.outcome);
     expect_bytes(rt, &writer.bytes, end.text);
     expect_held(rt, &device, end.history);
@@ -137,7 +143,8 @@ fn expect_end_without_history(rt: &impl Abort, alloc: Global) {
     let report = report(rt, alloc);
     let mut writer = device_failing(alloc, None);
     let mut none: Option<Held> = None;
-    let outcome = end_server(alloc, &report, &mut writer, none.as_mut()).result();
+    let text = text_room(rt, alloc);
+    let outcome = end_server(alloc, text, &report, &mut writer, none.as_mut()).result();
     expect_outcome(rt, outcome, Ok(()));
     expect_bytes(rt, &writer.bytes, TEXT);
     expect(rt, none.is_none());

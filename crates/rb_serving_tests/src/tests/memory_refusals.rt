@@ -8,6 +8,7 @@ use crate::tests::devices::{
 };
 use rb_delayed::Payload;
 use rb_ending::BrokerFault;
+use rb_history::HistoryRoom;
 use rb_kept::{Kept, Outcome, Step};
 use rb_ledger::Books;
 use rb_queue::{Ask, Draft, Reply};
@@ -162,16 +163,14 @@ fn expect_report(rt: &impl Abort, counts: Counts, events: usize, sent: Sent, vis
     expect(rt, u64::try_from(events) == Ok(offered));
 }
 
-// Asserts what visitors were sent by a server that ended with a fault. If the fault is `Memory`,
-// they were sent nothing. Otherwise a worker could not be started. The workers that were started
-// before it have served all visitors; if there are none, the visitors were sent nothing.
+// Asserts what visitors were sent by a server that ended with a fault: nothing, whether memory was
+// missing or a worker could not be started.
 fn expect_fault(rt: &impl Abort, fault: BrokerFault, sent: Sent, visitors: u64) {
-    if fault == BrokerFault::Memory {
-        expect_number(rt, sent.nothing, visitors);
-    } else {
-        expect(rt, fault == BrokerFault::Worker);
-        expect(rt, sent.is_whole(visitors) || sent.nothing == visitors);
-    }
+    expect(
+        rt,
+        fault == BrokerFault::Memory || fault == BrokerFault::Worker,
+    );
+    expect_number(rt, sent.nothing, visitors);
 }
 
 fn offered_id(rt: &impl Abort, step: &Step) -> u64 {
@@ -246,16 +245,18 @@ struct End {
 fn ended(alloc: Global, report: &ServeReport<ListTimer>) -> Result<End, AllocError> {
     let printed = page(alloc)?;
     let history = page(alloc)?;
-    Ok(ended_into(alloc, report, printed, Some(history)))
+    let text = HistoryRoom::new(alloc)?;
+    Ok(ended_into(alloc, text, report, printed, Some(history)))
 }
 
 fn ended_into(
     alloc: Global,
+    text: HistoryRoom,
     report: &ServeReport<ListTimer>,
     mut printed: Vec<u8>,
     mut history: Option<Vec<u8>>,
 ) -> End {
-    let outcome = end_server(alloc, report, &mut printed, history.as_mut()).result();
+    let outcome = end_server(alloc, text, report, &mut printed, history.as_mut()).result();
     End {
         outcome,
         printed,
@@ -263,22 +264,18 @@ fn ended_into(
     }
 }
 
-// Returns whether the end met no refusal. If it met one, asserts that one of the two texts is
-// missing and the other is whole.
+// Returns whether the end met no refusal. If it met one, asserts that nothing was printed. The
+// history is whole in either case.
 fn is_whole(rt: &impl Abort, end: &End) -> bool {
     let printed = end.printed.as_slice();
     let history = end.history.as_ref().expect(rt, "a history").as_slice();
+    expect_bytes(rt, history, SERVED_HISTORY);
     if end.outcome.is_ok() {
         expect_bytes(rt, printed, PRINTED);
-        expect_bytes(rt, history, SERVED_HISTORY);
         return true;
     }
     expect(rt, end.outcome == Err(BrokerFault::Memory));
-    let unwritten = printed == PRINTED && history.is_empty();
-    expect(
-        rt,
-        unwritten || printed.is_empty() && history == SERVED_HISTORY,
-    );
+    expect_bytes(rt, printed, b"");
     false
 }
 
