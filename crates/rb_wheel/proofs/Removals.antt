@@ -144,11 +144,6 @@ pub length-with_first : (heads : List (Option ℕ)) (at : ℕ) (previous next : 
 length-with_first heads at None next = length-set heads at next
 length-with_first heads at (Some s) next = refl
 
--- the heads of other cells stay
-pub with_first_other : (heads : List (Option ℕ)) (at : ℕ) (previous next : Option ℕ) (c : ℕ) → c ≢ at → head_at (with_first heads at previous next) c ≡ head_at heads c
-with_first_other heads at None next c apart = get_or-set_other heads at c next None apart
-with_first_other heads at (Some s) next c apart = refl
-
 -- a slot of sound lists is taken out: its node was read, and its cell is known from that
 module _ (heads : List (Option ℕ)) (nodes : List Node) (slots : Slots)
     (slot at : ℕ) (node : Node) (sound : AreSoundLists heads nodes) (view : slots_of nodes ≡ slots)
