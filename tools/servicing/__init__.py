@@ -17,4 +17,5 @@
     shown.py         a state as texts, for the page, --status and systemd
     page.py, page.css, page.js               the page
     site.py, http.py the site, with reports: always at the socket FOLDER/status, and at an address if --http names one
+    unix.py          sockets that only the owner of the folder may use
 """

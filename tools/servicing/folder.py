@@ -7,6 +7,9 @@
     run-N.txt         its history, if it ended in good order; run-N.txt.gz later on
     damaged-N.txt     a history of run N that `replay` refused
     status            the socket at which `--status` asks
+    keeper            that of the process which holds the server
+
+Whoever could write there could have commands run as this user. So the folder and all in it have to be this user's own.
 """
 import contextlib
 import fcntl
@@ -16,6 +19,7 @@ import os
 import re
 import secrets
 import shutil
+import stat
 import time
 from dataclasses import asdict, fields
 from pathlib import Path
@@ -43,7 +47,11 @@ class Folder:
         self.path = path
         try:
             os.makedirs(path, mode=0o700, exist_ok=True)
-            self._lock = os.open(f"{path}/lock", os.O_RDWR | os.O_CREAT | os.O_CLOEXEC, 0o600)
+            link = os.lstat(path)
+            if link.st_uid:  # a link may be root's, as those of systemd are
+                _refuse_other(path, link)
+            _refuse_other(path, os.stat(path))
+            self._lock = os.open(f"{path}/lock", os.O_RDWR | os.O_CREAT | os.O_CLOEXEC | os.O_NOFOLLOW, 0o600)
         except OSError as fault:
             raise Unusable(f"{fault.filename}: {fault.strerror}") from None
         try:
@@ -51,6 +59,7 @@ class Folder:
         except OSError:
             who = os.pread(self._lock, 4096, 0).decode(errors="replace").strip()
             raise Unusable(f"{path} is in use by {who or 'another service'}") from None
+        self._refuse_others()
         since = time.strftime("%Y-%m-%d %H:%M:%S", time.localtime())
         told = f"the service of process {os.getpid()} at port {port}, since {since}"
         with contextlib.suppress(OSError):  # a full disk
@@ -59,6 +68,15 @@ class Folder:
             unfinished.unlink()
         self.id = self._own_id()
 
+    def _refuse_others(self) -> None:
+        """Raises an `Unusable` if a file is not this user's alone. The service looks at no folder in its own."""
+        for it in os.scandir(self.path):
+            told = it.stat(follow_symlinks=False)
+            if not stat.S_ISDIR(told.st_mode):
+                _refuse_other(it.path, told)
+                if not stat.S_ISREG(told.st_mode) and not stat.S_ISSOCK(told.st_mode):
+                    raise Unusable(f"{it.path} is no regular file: remove it")
+
     def _own_id(self) -> str:
         try:
             if not os.path.exists(self.file("id")):
@@ -66,12 +84,6 @@ class Folder:
             return self.read("id").decode().strip()
         except OSError as fault:
             raise Unusable(f"{self.path}: {fault.strerror}") from None
-
-    @property
-    def keeper_name(self) -> str:
-        """The address of the process that holds what must outlive the service. A copy of the folder has another one."""
-        it = os.stat(self.path)
-        return f"\0rb_broker-{self.id}-{it.st_dev}-{it.st_ino}"
 
     def file(self, name: str) -> str:
         return f"{self.path}/{name}"
@@ -90,7 +102,7 @@ class Folder:
         one or the new one, whole."""
         new = self.file(f"{name}.new")
         try:
-            with open(new, "wb", opener=lambda path, flags: os.open(path, flags, 0o600)) as file:
+            with open(new, "wb", opener=lambda path, flags: os.open(path, flags | os.O_NOFOLLOW, 0o600)) as file:
                 yield file
                 file.flush()
                 os.fsync(file.fileno())
@@ -139,6 +151,16 @@ class Folder:
         """Removes all files of a run."""
         for form in _FILES:
             self.remove(form.format(number))
+
+
+def _refuse_other(path: str, told: os.stat_result) -> None:
+    """Raises an `Unusable` unless what is at a path belongs to this user, and nobody else may write there. Who connects
+    to a socket is looked at there."""
+    if told.st_uid != os.geteuid():
+        raise Unusable(f"{path} belongs to user {told.st_uid}: it has to be this user's own")
+    is_written = stat.S_ISREG(told.st_mode) or stat.S_ISDIR(told.st_mode)
+    if is_written and told.st_mode & (stat.S_IWGRP | stat.S_IWOTH):
+        raise Unusable(f"{path} can be written by other users: chmod go-w {path}")
 
 
 def record_of(run: Run) -> bytes:

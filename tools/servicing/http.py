@@ -15,7 +15,9 @@ import threading
 import time
 from http import HTTPStatus
 from http.server import BaseHTTPRequestHandler
-from typing import Any, Callable, Iterator, NamedTuple
+from typing import Any, Callable, NamedTuple
+
+from servicing.unix import bind_for_owner, user_of
 
 MOST_CONNECTIONS, MOST_A_SECOND = 64, 50
 LOCAL_NAMES = ("localhost", "127.0.0.1", "::1")
@@ -39,7 +41,8 @@ def is_loopback(host: str) -> bool:
 
 
 class HttpServer(socketserver.ThreadingMixIn, socketserver.TCPServer):
-    """Serves what `answer` says of a path, or None where there is nothing, at a host and port or at a path."""
+    """Serves what `answer` says of a path, or None where there is nothing, at a host and port, or at a path to this user
+    and to root."""
 
     allow_reuse_address, daemon_threads, block_on_close, request_queue_size = True, True, False, MOST_CONNECTIONS
 
@@ -53,6 +56,15 @@ class HttpServer(socketserver.ThreadingMixIn, socketserver.TCPServer):
         self._open: dict[Any, None] = {}  # connections, the oldest first
         super().__init__(at, _Handler)  # type: ignore[arg-type]
         threading.Thread(target=self.serve_forever, name="http", daemon=True).start()
+
+    def server_bind(self) -> None:
+        if self.address_family == socket.AF_UNIX:
+            bind_for_owner(self.socket, str(self.server_address))
+        else:
+            super().server_bind()
+
+    def verify_request(self, request: Any, client_address: Any) -> bool:
+        return self.address_family != socket.AF_UNIX or user_of(request) in (os.geteuid(), 0)
 
     def process_request(self, request: Any, client_address: Any) -> None:
         self._open[request] = None
@@ -106,13 +118,3 @@ class _Handler(BaseHTTPRequestHandler):
 
     def log_message(self, format: str, *args: object) -> None:
         """Says nothing of what clients do."""
-
-
-@contextlib.contextmanager
-def short_name(path: str) -> Iterator[str]:
-    """Another name of a path in a folder, as short as the name of a socket has to be."""
-    folder = os.open(os.path.dirname(path), os.O_PATH | os.O_DIRECTORY)
-    try:
-        yield f"/proc/self/fd/{folder}/{os.path.basename(path)}"
-    finally:
-        os.close(folder)

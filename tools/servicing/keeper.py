@@ -1,11 +1,11 @@
 """The process that holds what must outlive the service: the server, as its child, and the history that it writes.
 
-    python3 keeper.py DOOR FOLDER    with the descriptor of a listening Unix socket of whole messages
+    python3 keeper.py DOOR FOLDER    with the descriptor of a Unix socket of whole messages that listens in the folder
 
 A history is written into memory that has no name, so no full disk can cut it off. It is there as long as some process
 has it open: the server, the service and this one. If the service is killed, the next one asks here for the server and
-its history; if this process is killed, the service begins another one. It serves one service at a time, and ends when
-that one says so. Where nobody has asked for half a minute, it ends too if it holds nothing, or if the server has ended
+its history; if this process is killed, the service begins another one. It serves one service at a time, of its own user
+alone since it executes what it is sent, and ends when that one says so. Where nobody has asked for half a minute, it ends too if it holds nothing, or if the server has ended
 and its folder is gone.
 
 A request is an object of JSON with `do`; the answer is one too, with `fault` if it could not be done.
@@ -34,6 +34,7 @@ if __name__ == "__main__":
     sys.path.insert(0, os.path.dirname(os.path.dirname(os.path.realpath(__file__))))
 
 from servicing.cutting import cut_sessions, make_room  # noqa: E402
+from servicing.unix import user_of  # noqa: E402
 
 IDLE = 30.0  # seconds
 
@@ -126,7 +127,7 @@ def main(door: socket.socket, folder: str) -> None:
             continue
         service.settimeout(None)
         with service, contextlib.suppress(OSError):  # the service has gone
-            if serve(keeper, service):
+            if user_of(service) == os.geteuid() and serve(keeper, service):
                 return
 
 

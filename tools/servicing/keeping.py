@@ -1,19 +1,19 @@
 """The service's side of the keeper: how it is found or begun, and asked."""
 import contextlib
-import errno
 import json
 import os
 import socket
-import struct
 import subprocess
 import sys
 from dataclasses import dataclass
 from typing import Any, Sequence
 
-from servicing.folder import Unusable
+from servicing.folder import Folder, Unusable
 from servicing.keeper import MOST_BYTES, MOST_FILES
 from servicing.server import Server
+from servicing.unix import bind_for_owner, short_name, user_of
 
+DOOR = "keeper"  # in the folder
 PATIENCE = 30.0  # seconds that an answer may take
 KEEPER = os.path.join(os.path.dirname(os.path.realpath(__file__)), "keeper.py")
 
@@ -35,24 +35,25 @@ class Held:
 
 
 class Keeping:
-    """The keeper at this name: the one that an earlier service has begun, or a new one."""
+    """The keeper of a folder: the one that an earlier service has begun, or a new one."""
 
-    def __init__(self, name: str, folder: str) -> None:
-        self._name, self._folder = name, folder
-        self.was_found = self._has_found()
+    def __init__(self, folder: Folder) -> None:
+        """Raises an `Unusable`."""
+        self._path, self._folder = folder.file(DOOR), folder.path
+        try:
+            self.was_found = self._has_found()
+        except OSError as fault:
+            raise Unusable(f"the keeper at {self._path} does not answer: {fault.strerror or fault}") from None
         if not self.was_found:
             self._begin()
 
     def _has_found(self) -> bool:
-        """Whether a keeper of this user is there."""
+        """Whether a keeper of this user is there. Raises an `OSError` if it takes nobody."""
         self._link = socket.socket(socket.AF_UNIX, socket.SOCK_SEQPACKET)
         self._link.settimeout(PATIENCE)
-        with contextlib.suppress(OSError):
-            self._link.connect(self._name)
-            _, owner, _ = struct.unpack("3i", self._link.getsockopt(socket.SOL_SOCKET, socket.SO_PEERCRED, 12))
-            if owner == os.geteuid():
-                return True
-        self._link.close()
+        with contextlib.suppress(FileNotFoundError, ConnectionRefusedError), short_name(self._path) as name:
+            self._link.connect(name)
+            return user_of(self._link) == os.geteuid()
         return False
 
     def _begin(self) -> None:
@@ -60,16 +61,14 @@ class Keeping:
         none = subprocess.DEVNULL
         try:
             with socket.socket(socket.AF_UNIX, socket.SOCK_SEQPACKET) as door:
-                door.bind(self._name)
+                bind_for_owner(door, self._path)
                 door.listen(8)
                 words = [sys.executable, "-I", "-S", "-B", KEEPER, str(door.fileno()), self._folder]
                 subprocess.Popen(words, pass_fds=[door.fileno()], stdin=none, stdout=none, stderr=none,
                                  start_new_session=True, cwd="/")
                 self._has_found()
         except OSError as fault:
-            is_there = fault.errno == errno.EADDRINUSE
-            why = f"the one that is there did not answer in {PATIENCE:g} seconds" if is_there else fault.strerror
-            raise Unusable(f"no keeper can be started: {why}") from None
+            raise Unusable(f"no keeper can be started: {fault.strerror}") from None
 
     def status(self) -> Held:
         told, _ = self._ask("status")

@@ -25,7 +25,7 @@ def serve(settings: Settings, folder: Folder, board: Board, signals: Signals) ->
     """Serves until a signal asks for the end. Raises an `Unusable` if nothing can be served, and a `LeftBehind`."""
     runs = Runs(folder)
     say("info", "service", port=settings.port, folder=folder.path, pid=os.getpid())
-    keeping = Keeping(folder.keeper_name, folder.path)
+    keeping = Keeping(folder)
     parts = Parts(settings, folder, signals, runs, Showing(settings, runs, board), keeping)
     try:
         _serve(parts)

@@ -6,8 +6,8 @@
     /runs/N   the report on a run that has ended
 
 Whatever clients send, or leave out, the service goes on: they are answered from the board, and from histories that are
-kept, alone. The same is always answered at the socket `status` in the folder, for `tools/service --status`: who may use
-the folder may connect there.
+kept, alone. The same is always answered at the socket `status` in the folder, for `tools/service --status`: to the user
+of the service, and to root.
 """
 import functools
 import os
@@ -19,12 +19,13 @@ from http import HTTPStatus
 from pathlib import Path
 
 from servicing.folder import Unusable
-from servicing.http import Answer, HttpServer, is_loopback, short_name
+from servicing.http import Answer, HttpServer, is_loopback
 from servicing.metrics import metrics
 from servicing.page import page
 from servicing.saying import say
 from servicing.shown import text
 from servicing.state import Board, Run
+from servicing.unix import short_name
 
 SOCKET = "status"  # in the folder
 PATIENCE = 5.0  # seconds for an answer
@@ -49,9 +50,7 @@ def serve_pages(board: Board, folder: str, http: tuple[str, int] | None) -> None
                 "page shows, and payloads in reports, without a password or encryption; nothing can be changed by it")
     path = os.path.join(folder, SOCKET)
     try:
-        Path(path).unlink(missing_ok=True)
-        with short_name(path) as name:
-            HttpServer(name, answer)
+        HttpServer(path, answer)
     except OSError as fault:
         say("warning", "pages", text=f"{path}: {fault.strerror}: --status does not work")
 

@@ -18,7 +18,7 @@ class FullDiskTest(ServiceTest):
         super().setUp()
         self.small = self.path("small")
         os.mkdir(self.small)
-        words = ["mount", "-t", "tmpfs", "-o", "size=64k", "tmpfs", self.small]
+        words = ["mount", "-t", "tmpfs", "-o", "size=64k,mode=700", "tmpfs", self.small]
         if os.geteuid() or subprocess.run(words, capture_output=True, check=False).returncode:
             self.skipTest("no small file system can be mounted here")
         self.addCleanup(lambda: subprocess.run(["umount", "-l", self.small], check=False))
