@@ -4,9 +4,8 @@ import time
 
 from histories.files import open_history
 from servicing.current import Current
-from servicing.deciding import Start, how_to_start
+from servicing.deciding import Held, Start, how_to_start
 from servicing.folder import Unusable
-from servicing.keeping import Held
 from servicing.parts import Parts
 from servicing.runs import Next, left_of
 from servicing.saying import say
@@ -37,9 +36,9 @@ def resumed(parts: Parts) -> Current | Next:
             return current
         parts.showing.run = current.record
         return saved(parts, current)
+    parts.keeping.drop()
     if server is not None:
         server.close()
-    parts.keeping.drop()
     if start is Start.CONTINUE and history is not None:
         return _continued(parts, last, history)
     if start is Start.AGAIN:
@@ -49,8 +48,10 @@ def resumed(parts: Parts) -> Current | Next:
 
 def _held_server(parts: Parts, last: Run, held: Held | None) -> Server | None:
     """The server of the last run, if a keeper holds it, or if it is found without one."""
-    if held is not None:
-        return parts.keeping.held() if held.run == last.number else None
+    if held is not None and held.run != last.number:
+        return None
+    if held is not None and (server := parts.keeping.held()) is not None:
+        return server
     server = orphan_of(parts.folder.id, last.number)
     if server is not None:
         parts.keeping.hold(server)

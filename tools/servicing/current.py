@@ -82,9 +82,6 @@ class Current:
                 self._prepare_end(seen)
                 self._let_wait(seen)
                 self._cut_silent()
-                if self._parts.keeping.is_renewed(self.server):
-                    say("warning", "keeper", run=self.server.run,
-                        text="the keeper was killed; another one holds the server")
                 self._signals.wait(LOOK, self.server.process)
             return None
         finally:

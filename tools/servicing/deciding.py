@@ -5,7 +5,6 @@ from enum import Enum
 from typing import Sequence
 
 from histories.grammar import MOST_OPENING_ELEMENTS
-from servicing.keeping import Held
 from servicing.settings import Keep
 from servicing.state import Reason, Run, Supply
 
@@ -28,6 +27,14 @@ class Start(Enum):
     CONTINUE = "continue"  # the last run ended in good order, and its history is a file
     AGAIN = "again"  # the last run is known to be lost, or no server was started
     LOST = "lost"  # the last run is lost
+
+
+@dataclass(frozen=True)
+class Held:
+    """What a keeper holds."""
+
+    run: int | None
+    last: int | None  # the last run whose server it has started
 
 
 def how_to_start(last: Run, has_history: bool, held: Held | None, is_alive: bool) -> Start:

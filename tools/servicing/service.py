@@ -25,8 +25,9 @@ def serve(settings: Settings, folder: Folder, board: Board, signals: Signals) ->
     """Serves until a signal asks for the end. Raises an `Unusable` if nothing can be served, and a `LeftBehind`."""
     runs = Runs(folder)
     say("info", "service", port=settings.port, folder=folder.path, pid=os.getpid())
-    keeping = Keeping(folder)
-    parts = Parts(settings, folder, signals, runs, Showing(settings, runs, board), keeping)
+    showing = Showing(settings, runs, board)
+    keeping = Keeping(folder, showing)
+    parts = Parts(settings, folder, signals, runs, showing, keeping)
     try:
         _serve(parts)
     except NoIdsLeft:
@@ -108,7 +109,7 @@ def _listening(parts: Parts, record: Run, opening: Opening) -> Server:
     while not server.listens:
         if parts.signals.wait(POLL, server.process) and not server.listens:
             why = server.last_line or "its process has ended"
-            server.close()
             parts.keeping.drop()
+            server.close()
             raise NotStarted(why)
     return server

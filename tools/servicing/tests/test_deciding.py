@@ -5,11 +5,10 @@ from dataclasses import replace
 from typing import Any
 
 from servicing.deciding import (
-    Seen, Start, crowd_of, how_to_start, is_to_crowd, is_to_prepare, left_until_end, runs_to_drop, sessions_to_use_up,
-    why_to_end,
+    Held, Seen, Start, crowd_of, how_to_start, is_to_crowd, is_to_prepare, left_until_end, runs_to_drop,
+    sessions_to_use_up, why_to_end,
 )
 from servicing.folder import record_of, run_in
-from servicing.keeping import Held
 from servicing.settings import Keep
 from servicing.state import End, Reason, Supply
 from servicing.tests.support import record

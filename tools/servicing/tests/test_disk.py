@@ -50,6 +50,20 @@ class FullDiskTest(ServiceTest):
         with self.serving(folder=self.small):
             self.has_left(JOBS)
 
+    def test_the_keeper_is_killed_meanwhile(self) -> None:
+        """And then the service, when another keeper has the history."""
+        service = self.begin("--every", "2s", folder=self.small)
+        keeper = service.keeper()
+        self.offer(JOBS)
+        service.wait("disk")
+        os.kill(keeper, signal.SIGKILL)
+        service.wait("keeper")
+        service.kill()
+        self.make_room()
+        with self.serving(folder=self.small) as again:
+            self.assertEqual(again.all("resume")[0]["how"], "collect")
+            self.has_left(JOBS)
+
 
 class FolderTest(ServiceTest):
     def test_what_can_not_be_used(self) -> None:

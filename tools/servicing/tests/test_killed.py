@@ -5,10 +5,18 @@ import signal
 import threading
 import time
 from collections.abc import Callable
+from pathlib import Path
 
 from serving.server import free_port
 from serving.session import Session
 from servicing.tests.process import Service, ServiceTest, until
+
+
+def has_ended(process: int) -> bool:
+    """Whether a process has, though its parent may not know yet."""
+    with contextlib.suppress(OSError):
+        return Path(f"/proc/{process}/stat").read_text("utf-8").rpartition(")")[2].split()[0] == "Z"
+    return True
 
 
 class KilledTest(ServiceTest):
@@ -117,6 +125,24 @@ class KilledTest(ServiceTest):
         with self.serving() as last:
             self.assertEqual([it.all("resume")[0]["how"] for it in (again, last)], ["go on"] * 2)
         self.assertEqual(last.all("saved")[0]["left"], "3")
+
+    def test_the_keeper_is_killed_while_a_run_ends(self) -> None:
+        """Another one holds the history when the service is killed, too, and the server ends after both."""
+        service = self.begin("--sessions", "50")
+        with Session(self.port) as it:
+            self.assertRegex(it.ask("OFFER 0 job"), "^OFFERED ")
+            keeper, server = service.keeper(), service.server
+            service.process.send_signal(signal.SIGTERM)
+            service.wait("ending")
+            os.kill(keeper, signal.SIGKILL)
+            self.assertEqual(service.wait("keeper")["level"], "warning")
+            time.sleep(1)  # in which all sessions are used up
+            service.kill()
+            it.ask("QUIT")
+        until(lambda: has_ended(server), "the server ends")
+        with self.serving() as again:
+            self.assertEqual(again.all("resume")[0]["how"], "collect")
+            self.has_left(1)
 
     def test_the_server_is_killed_too(self) -> None:
         """With all, and while no service is there."""
