@@ -3,7 +3,8 @@
     service.py       one server after the other, each of which begins with what the one before left
     current.py, between.py, parts.py         the run that goes on; what is done between two; what these share
     settings.py      the words of the command line
-    folder.py, runs.py                       the folder of a service: what is written of a run, and in what order
+    folder.py, runs.py, fitting.py           the folder of a service: what is written of a run, in what order, and
+                     whether what is there fits together
     clock.py, opening.py                     what a run begins with: its moment, its ids and its elements
     deciding.py                              how a service begins, when a run ends, and which old ones are dropped
     keeper.py, keeping.py                    the process that holds a server and its history, and how it is found

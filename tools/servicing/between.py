@@ -1,11 +1,16 @@
 """What a service does between two runs: it finds what the one before left, and saves what a run has left."""
+import hashlib
+import json
 import subprocess
 import time
+from dataclasses import replace
 
 from histories.files import open_history
 from servicing.current import Current
 from servicing.deciding import Held, Start, how_to_start
+from servicing.fitting import Misfit, misfit_of
 from servicing.folder import Unusable
+from servicing.opening import Left
 from servicing.parts import Parts
 from servicing.runs import Next, left_of
 from servicing.saying import say
@@ -18,15 +23,18 @@ def resumed(parts: Parts) -> Current | Next:
     """A server that goes on, or what the next one begins with. Raises an `Unusable`."""
     last, settings = parts.runs.last, parts.settings
     if last is None:
-        return parts.runs.first(settings.begin_with, lambda path: _replay(settings.program, path))
+        parts.keeping.drop(0)
+        return parts.runs.first(settings.begin_with, lambda path: _check(settings.program, path))
     if settings.begin_with:
         raise Unusable(f"--from begins an empty folder, and {parts.folder.path} has runs")
     held = parts.keeping.status() if parts.keeping.was_found else None
     server = _held_server(parts, last, held)
     if server is not None:
         held = Held(server.run, server.run)
-    history = parts.folder.history(last.number)
-    start = how_to_start(last, history is not None, held, server is not None and not server.has_ended)
+    while (misfit := parts.runs.misfit()) is not None:
+        _accept(parts, misfit)
+    start = how_to_start(last, parts.folder.history(last.number) is not None, held,
+                         server is not None and not server.has_ended)
     say("info", "resume", run=last.number, how=start.value)
     if server is not None and start in (Start.GO_ON, Start.COLLECT):
         current = Current(parts, last, server)
@@ -36,14 +44,31 @@ def resumed(parts: Parts) -> Current | Next:
             return current
         parts.showing.run = current.record
         return saved(parts, current)
-    parts.keeping.drop()
+    following = _following(parts, last, start)
+    parts.keeping.drop(last.number if parts.runs.records[last.number].end else last.number - 1)
     if server is not None:
         server.close()
-    if start is Start.CONTINUE and history is not None:
-        return _continued(parts, last, history)
+    return following
+
+
+def _following(parts: Parts, last: Run, start: Start) -> Next:
+    """What follows a run without a server. Raises an `Unusable`."""
+    if start is Start.CONTINUE:
+        return _continued(parts, last)
     if start is Start.AGAIN:
         return parts.runs.again(last, last.calls if last.end is not None else 0)
+    if start is Start.MISSING:
+        _accept(parts, Misfit(last.number, f"run {last.number} ended in good order, and has no history"))
+        return lost(parts, last, "it had no history any more, which was accepted")
     return lost(parts, last, "its server and its keeper were gone")
+
+
+def _accept(parts: Parts, misfit: Misfit) -> None:
+    """Goes on without what a run did if that is accepted. Otherwise raises an `Unusable` that says what does not fit."""
+    if parts.settings.accept_loss != misfit.run:
+        raise Unusable(str(misfit))
+    say("error", "accepted-loss", run=misfit.run, text=misfit.what)
+    parts.until_written(f"run-{misfit.run}", 0, lambda: parts.runs.accept(misfit))
 
 
 def _held_server(parts: Parts, last: Run, held: Held | None) -> Server | None:
@@ -58,24 +83,49 @@ def _held_server(parts: Parts, last: Run, held: Held | None) -> Server | None:
     return server
 
 
-def _continued(parts: Parts, last: Run, history: str) -> Next:
-    """What follows a run that ended in good order, by the file of its history."""
-    _replay(parts.settings.program, history, "--chains", *last.policy)
+def _continued(parts: Parts, last: Run) -> Next:
+    """What follows a run that ended in good order, by the file of its history. Raises an `Unusable`."""
+    path = parts.folder.history(last.number)
+    assert path
+    try:
+        audit, digest = _replay(parts.settings.program, path, "--chains", *last.policy)
+        left = left_of(path)
+        why = misfit_of(last, digest, audit, left)
+    except (Damaged, Unusable) as fault:
+        why = str(fault)
+    if why:
+        _accept(parts, Misfit(last.number, f"{path} can't be continued: {why}"))
+        return lost(parts, last, f"its history did not fit, which was accepted: {why}")
     if last.end is None:
-        write_end(parts, last, End(time.time(), Reason.UNKNOWN))
-    return parts.runs.after(last, left_of(history))
+        write_end(parts, last, end_of(Reason.UNKNOWN, audit, left, digest))
+    return parts.runs.after(last, left)
 
 
-def _replay(program: str, path: str, *words: str) -> None:
+def _check(program: str, path: str) -> None:
     """Has a history checked. Raises an `Unusable` if no run can continue it."""
     try:
+        _replay(program, path)
+    except Damaged as fault:
+        raise Unusable(f"{path} can't be continued: {fault}") from None
+
+
+def _replay(program: str, path: str, *words: str) -> tuple[dict[str, int], str]:
+    """Has a history checked. Returns its audit and its digest. Raises a `Damaged` if no run can continue it."""
+    try:
         with open_history(path) as file:
-            ran = subprocess.run([program, "replay", "/dev/stdin", *words], input=file.read(), capture_output=True,
-                                 check=False)
+            text = file.read()
+        ran = subprocess.run([program, "replay", "/dev/stdin", *words], input=text, capture_output=True, check=False)
     except OSError as fault:
-        raise Unusable(f"{path} can't be continued: {fault.strerror or repr(fault)}") from None
+        raise Damaged(fault.strerror or repr(fault)) from None
     if ran.returncode:
-        raise Unusable(f"{path} can't be continued: {(ran.stdout + ran.stderr).decode(errors='replace').strip()}")
+        raise Damaged((ran.stdout + ran.stderr).decode(errors="replace").strip())
+    return json.loads(ran.stdout), hashlib.sha256(text).hexdigest()
+
+
+def end_of(why: Reason, audit: dict[str, int], left: Left, digest: str) -> End:
+    """The end of a run by its history. The service's own elements are not counted."""
+    return End(time.time(), why, audit["calls"], audit["offered"] - left.probes, left.failed, audit["given"],
+               len(left.elements), digest=digest)
 
 
 def saved(parts: Parts, run: Current) -> Next:
@@ -91,17 +141,16 @@ def saved(parts: Parts, run: Current) -> Next:
         following = lost(parts, record, str(fault))
         offered, gone, failed = looks.offered, looks.left, 0
     else:
-        parts.until_written(f"run-{record.number}.txt", server.size, lambda: parts.runs.save_history(server))
-        offered, stays, failed = audit["offered"] - left.probes, len(left.elements), left.failed
-        gone = record.opening + offered - stays
-        end = End(time.time(), why, audit["calls"], offered, failed, audit["given"], stays,
-                  server.lost_jobs, None, run.held_by, run.cut)
+        digest = parts.until_written(f"run-{record.number}.txt", server.size, lambda: parts.runs.save_history(server))
+        end = replace(end_of(why, audit, left, digest), lost_jobs=server.lost_jobs, held_by=run.held_by, cut=run.cut)
+        offered, failed = end.offered or 0, left.failed
+        gone = record.opening + offered - len(left.elements)
         write_end(parts, record, end)
         following = parts.runs.after(record, left)
         say("info", "saved", run=record.number, calls=end.calls, offered=end.offered, given=end.given, left=end.left,
             lost_jobs=end.lost_jobs or None, cut=end.cut or None)
     parts.showing.count(offered, gone, failed)
-    parts.keeping.drop()
+    parts.keeping.drop(record.number)
     server.close()
     return following
 

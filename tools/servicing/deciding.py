@@ -26,6 +26,7 @@ class Start(Enum):
     COLLECT = "collect"  # it has ended, and its history is held
     CONTINUE = "continue"  # the last run ended in good order, and its history is a file
     AGAIN = "again"  # the last run is known to be lost, or no server was started
+    MISSING = "missing"  # the last run ended in good order, and has no history
     LOST = "lost"  # the last run is lost
 
 
@@ -34,7 +35,7 @@ class Held:
     """What a keeper holds."""
 
     run: int | None
-    last: int | None  # the last run whose server it has started
+    last: int | None  # the last run whose server it has started, or that is over; a new one knows of none
 
 
 def how_to_start(last: Run, has_history: bool, held: Held | None, is_alive: bool) -> Start:
@@ -44,8 +45,8 @@ def how_to_start(last: Run, has_history: bool, held: Held | None, is_alive: bool
     if held is not None and held.run == last.number:
         return Start.GO_ON if is_alive else Start.COLLECT
     if last.end is not None:
-        return Start.AGAIN
-    if held is not None and (held.last or 0) < last.number:
+        return Start.AGAIN if last.is_lost else Start.MISSING
+    if held is not None and held.last is not None and held.last < last.number:
         return Start.AGAIN
     return Start.LOST
 

@@ -5,7 +5,7 @@
     opening-N.txt     what run N began with; aside-N.txt what did not fit into that
     run-N.json        what is known of run N
     run-N.txt         its history, if it ended in good order; run-N.txt.gz later on
-    damaged-N.txt     a history of run N that `replay` refused
+    damaged-N.txt     a history of run N that `replay` refused, or that did not fit
     status            the socket at which `--status` asks
     keeper            that of the process which holds the server
 
@@ -29,7 +29,8 @@ from servicing.clock import Reading
 from servicing.state import End, Reason, Run
 
 _RUN = re.compile(r"run-([1-9][0-9]{0,8})\.(json|txt|txt\.gz)")
-_FILES = ("run-{}.json", "run-{}.txt", "run-{}.txt.gz", "opening-{}.txt", "aside-{}.txt", "damaged-{}.txt")
+_FILES = ("run-{}.json", "run-{}.txt", "run-{}.txt.gz", "opening-{}.txt", "aside-{}.txt", "damaged-{}.txt",
+          "damaged-{}.txt.gz")
 
 
 Kind = TypeVar("Kind")
@@ -138,6 +139,12 @@ class Folder:
         """The path of the history of a run, if there is one."""
         paths = (self.file(f"run-{number}.txt"), self.file(f"run-{number}.txt.gz"))
         return next((it for it in paths if os.path.exists(it)), None)
+
+    def set_aside(self, number: int) -> None:
+        """Keeps a history as a damaged one, if there is one."""
+        path = self.history(number)
+        if path is not None:
+            os.rename(path, self.file(os.path.basename(path).replace("run", "damaged", 1)))
 
     def compress(self, number: int) -> None:
         """Puts a compressed history in the place of one."""

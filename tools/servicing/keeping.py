@@ -161,10 +161,11 @@ class Keeping:
             return int(self._asked_again("room").get("room", 0))
         return 0
 
-    def drop(self) -> None:
+    def drop(self, last: int) -> None:
+        """Lets it hold nothing: this run is over."""
         with self._turn, contextlib.suppress(KeeperLost):  # another one holds nothing
             self._server = None
-            self._ask("drop")
+            self._ask("drop", last=last)
 
     def let_go(self) -> None:
         """Ends it, unless it holds something for the next service."""

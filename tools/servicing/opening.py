@@ -47,6 +47,7 @@ class Left:
     elements: Elements
     failed: int = 0  # jobs that came back
     probes: int = 0  # elements that the service itself offered
+    begins: tuple[int, int, int] = (0, 0, 0)  # the next id, the moment and the number of elements before all events
 
 
 def opening_after(left: Left, aside: Elements, moment: int, given: int = 0) -> Opening:
@@ -114,7 +115,7 @@ def _left_at_first(file: BinaryIO) -> Left:
     if file.readline() != b"history 3\n":
         raise ValueError
     next_id, moment, count = map(int, file.readline().split()[1:])
-    left = Left(next_id, moment, {})
+    left = Left(next_id, moment, {}, begins=(next_id, moment, count))
     for _ in range(count):
         _, id, words = file.readline()[:-1].split(b" ", 2)
         left.elements[id] = words

@@ -5,6 +5,7 @@ history is written before the record says that the run has ended, and that befor
 killed in between finds by `deciding.how_to_start` what is left to do.
 """
 import contextlib
+import hashlib
 import os
 import threading
 import time
@@ -14,6 +15,7 @@ from typing import Callable
 from histories.files import open_history
 from servicing.clock import Reading, elapsed, read_clock
 from servicing.deciding import runs_to_drop
+from servicing.fitting import Misfit, digest_of, misfit_in
 from servicing.folder import Folder, Unusable, record_of
 from servicing.opening import Elements, Left, Opening, left_in, opening_after
 from servicing.saying import say
@@ -58,7 +60,7 @@ class Runs:
         is_unused = last is not None and last.end is None and not self.folder.history(last.number)
         return self._greatest if is_unused else self._greatest + 1
 
-    def first(self, begin_with: str | None, replay: Callable[[str], None]) -> Next:
+    def first(self, begin_with: str | None, replay: Callable[[str], object]) -> Next:
         """What the first run begins with: nothing, what a history left, or what the last history left that a series
         of runs has left in this folder. Raises an `Unusable`."""
         path = begin_with or (self.folder.history(self._greatest) if self._greatest else None)
@@ -79,8 +81,10 @@ class Runs:
         now, number, before = read_clock(), self.next_number, self.last
         opening = following.at(now)
         lost = 0 if before is None else before.lost_before if before.number == number else before.lost
+        follows = before.follows if before is not None and before.number == number else digest_of(before)
         record = Run(number, now, opening.moment, opening.next_id, len(opening.elements),
-                     len(opening.aside), settings.calls, tuple(settings.policy), lost_before=lost)
+                     len(opening.aside), settings.calls, tuple(settings.policy), lost_before=lost,
+                     follows=follows)
         if opening.aside:
             self.folder.write(f"aside-{number}.txt", opening.lines(opening.aside))
         else:
@@ -105,17 +109,41 @@ class Runs:
 
     def after(self, record: Run, left: Left, given: int = 0) -> Next:
         """What follows a run that left this, and may have given so many ids more."""
-        aside = left_of(self.folder.file(f"aside-{record.number}.txt")).elements if record.aside else {}
+        path = self.folder.file(f"aside-{record.number}.txt")
+        aside = left_of(path).elements if record.aside else {}
+        if len(aside) != record.aside:
+            raise Unusable(f"{path} is not what run {record.number} left aside: restore it")
         return Next(left, record.moment, record.surely_began, aside, given)
 
     def again(self, record: Run, given: int) -> Next:
-        """What follows a run that was lost, and may have given so many ids."""
-        return self.after(record, left_of(self.folder.file(f"opening-{record.number}.txt")), given)
+        """What follows a run that was lost, and may have given so many ids. Raises an `Unusable`."""
+        path = self.folder.file(f"opening-{record.number}.txt")
+        left = left_of(path)
+        next_id, _, elements = left.begins
+        if (next_id, elements) != (record.next_id, record.opening):
+            raise Unusable(f"{path} is not what run {record.number} began with: restore it")
+        return self.after(record, left, given)
 
-    def save_history(self, server: Server) -> None:
-        """Writes a run's history, unless it is there. Raises an `OSError`."""
+    def save_history(self, server: Server) -> str:
+        """Writes a run's history, unless it is there. Returns its digest. Raises an `OSError`."""
         if self.folder.history(server.run) is None:
             self.folder.write(f"run-{server.run}.txt", server.text())
+        digest = hashlib.sha256()
+        for piece in server.text():
+            digest.update(piece)
+        return digest.hexdigest()
+
+    def misfit(self) -> Misfit | None:
+        """What does not fit in the folder, which has a record."""
+        return misfit_in(self.records, [it for it in self.folder.numbers() if self.folder.history(it)])
+
+    def accept(self, misfit: Misfit) -> None:
+        """Goes on without what a run did, and keeps its history as a damaged one. Raises an `OSError`."""
+        if misfit.next is not None:
+            self._write(replace(misfit.next, follows=""))
+        else:
+            self.folder.set_aside(misfit.run)
+            self._greatest = max(self.folder.numbers())
 
     def save_damaged(self, server: Server) -> None:
         """Keeps what is no history, for whoever wants to know why."""

@@ -109,7 +109,7 @@ def _listening(parts: Parts, record: Run, opening: Opening) -> Server:
     while not server.listens:
         if parts.signals.wait(POLL, server.process) and not server.listens:
             why = server.last_line or "its process has ended"
-            parts.keeping.drop()
+            parts.keeping.drop(record.number - 1)
             server.close()
             raise NotStarted(why)
     return server

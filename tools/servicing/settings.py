@@ -83,6 +83,8 @@ class Settings:
     program: str = _option("the program that serves (that of ./broker)", program_named, None, "PATH")
     begin_with: str | None = _option(
         "begins an empty folder with what this history left", str, None, "HISTORY", flag="--from", dest="begin_with")
+    accept_loss: int | None = _option(
+        "goes on though what run N did is not in the folder any more, or was changed", number(int, 1, 999_999_999), None, "N")
     workers: int = _option("clients served at once, 1 to 16", number(int, 1, 16), 16, "N")
     sessions: int = _option("sessions of a run, 1 to 10000", number(int, 1, 10_000), 10_000, "N")
     calls: int = _option("calls of a run, 1 to 1000000", number(int, 1, 1_000_000), 1_000_000, "N")

@@ -92,6 +92,7 @@ class End:
     closed: float | None = None  # seconds without a server that served new clients, before the next run
     held_by: tuple[str, ...] = ()  # the clients that were waited for longest
     cut: int = 0  # sessions that were cut
+    digest: str | None = None  # the SHA-256 of its history
 
 
 @dataclass(frozen=True)
@@ -108,6 +109,7 @@ class Run:
     policy: tuple[str, ...]  # the words for `replay --chains`
     is_seen: bool = False  # whether the server has shown since when its clock goes
     lost_before: int = 0  # how many runs of the folder were lost before this one
+    follows: str = ""  # `fitting.digest_of` the run that it continues
     end: End | None = None
 
     @property

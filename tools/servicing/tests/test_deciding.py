@@ -33,9 +33,10 @@ class DecidingTest(unittest.TestCase):
             (Start.COLLECT, going, False, Held(7, 7), False),
             (Start.CONTINUE, going, True, Held(7, 7), False),  # killed before the keeper was told to drop it
             (Start.CONTINUE, record(7, WELL), True, None, False),
+            (Start.MISSING, record(7, WELL), False, None, False),
             (Start.AGAIN, record(7, LOST), False, None, False),
             (Start.AGAIN, going, False, Held(None, 6), False),  # killed before the server was started
-            (Start.AGAIN, going, False, Held(None, None), False),
+            (Start.LOST, going, False, Held(None, None), False),  # it was begun when the server was gone
             (Start.AGAIN, going, False, Held(6, 6), False),
             (Start.LOST, going, False, None, False),
             (Start.LOST, going, False, Held(None, 7), False),
