@@ -149,6 +149,9 @@ def saved(parts: Parts, run: Current) -> Next:
         following = parts.runs.after(record, left)
         say("info", "saved", run=record.number, calls=end.calls, offered=end.offered, given=end.given, left=end.left,
             lost_jobs=end.lost_jobs or None, cut=end.cut or None)
+        if end.lost_jobs:
+            say("error", "lost-jobs", run=record.number, jobs=end.lost_jobs,
+                text="they failed when the run was full, and could not come back")
     parts.showing.count(offered, gone, failed)
     parts.keeping.drop(record.number)
     server.close()

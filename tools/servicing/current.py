@@ -82,7 +82,7 @@ class Current:
                 self._prepare_end(seen)
                 self._let_wait(seen)
                 self._cut_silent()
-                self._signals.wait(LOOK, self.server.process)
+                self._signals.wait(self.looks.due(LOOK, LAST_LOOK / 2), self.server.process)
             return None
         finally:
             if self._visits is not None:
@@ -166,8 +166,9 @@ class Current:
                 seconds = time.monotonic() - self._end_began  # by now: a look may take long on a busy machine
                 is_over = self._signals.count > 1 or (self._signals.count and seconds >= within)
                 late = self.looks.served if is_over else self.looks.stayed(within, self._end_began)
-                if late and time.monotonic() - self._cut_at >= CUT:
-                    self._cut(late)
+                eager = self.looks.eager(within - seconds)
+                if eager or (late and time.monotonic() - self._cut_at >= CUT):
+                    self._cut([*{it.port: it for it in (*late, *eager)}.values()])
                 if now - told >= TELL:
                     told = now
                     self._tell(seconds)

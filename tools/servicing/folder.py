@@ -6,6 +6,7 @@
     run-N.json        what is known of run N
     run-N.txt         its history, if it ended in good order; run-N.txt.gz later on
     damaged-N.txt     a history of run N that `replay` refused, or that did not fit
+    acknowledged      how many lost runs and lost jobs somebody has acknowledged
     status            the socket at which `--status` asks
     keeper            that of the process which holds the server
 

@@ -15,7 +15,8 @@ import threading
 import time
 from http import HTTPStatus
 from http.server import BaseHTTPRequestHandler
-from typing import Any, Callable, NamedTuple
+from types import MappingProxyType
+from typing import Any, Callable, Mapping, NamedTuple
 
 from servicing.unix import bind_for_owner, user_of
 
@@ -42,12 +43,14 @@ def is_loopback(host: str) -> bool:
 
 class HttpServer(socketserver.ThreadingMixIn, socketserver.TCPServer):
     """Serves what `answer` says of a path, or None where there is nothing, at a host and port, or at a path to this user
-    and to root."""
+    and to root. These may ask for what `acts` has."""
 
     allow_reuse_address, daemon_threads, block_on_close, request_queue_size = True, True, False, MOST_CONNECTIONS
 
-    def __init__(self, at: tuple[str, int] | str, answer: Callable[[str], Answer | None]) -> None:
+    def __init__(self, at: tuple[str, int] | str, answer: Callable[[str], Answer | None],
+                 acts: Mapping[str, Callable[[], None]] = MappingProxyType({})) -> None:
         """Begins at once. Raises an `OSError`."""
+        self.acts = acts if isinstance(at, str) else {}
         self.address_family = socket.AF_UNIX if isinstance(at, str) else (
             socket.AF_INET6 if ":" in at[0] else socket.AF_INET)
         # A page of a foreign name that leads to this machine (DNS rebinding) gets nothing from a loopback address.
@@ -110,6 +113,16 @@ class _Handler(BaseHTTPRequestHandler):
             self.wfile.write(body)
 
     do_HEAD = do_GET
+
+    def do_POST(self) -> None:
+        """Does something, where that may be asked for."""
+        act = self.server.acts.get(self.path)
+        if act is None:
+            self.send_error(HTTPStatus.NOT_IMPLEMENTED)
+            return
+        act()
+        self.send_response(HTTPStatus.NO_CONTENT)
+        self.end_headers()
 
     def end_headers(self) -> None:
         for name, value in HEADERS:

@@ -4,10 +4,12 @@ from collections import deque
 from typing import Sequence
 
 from servicing.session import OwnSession, Told
-from servicing.sockets import MOMENT, Connection, look_at
+from servicing.sockets import MOMENT, SHORTEST as SHORTEST_CALL, Connection, look_at
 from servicing.state import Queue, Run, Supply
 
 ASK = 5.0  # seconds from one question to the server to the next
+UNSURE = 0.05  # a share of a run's calls; if so many more may be used than the server told of, it is asked at once
+HELD = 64  # jobs that a session holds at most, each of which needs a call to come back
 
 WINDOW, SHORTEST = 60.0, 5.0  # seconds over which a pace is measured
 MANY = 100  # sessions whose length is remembered
@@ -55,7 +57,10 @@ class Looks:
         self._crowded = self._unseen = 0  # sessions of a crowd, and with visits all that no look lists
         self._free_since: float | None = None  # when a worker was first free since all of them were busy
         self._session_pace, self._call_pace, self._offer_pace, self._left_pace = Pace(), Pace(), Pace(), Pace()
-        self._used_calls = 0
+        self._surely_used = 0  # calls, by what the server has told
+        self._made: dict[str, Connection] = {}  # each client when it was last seen
+        self._rates: dict[str, float] = {}  # calls a second of those that are served, between the last two looks
+        self._seen_at, self._rate = time.monotonic(), 0.0  # of all of them
         self.queue: Queue | None = None
         self.moment: int | None = None
         self.began: int | None = None  # when the server's clock began to go at the latest, by `clock.up_time`
@@ -66,13 +71,18 @@ class Looks:
     def look(self, between: float = ASK) -> None:
         """Looks at the connections, and asks the server if that is so long ago. Raises an `Unwatchable`."""
         if time.monotonic() - self._asked >= between or self.own.waits:
-            self._asked = time.monotonic()
-            told = self.own.look()
-            if told is not None:
-                self.hear(told)
+            self._ask()
         self.see()
+        if self._used_calls - self._surely_used > UNSURE * self._record.calls:
+            self._ask()
         if self.waiting:
             self.own.leave()  # a client needs the worker
+
+    def _ask(self) -> None:
+        self._asked = time.monotonic()
+        told = self.own.look()
+        if told is not None:
+            self.hear(told)
 
     def see(self, found: list[Connection] | None = None) -> None:
         """Takes what the system tells of the connections. Raises an `Unwatchable`."""
@@ -80,11 +90,46 @@ class Looks:
         clients = (it for it in found if it.port != own and not it.has_given_up)
         self.clients = tuple(sorted(clients, key=lambda it: -(it.heard or 0)))
         self._time_sessions({it.key for it in self.clients if it.is_served})
+        self._count_calls(self.clients)
         self._session_pace.add(time.monotonic(), self._begun + self.own.sessions)
         if self._workers <= sum(it.is_served for it in found):
             self._free_since = None
         elif self._free_since is None:
             self._free_since = time.monotonic()
+
+    def _count_calls(self, clients: Sequence[Connection]) -> None:
+        now, before, used = time.monotonic(), self._made, self._used_calls
+        passed, self._seen_at = max(now - self._seen_at, 0.001), now
+        self._made = {**before, **{it.key: it for it in clients}}
+        self._rates = {it.key: (it.calls - before.get(it.key, it).calls) / passed for it in clients if it.is_served}
+        self._rate = max(self._used_calls - used, 0) / passed
+
+    @property
+    def _used_calls(self) -> int:
+        """How many calls can be used. The server tells of those that gave or took an element. Of others there are no
+        more than clients have sent pieces, and than there is room for among their replies."""
+        record, sent = self._record, sum(it.calls for it in self._made.values())
+        digits = len(f"{record.next_id}{record.moment}")
+        known = (len("OFFERED  .") + digits) * self.offered + (len("ITEM   1 a.") + digits) * self.left
+        others = max(sum(it.replied for it in self._made.values()) - known, 0) // SHORTEST_CALL
+        used = max(self._surely_used, min(sent + self.own.calls, self._surely_used + others))
+        return min(used, record.calls)
+
+    def due(self, longest: float, shortest: float) -> float:
+        """In how many seconds the next look is due: before half of the calls that are left can be used."""
+        left = self._record.calls - self._used_calls
+        return max(min(longest, left / 2 / self._rate if self._rate else longest), shortest)
+
+    def eager(self, seconds: float) -> list[Connection]:
+        """The clients without which the calls that are left last for so long, with one for each job that others hold:
+        those that call fastest."""
+        served = sorted(self.served, key=lambda it: -self._rates.get(it.key, 0.0))
+        left, rate = self._record.calls - self._used_calls - HELD * len(served), sum(self._rates.values())
+        count = 0
+        while count < len(served) and rate * seconds > max(left, 0):
+            rate -= self._rates.get(served[count].key, 0.0)
+            count += 1
+        return served[:count]
 
     def count_unseen(self, crowd: int, visits: int) -> None:
         """So many sessions of the service's own were begun that no look lists. There are more of them than before only
@@ -121,7 +166,7 @@ class Looks:
         self.left = max(self.offered - told.queue.elements + record.opening, 0)
         # One call for each id, one for each element that has left, and the looks; that of a probe was counted twice.
         calls = ids + self.left + own.calls - own.probes
-        self._used_calls = max(self._used_calls, min(calls, record.calls))
+        self._surely_used = max(self._surely_used, min(calls, record.calls))
         for pace, number in ((self._call_pace, self._used_calls), (self._offer_pace, self.offered),
                              (self._left_pace, self.left)):
             pace.add(time.monotonic(), number)

@@ -5,7 +5,7 @@ from pathlib import Path
 from reporting.head import head
 from reporting.tables import Table, grid
 from servicing.shown import attention, headline, since, tables
-from servicing.state import Phase, State
+from servicing.state import LOST_JOBS, LOST_RUN, Phase, State
 
 HERE = Path(__file__).resolve().parent
 STYLE = "".join(it.read_text("utf-8") for it in (HERE.parent / "reporting" / "page.css", HERE / "page.css"))
@@ -30,6 +30,8 @@ def page(state: State) -> str:
 
 def _kind(state: State) -> str:
     if state.is_healthy:
+        if any(it.name in (LOST_RUN, LOST_JOBS) for it in state.alerts):
+            return "bad"
         return "good" if state.is_up and not state.alerts else "fair"
     return "fair" if state.phase in (Phase.STARTING, Phase.BETWEEN) and not state.alerts else "bad"
 

@@ -24,6 +24,7 @@ from servicing.settings import Keep, Settings
 from servicing.state import End, Run
 
 LOW_PRIORITY = 10
+ACKNOWLEDGED = "acknowledged"  # a file of the folder: how many lost runs and lost jobs are
 _TIDYING = threading.Lock()
 
 
@@ -48,6 +49,10 @@ class Runs:
         self.records = {number: run for number in folder.numbers() if (run := folder.run(number))}
         # Histories of another service may be there, which are never written over.
         self._greatest = max(folder.numbers(), default=0)
+        self._acknowledged = (0, 0)
+        with contextlib.suppress(OSError, ValueError):  # nothing is yet
+            runs, jobs = map(int, folder.read(ACKNOWLEDGED).split())
+            self._acknowledged = runs, jobs
 
     @property
     def last(self) -> Run | None:
@@ -81,10 +86,11 @@ class Runs:
         now, number, before = read_clock(), self.next_number, self.last
         opening = following.at(now)
         lost = 0 if before is None else before.lost_before if before.number == number else before.lost
+        lost_jobs = 0 if before is None else before.lost_jobs
         follows = before.follows if before is not None and before.number == number else digest_of(before)
         record = Run(number, now, opening.moment, opening.next_id, len(opening.elements),
                      len(opening.aside), settings.calls, tuple(settings.policy), lost_before=lost,
-                     follows=follows)
+                     lost_jobs_before=lost_jobs, follows=follows)
         if opening.aside:
             self.folder.write(f"aside-{number}.txt", opening.lines(opening.aside))
         else:
@@ -144,6 +150,19 @@ class Runs:
         else:
             self.folder.set_aside(misfit.run)
             self._greatest = max(self.folder.numbers())
+
+    @property
+    def unacknowledged(self) -> tuple[int, int]:
+        """How many lost runs, and jobs, nobody has acknowledged."""
+        last, known = self.last, self._acknowledged
+        return (max(last.lost - known[0], 0), max(last.lost_jobs - known[1], 0)) if last else (0, 0)
+
+    def acknowledge(self) -> None:
+        """Writes down that all that is lost so far is known. Raises an `OSError`."""
+        if self.last is not None:
+            known = self.last.lost, self.last.lost_jobs
+            self.folder.write(ACKNOWLEDGED, [f"{known[0]} {known[1]}\n".encode()])
+            self._acknowledged = known
 
     def save_damaged(self, server: Server) -> None:
         """Keeps what is no history, for whoever wants to know why."""

@@ -133,6 +133,8 @@ def parser(doc: str | None) -> argparse.ArgumentParser:
         add = retry.add_argument if it.name in ("delay", "rate") else made.add_argument
         add(told.pop("flag", f"--{it.name.replace('_', '-')}"), **told)
     made.add_argument("--status", action="store_true", help="prints the status of the service of the folder")
+    made.add_argument("--acknowledge", action="store_true",
+                      help="ends the alerts of the service of the folder that a run, or jobs, were lost")
     return made
 
 

@@ -1,4 +1,5 @@
 """What the service shows of itself: its phase, what it has seen, and what has become of its runs."""
+import contextlib
 import time
 from dataclasses import replace
 from typing import Iterator, Sequence
@@ -11,7 +12,7 @@ from servicing.runs import Runs
 from servicing.saying import notify, say
 from servicing.settings import Settings
 from servicing.shown import headline
-from servicing.state import Alert, Board, Phase, Reason, Run, Traffic
+from servicing.state import LOST_JOBS, LOST_RUN, Alert, Board, Phase, Reason, Run, Traffic
 
 MANY_ELEMENTS = 900_000
 DAY = 86_400
@@ -57,6 +58,11 @@ class Showing:
     def show(self) -> None:
         """Puts the present state on the board, and tells systemd its line."""
         looks, traffic, runs, last = self.looks, self._counted, self._history.past(), self._history.last
+        if self._board.is_acknowledged:
+            with contextlib.suppress(OSError):  # a full disk: it stays as it is
+                self._history.acknowledge()
+                self._board.is_acknowledged = False
+                say("info", "acknowledged", lost_runs=last.lost if last else 0, lost_jobs=last.lost_jobs if last else 0)
         if looks:
             traffic = traffic._replace(offered=traffic.offered + looks.offered, left=traffic.left + looks.left)
         # No counter falls, not even if the end of a run corrects it: that would look like a reset.
@@ -65,7 +71,7 @@ class Showing:
             "queue", "clients", "calls", "sessions", "offered_a_second", "left_a_second")}
         self._state = state = replace(
             self._state, at=time.time(), waits_for=self.waits_for, run=self.run, traffic=traffic, runs=runs,
-            lost_runs=last.lost if last else 0, alerts=(*self._raised.values(), *self._alerts(runs)),
+            lost_runs=last.lost if last else 0, lost_jobs=last.lost_jobs if last else 0, alerts=(*self._raised.values(), *self._alerts(runs)),
             unwritten=self.unwritten, **seen)
         self._board.put(state)
         # An end takes as long as --stop-within says, and an opening of many elements its time.
@@ -74,6 +80,14 @@ class Showing:
 
     def _alerts(self, runs: Sequence[Run]) -> Iterator[Alert]:
         """Those that follow from what is seen."""
+        lost_runs, lost_jobs = self._history.unacknowledged
+        lost = next((it for it in runs if it.is_lost), None)
+        if lost_runs and lost is not None and lost.end is not None and time.time() - lost.end.date <= DAY:
+            yield Alert(LOST_RUN, lost_text(lost), lost.end.date)
+        full = next((it for it in runs if it.end and it.end.lost_jobs), None)
+        if lost_jobs:
+            yield Alert(LOST_JOBS, f"{counted(lost_jobs, 'job')} failed in a full run, and could not come back: they are "
+                        "lost, until tools/service --acknowledge", full.end.date if full and full.end else time.time())
         run, queue = self.run, self.looks.queue if self.looks else None
         if run is None:
             return
@@ -82,9 +96,6 @@ class Showing:
             aside = f", of which {run.aside:,} wait in a file" if run.aside else ""
             text = f"{elements:,} elements wait{aside}; a run can begin with {MOST_OPENING_ELEMENTS:,}"
             yield Alert("many-elements", text, run.date)
-        lost = next((it for it in runs if it.is_lost), None)
-        if lost is not None and lost.end is not None and time.time() - lost.end.date <= DAY:
-            yield Alert("lost-run", lost_text(lost), lost.end.date)
 
 
 def lost_text(run: Run) -> str:

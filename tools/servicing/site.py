@@ -28,6 +28,7 @@ from servicing.state import Board, Run
 from servicing.unix import short_name
 
 SOCKET = "status"  # in the folder
+ACKNOWLEDGE = "/acknowledge"  # asked for there, it ends the alerts of what is lost
 PATIENCE = 5.0  # seconds for an answer
 
 TOOL = Path(__file__).resolve().parent.parent / "report"
@@ -50,7 +51,7 @@ def serve_pages(board: Board, folder: str, http: tuple[str, int] | None) -> None
                 "page shows, and payloads in reports, without a password or encryption; nothing can be changed by it")
     path = os.path.join(folder, SOCKET)
     try:
-        HttpServer(path, answer)
+        HttpServer(path, answer, {ACKNOWLEDGE: functools.partial(setattr, board, "is_acknowledged", True)})
     except OSError as fault:
         say("warning", "pages", text=f"{path}: {fault.strerror}: --status does not work")
 
@@ -102,13 +103,24 @@ def _made(run: Run, history: str) -> str:
 def print_status(folder: str) -> int:
     """Prints the status of the service of a folder, which it is asked for at its socket: it costs the server nothing.
     Returns the exit status. Raises an `Unusable` if no service answers."""
+    head, told = _asked(folder, "GET /health")
+    print(told.decode(), end="")
+    return 0 if head.startswith(b"HTTP/1.0 200 ") else 1
+
+
+def acknowledge(folder: str) -> int:
+    """Tells the service of a folder that what is lost is known. The same."""
+    head, _ = _asked(folder, f"POST {ACKNOWLEDGE}")
+    return 0 if head.startswith(b"HTTP/1.0 204 ") else 1
+
+
+def _asked(folder: str, what: str) -> tuple[bytes, bytes]:
     try:
         with short_name(os.path.join(folder, SOCKET)) as name, socket.socket(socket.AF_UNIX) as it:
             it.settimeout(PATIENCE)
             it.connect(name)
-            it.sendall(b"GET /health HTTP/1.0\r\n\r\n")
+            it.sendall(f"{what} HTTP/1.0\r\n\r\n".encode())
             head, _, told = it.makefile("rb").read().partition(b"\r\n\r\n")
     except OSError as fault:
         raise Unusable(f"no service answers in {folder}: {fault.strerror or fault}") from None
-    print(told.decode(), end="")
-    return 0 if head.startswith(b"HTTP/1.0 200 ") else 1
+    return head, told

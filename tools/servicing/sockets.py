@@ -16,7 +16,10 @@ MOMENT = 1_000  # milliseconds; a client that has waited for longer waits indeed
 CLOSE = 50  # milliseconds between a request and its reply that do not tell which came first
 SILENT_FROM = 10.0  # seconds of silence that count
 
-_FIELD = re.compile(r"\b(ino|sk|lastrcv|lastsnd|data_segs_in|data_segs_out):([0-9a-f]+)")
+# Bytes of the longest request, and of the shortest that is a call and of its reply. STOPPED is none.
+LONGEST, SHORTEST = 93, 5
+
+_FIELD = re.compile(r"\b(ino|sk|lastrcv|lastsnd|data_segs_in|data_segs_out|bytes_received|bytes_sent):([0-9a-f]+)")
 _PROGRAM = re.compile(r'users:\(\("([^"]*)",pid=(\d+)')
 
 # The states in which the server still has a connection: the client has closed its side in the second one.
@@ -41,6 +44,8 @@ class Connection:
     told: int | None  # since something was last sent to it
     program: str  # the client's name and process, or nothing if this user may not see it
     owes_reply: bool = False  # whether a request seems to be under way: the system counts pieces, not requests
+    calls: int = 0  # that it can have made. Where several came in a piece, the bytes of requests and replies tell it
+    replied: int = 0  # bytes of replies
 
     @property
     def name(self) -> str:
@@ -120,10 +125,13 @@ def _program(line: str) -> str:
 def _connection(line: str, programs: dict[str, str]) -> Connection:
     state, receive_queue, send_queue, _, peer = line.split(None, 5)[:5]
     fields = dict(_FIELD.findall(line))
+    counts = ("data_segs_in", "data_segs_out", "bytes_received", "bytes_sent")
+    pieces, pieces_back, heard_bytes, replied = (int(fields.get(it, 0)) for it in counts)
+    calls = pieces if heard_bytes <= LONGEST * pieces else heard_bytes // SHORTEST
     has_times = "rto:" in line  # the kernel told about the connection; what is 0 is left out then
     heard, told = (int(fields.get(it, 0)) if has_times else None for it in ("lastrcv", "lastsnd"))
     return Connection(
         port=int(peer.rpartition(":")[2]), key=f"{peer} {fields.get('sk', '')}", has_hung_up=state == HUNG_UP,
         is_served=fields.get("ino", "0") != "0", receive_queue=int(receive_queue), send_queue=int(send_queue),
         heard=heard, told=told, program=programs.get(peer, ""),
-        owes_reply=int(fields.get("data_segs_in", 0)) > int(fields.get("data_segs_out", 0)))
+        owes_reply=pieces > pieces_back, calls=min(calls, replied // SHORTEST), replied=replied)

@@ -19,6 +19,9 @@ LONGEST = 60.0  # seconds without a new state after which the service is not hea
 # The alerts that a file can't be written, which is kept in memory and tried again, and that no new state comes.
 DISK, STALE = "disk", "stale"
 
+# Those of something that is lost for good. They last until somebody acknowledges them.
+LOST_RUN, LOST_JOBS = "lost-run", "lost-jobs"
+
 
 class Phase(Enum):
     """What the service is doing. A phase follows the one before, or SERVING and the rest again with the next run."""
@@ -109,6 +112,7 @@ class Run:
     policy: tuple[str, ...]  # the words for `replay --chains`
     is_seen: bool = False  # whether the server has shown since when its clock goes
     lost_before: int = 0  # how many runs of the folder were lost before this one
+    lost_jobs_before: int = 0  # and how many jobs could not come back
     follows: str = ""  # `fitting.digest_of` the run that it continues
     end: End | None = None
 
@@ -130,6 +134,11 @@ class Run:
     def lost(self) -> int:
         """How many runs of the folder were lost, this one included."""
         return self.lost_before + self.is_lost
+
+    @property
+    def lost_jobs(self) -> int:
+        """How many jobs of the folder could not come back, those of this run included."""
+        return self.lost_jobs_before + (self.end.lost_jobs or 0 if self.end else 0)
 
     @property
     def has_history(self) -> bool:
@@ -173,6 +182,7 @@ class State:
     left_a_second: float | None = None
     runs: tuple[Run, ...] = ()  # those that have ended and are kept, the latest first
     lost_runs: int = 0  # in this folder
+    lost_jobs: int = 0  # the same of jobs that could not come back, since their run was full
     alerts: tuple[Alert, ...] = ()
     unwritten: int = 0  # bytes of a file that can't be written, and that are in memory only
 
@@ -226,6 +236,8 @@ class Board:
 
     def __init__(self, port: int) -> None:
         self.put(State(time.time(), port, Phase.STARTING, time.time()))
+
+    is_acknowledged = False  # whether somebody has acknowledged what was lost, and the service has not seen that yet
 
     def put(self, state: State) -> None:
         self._put, self._state = time.monotonic(), state

@@ -102,9 +102,8 @@ class ChangedTest(ServiceTest):
         with self.serving("--accept-loss", run, folder=folder, lost=int(run == 3)) as service:
             self.has_left(size)
         self.assertEqual(service.all("accepted-loss")[0]["level"], "error")
-        with self.serving("--accept-loss", run, folder=folder) as service:
-            self.assertEqual(service.all("accepted-loss"), [])
-            self.has_left(size)
+        if run == 2:  # where the others go on from what this one has left
+            self.ends(self.begin(folder=folder))
 
     def other(self, folder: Path) -> bytes:
         """The history of the run before."""

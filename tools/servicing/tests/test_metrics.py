@@ -40,12 +40,12 @@ class MetricsTest(RoomTest):
             "run_sessions": 57, "run_sessions_limit": 10_000, "run_sessions_left_seconds": 19_886,
             "last_run_closed_seconds": 0.31, "last_run_cut_sessions": 0, "last_run_lost_jobs": 0, "lost_runs_total": 1,
             "lost_run_time_seconds": AT - 7600, "lost_run_lasted_seconds": 1400, "lost_run_opening_elements": 900,
-            "unwritten_bytes": 0,
+            "unwritten_bytes": 0, "lost_jobs_total": 0,
         })
 
     def test_what_is_not_known_is_left_out(self) -> None:
         told = self.told(first_state())
-        self.assertEqual(told.keys(), {"up", "healthy", "workers", "lost_runs_total", "offered_total", "left_total",
+        self.assertEqual(told.keys(), {"up", "healthy", "workers", "lost_runs_total", "lost_jobs_total", "offered_total", "left_total",
                                        "failed_total", "unwritten_bytes"})
         self.assertEqual((told["up"], told["healthy"]), (0, 0))
         self.assertEqual(self.told(state(queue=Queue(AT, 0, 0)))["head_late_seconds"], 0)

@@ -15,9 +15,9 @@ LISTED = """LISTEN 2 128 127.0.0.1:7011 0.0.0.0:*     users:(("rb_broker",pid=30
 ESTAB  5      0       127.0.0.1:7011 127.0.0.1:44070 ino:0 sk:2004 cgroup:/ <->
 	 ts sack bbr rto:200 rtt:0.007/0.003 segs_in:3 data_segs_in:1 lastsnd:1244 lastrcv:1208 lastack:1208
 ESTAB  57136  163298  127.0.0.1:7011 127.0.0.1:44066 users:(("rb_broker",pid=30170,fd=9)) ino:32930 sk:2005 <->
-	 ts sack bbr rto:816 data_segs_out:5 data_segs_in:7 lastsnd:36 lastrcv:952 notsent:131066
+	 ts sack bbr rto:816 bytes_sent:900 bytes_acked:90 bytes_received:651 data_segs_out:5 data_segs_in:7 lastsnd:36 lastrcv:952 notsent:131066
 CLOSE-WAIT 1  0       127.0.0.1:7011 127.0.0.1:44056 ino:28390 sk:2008 <->
-	 ts rto:204 data_segs_out:1 data_segs_in:2 lastsnd:1208
+	 ts rto:204 bytes_sent:95 bytes_received:187 data_segs_out:1 data_segs_in:2 lastsnd:1208
 ESTAB  0      0       127.0.0.1:44066 127.0.0.1:7011 users:(("py\x1b[2Jthon3",pid=30175,fd=5)) ino:32947 <->
 	 ts rto:208 lastsnd:952 lastrcv:892
 FIN-WAIT-2 0      0       127.0.0.1:44056 127.0.0.1:7011 ino:0 sk:2009 <->
@@ -34,9 +34,9 @@ class SocketsTest(RoomTest):
             connection(44070, key="127.0.0.1:44070 2004", is_served=False, receive_queue=5, heard=1208, told=1244,
                        owes_reply=True),
             connection(44066, key="127.0.0.1:44066 2005", receive_queue=57136, send_queue=163298, heard=952, told=36,
-                       program="py?[2Jthon3 30175", owes_reply=True),
+                       program="py?[2Jthon3 30175", owes_reply=True, calls=7, replied=900),
             connection(44056, key="127.0.0.1:44056 2008", has_hung_up=True, receive_queue=1, told=1208,
-                       owes_reply=True)])
+                       owes_reply=True, calls=95 // 5, replied=95)])  # more bytes than two requests have
 
     def test_who_does_not_read_and_who_says_nothing(self) -> None:
         """A client in a call is not silent. Where both came at once, the pieces tell whether a reply is owed."""

@@ -30,7 +30,7 @@ Numbers
   When the run began                                                           2026-11-26 06:53:20
   Elements with which the run began                                            1,200
   Elements beyond those that an opening may have, which wait in a file         7
-  Calls that the run had used when last seen                                   400,000
+  Calls that the run can have used when last seen                              400,000
   Calls for which the run has room                                             1,000,000
   Time until no call is left, at the rate of the last minute                   13.3 h
   Sessions that the run had used when last seen                                57
@@ -40,6 +40,7 @@ Numbers
   Sessions that were cut at the end of the last run                            0
   Jobs of the last run that failed and could not come back                     0
   Runs in this folder that were lost                                           1
+  Jobs in this folder that failed in a full run, and could not come back       0
   When the last run that was lost ended                                        2026-11-26 05:53:20
   How long that run had lasted                                                 23.3 min
   Elements with which that run began                                           900
@@ -87,7 +88,7 @@ class TextsTest(unittest.TestCase):
     def test_what_is_not_known_is_left_out(self) -> None:
         numbers, clients, run, runs = tables(first_state())
         self.assertEqual(headline(first_state()), "starting")
-        self.assertEqual([row[1] for row in numbers.rows], ["0"] * 6)
+        self.assertEqual([row[1] for row in numbers.rows], ["0"] * 7)
         self.assertEqual((clients.rows, run.rows, runs.rows), ([], [], []))
 
     def test_lateness(self) -> None:

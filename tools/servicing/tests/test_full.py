@@ -1,0 +1,109 @@
+"""Runs whose calls are used up: jobs in hand come back, and what is lost all the same is said until it is acknowledged."""
+import contextlib
+import subprocess
+import sys
+import threading
+import time
+import unittest
+
+from common.program import TOP
+from servicing.looking import Looks
+from servicing.session import Told
+from servicing.site import _asked
+from servicing.state import Queue
+from servicing.tests.process import ServiceTest, until
+from servicing.tests.support import connection, record
+from serving.session import Session
+
+HELD = 50
+
+
+class FullTest(ServiceTest):
+    def test_a_client_that_only_asks_fills_no_run(self) -> None:
+        """It makes calls that change nothing the server tells of. It is cut, and the jobs of another one come back."""
+        for batch in (1, 20):
+            with self.subTest(batch=batch), self.serving(
+                    "--calls", "20000", "--stop-within", "2s", "--delay", "0s", folder=self.path(f"by-{batch}")) as service:
+                self.offer(HELD)
+                with Session(self.port) as holder:
+                    self.take(holder)
+                    is_over = threading.Event()
+                    storm = threading.Thread(target=self.storm, args=(is_over, batch), daemon=True)
+                    storm.start()
+                    service.wait("serving", 2)
+                    is_over.set()
+                    storm.join()
+                self.assertEqual(service.all("ending")[0]["why"], "calls")
+                self.assertNotIn("lost_jobs", service.all("saved")[0])
+                self.has_left(HELD)
+
+    def take(self, holder: Session) -> None:
+        for _ in range(HELD):
+            self.assertRegex(holder.ask("TAKE"), "^ITEM ")
+
+    def storm(self, is_over: threading.Event, batch: int) -> None:
+        while not is_over.is_set():
+            with contextlib.suppress(OSError), Session(self.port) as it:
+                while not is_over.is_set():
+                    it.send(*["POLLFOR 0"] * batch)
+                    for _ in range(batch):
+                        it.line()
+            time.sleep(0.02)
+
+    def test_what_is_lost_all_the_same(self) -> None:
+        """The calls are used up between two looks. The alert and the count outlive the service, and the alert lasts
+        until somebody acknowledges it."""
+        with self.serving("--calls", "60", "--stop-within", "1s") as service:
+            with Session(self.port) as it:
+                it.send(*[f"OFFER 0 job-{number}" for number in range(30)], *["TAKE"] * 30)
+                service.wait("serving", 2)
+            told = service.wait("lost-jobs")
+            jobs = int(told["jobs"])
+            self.assertEqual((told["level"], told["run"], jobs >= 20), ("error", "1", True))
+            self.assertEqual(self.alert(), (f"rb_broker_lost_jobs_total{{port=\"{self.port}\"}} {jobs}", True))
+        with self.serving() as service:
+            self.assertEqual(self.alert(), (f"rb_broker_lost_jobs_total{{port=\"{self.port}\"}} {jobs}", True))
+            self.assertIn("lost, until tools/service --acknowledge", _asked(self.path("runs"), "GET /")[1].decode())
+            words = [sys.executable, "-B", f"{TOP}/tools/service", "--acknowledge", "--folder", self.path("runs")]
+            self.assertEqual(subprocess.run(words, check=False).returncode, 0)
+            until(lambda: not self.alert()[1], "the alert is over")
+        with self.serving():
+            self.assertEqual(self.alert(), (f"rb_broker_lost_jobs_total{{port=\"{self.port}\"}} {jobs}", False))
+
+    def alert(self) -> tuple[str, bool]:
+        """The count of lost jobs, and whether there is the alert."""
+        text = _asked(self.path("runs"), "GET /metrics")[1].decode()
+        return next(it for it in text.splitlines() if it.startswith("rb_broker_lost_jobs_total")), 'name="lost-jobs"' in text
+
+
+class CallsTest(unittest.TestCase):
+    """How many calls can be used, by what the system tells of each client."""
+
+    def looks(self, calls: int = 100_000) -> Looks:
+        looks = Looks(1, record(calls=calls, moment=10**15, next_id=1000), 4, 100)
+        looks._seen_at = time.monotonic() - 1
+        return looks
+
+    def test_calls_of_which_the_server_does_not_tell(self) -> None:
+        """Of those of which it does there are replies, which are no room for others; and none is counted twice."""
+        looks = self.looks()
+        looks.see([connection(1, calls=2000, replied=2000 * 5)])
+        self.assertEqual(looks.calls.used, 2000)
+        looks.see([connection(2, calls=500, replied=500 * 5)])
+        self.assertEqual(looks.calls.used, 2500, "a client that has left made its calls")
+        reply = len(f"OFFERED 1000 {10**15}.")
+        looks.see([connection(3, calls=9000, replied=1000 * reply)])  # an offer's bytes could be 9 other calls
+        self.assertEqual(looks.calls.used, 2500 + 1000 * reply // 5)
+        looks.hear(Told(Queue(0, 1000, 0), 2000, 10**15, 10**15))
+        self.assertEqual(looks.calls.used, 1000 + 2500)
+
+    def test_the_next_look_and_who_is_cut(self) -> None:
+        """Half of what is left is not used up before it. A run ends without those who would fill it meanwhile."""
+        looks = self.looks()
+        looks.see([connection(1), connection(2)])
+        self.assertEqual((looks.due(1, 0.05), looks.eager(60)), (1, []))
+        looks._seen_at -= 1
+        looks.see([connection(1, calls=60_000, replied=300_000), connection(2, calls=300, replied=1500)])
+        self.assertAlmostEqual(looks.due(1, 0.05), 39_700 / 2 / 60_300, 1)
+        self.assertEqual([it.port for it in looks.eager(60)], [1])
+        self.assertEqual(looks.eager(0.1), [])
