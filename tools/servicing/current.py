@@ -141,10 +141,10 @@ class Current:
             self.crowd = None
 
     def _cut_silent(self) -> None:
-        silent = self._settings.silent
-        if silent is not None and (ports := silent_ports(self.looks.served, silent / SECOND)):
+        silent = self._settings.silent / SECOND
+        if ports := silent_ports(self.looks.served, silent):
             count, why = self._parts.keeping.cut(ports)
-            say("warning", "cut-silent", sessions=count, silent=span_of(silent / SECOND), why=why or None)
+            say("warning", "cut-silent", sessions=count, silent=span_of(silent), why=why or None)
 
     def _end(self) -> None:
         """Lets clients leave, and cuts their sessions if they do not.

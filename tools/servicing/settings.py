@@ -99,8 +99,9 @@ class Settings:
     stop_within: int = _option(
         "how long a run's end waits for clients to leave, before it cuts their sessions, %(type)s", _span("1s", "1h"),
         "60s")
-    silent: int | None = _option(
-        "cuts sessions over which nothing came or went for so long, %(type)s (never)", _span("1s", "1d"))
+    silent: int = _option(
+        "cuts sessions over which nothing came or went for so long, so no job may run longer, %(type)s", _span("1s", "1d"),
+        "10m")
     keep: Keep = _option("how many old runs are kept, or for how long", _keep, "7d", "N|TIME")
     http: tuple[str, int] | None = _option(
         "serves a page, /metrics and /health there (nowhere)", _address, None, "HOST:PORT")

@@ -16,6 +16,7 @@ from servicing.state import LOST_JOBS, LOST_RUN, Alert, Board, Phase, Reason, Ru
 
 MANY_ELEMENTS = 900_000
 DAY = 86_400
+NO_TURN, OVERDUE = 30.0, 10.0  # seconds without a turn of the service's own session, and of lateness, that are an alert
 MORE_TIME = 300_000_000  # microseconds that systemd is asked for while nothing is served
 
 
@@ -34,7 +35,9 @@ class Showing:
 
     def enter(self, phase: Phase, why: Reason | None = None, **told: object) -> None:
         """Another phase begins, which a line says."""
-        self._state, self.waits_for = replace(self._state, phase=phase, why=why, since=time.time()), ()
+        now = time.time()
+        closed = None if phase in (Phase.SERVING, Phase.STOPPED) else self._state.closed_since or now
+        self._state, self.waits_for = replace(self._state, phase=phase, why=why, since=now, closed_since=closed), ()
         say("info", phase.value.replace(" ", "-"), run=self.run.number if self.run else None,
             why=why.value if why else None, **told)
         self.show()
@@ -65,12 +68,15 @@ class Showing:
                 say("info", "acknowledged", lost_runs=last.lost if last else 0, lost_jobs=last.lost_jobs if last else 0)
         if looks:
             traffic = traffic._replace(offered=traffic.offered + looks.offered, left=traffic.left + looks.left)
+        closed = self._state.closed_since
+        if closed is not None and looks is not None:  # who waited longest is served last while a run ends
+            closed = max(closed, time.time() - time.monotonic() + looks.last_begun)
         # No counter falls, not even if the end of a run corrects it: that would look like a reset.
         traffic = Traffic(*(max(pair) for pair in zip(traffic, self._state.traffic)))
         seen = {it: getattr(looks, it, None) for it in (
             "queue", "clients", "calls", "sessions", "offered_a_second", "left_a_second")}
         self._state = state = replace(
-            self._state, at=time.time(), waits_for=self.waits_for, run=self.run, traffic=traffic, runs=runs,
+            self._state, at=time.time(), closed_since=closed, waits_for=self.waits_for, run=self.run, traffic=traffic, runs=runs,
             lost_runs=last.lost if last else 0, lost_jobs=last.lost_jobs if last else 0, alerts=(*self._raised.values(), *self._alerts(runs)),
             unwritten=self.unwritten, **seen)
         self._board.put(state)
@@ -88,6 +94,8 @@ class Showing:
         if lost_jobs:
             yield Alert(LOST_JOBS, f"{counted(lost_jobs, 'job')} failed in a full run, and could not come back: they are "
                         "lost, until tools/service --acknowledge", full.end.date if full and full.end else time.time())
+        if self.looks is not None:
+            yield from _held_up(self.looks, self._state.workers)
         run, queue = self.run, self.looks.queue if self.looks else None
         if run is None:
             return
@@ -96,6 +104,20 @@ class Showing:
             aside = f", of which {run.aside:,} wait in a file" if run.aside else ""
             text = f"{elements:,} elements wait{aside}; a run can begin with {MOST_OPENING_ELEMENTS:,}"
             yield Alert("many-elements", text, run.date)
+
+
+def _held_up(looks: Looks, workers: int) -> Iterator[Alert]:
+    """What keeps jobs from getting out."""
+    now, queue, served = time.time(), looks.queue, looks.served
+    if looks.own.waits > NO_TURN:
+        yield Alert("no-turn", f"no worker has served this service for {NO_TURN:g} seconds: what it says of the queue is "
+                    "old", now - looks.own.waits)
+    late = queue.late + now - queue.at if queue is not None and queue.elements else 0.0
+    if len(served) >= workers and all(it.silence or it.is_unread or it.has_hung_up for it in served):
+        if looks.waiting_long or late > OVERDUE:
+            yield Alert("all-silent", f"all {workers} workers have clients that say nothing or do not read, while "
+                        f"{'others wait' if looks.waiting_long else 'a job is overdue'}", now - min(
+                            (it.silence for it in served if it.silence), default=0.0))
 
 
 def lost_text(run: Run) -> str:

@@ -15,6 +15,7 @@ from servicing.sockets import Connection
 SLOWEST_START, SLOWEST_ELEMENT = 10_000_000_000, 100_000
 
 LONGEST = 60.0  # seconds without a new state after which the service is not healthy
+CLOSED = 5.0  # seconds in which no new client is served after which there is an alert
 
 # The alerts that a file can't be written, which is kept in memory and tried again, and that no new state comes.
 DISK, STALE = "disk", "stale"
@@ -168,6 +169,7 @@ class State:
     port: int
     phase: Phase
     since: float  # when that phase began
+    closed_since: float | None = None  # since when no new client is served, unless one is
     id: str = ""  # the folder's, which no other has
     why: Reason | None = None  # in ENDING, BETWEEN and STOPPED: why the run ends
     waits_for: tuple[str, ...] = ()  # what the phase waits for, a text each: clients that hold a run up, a full disk
@@ -235,7 +237,7 @@ class Board:
     """Holds the latest state. The service's own thread puts it there, and any may look at it."""
 
     def __init__(self, port: int) -> None:
-        self.put(State(time.time(), port, Phase.STARTING, time.time()))
+        self.put(State(time.time(), port, Phase.STARTING, time.time(), time.time()))
 
     is_acknowledged = False  # whether somebody has acknowledged what was lost, and the service has not seen that yet
 
@@ -244,9 +246,11 @@ class Board:
 
     @property
     def state(self) -> State:
-        """The latest, with an alert if the service has found nothing since for too long."""
-        state = self._state
-        if time.monotonic() - self._put <= LONGEST:
-            return state
-        alert = Alert(STALE, f"the service has found nothing for {LONGEST:g} seconds", state.at)
-        return replace(state, alerts=(*state.alerts, alert))
+        """The latest, with an alert if the service has found nothing since for too long, and one if no new client is
+        served for so long."""
+        state, alerts = self._state, []
+        if time.monotonic() - self._put > LONGEST:
+            alerts.append(Alert(STALE, f"the service has found nothing for {LONGEST:g} seconds", state.at))
+        if state.closed_since is not None and time.time() - state.closed_since > CLOSED:
+            alerts.append(Alert("closed", f"no new client is served for {CLOSED:g} seconds", state.closed_since))
+        return replace(state, alerts=(*state.alerts, *alerts)) if alerts else state
