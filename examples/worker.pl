@@ -1,4 +1,4 @@
-#!/usr/bin/env perl
+#!/usr/bin/perl
 # A worker in Perl, without modules from outside: examples/worker.pl PORT COMMAND [WORD ..]
 #
 # It takes one job after the other from the server at PORT of 127.0.0.1 and runs COMMAND with the job's payload as its

@@ -11,6 +11,7 @@ from pathlib import Path
 
 from common.program import TOP
 from packaging import SOURCES, Fault
+from packaging.manuals import write_manuals
 from packaging.tree import DOCUMENTS, copy, lay_out, write
 
 OF_DPKG = ("conffiles", "postinst", "prerm", "postrm")  # files of packaging/debian that dpkg needs as they are
@@ -35,6 +36,7 @@ def make_package(program: Path, folder: Path) -> Path:
         room = Path(name)
         root = room / "root"
         lay_out(root, program)
+        write_manuals(root, moment)
         shutil.copytree(Path(SOURCES, "debian"), room / "debian")
         changelog = CHANGELOG.format(version, email.utils.formatdate(moment)).encode()
         write(room / "debian/changelog", changelog)

@@ -15,6 +15,7 @@ COPIED = {
     "rb_broker@.service": "usr/lib/systemd/system/rb_broker@.service",
     "rb_broker.default": "etc/default/rb_broker",
     "debian/copyright": f"{DOCUMENTS}/copyright",
+    "debian/lintian-overrides": "usr/share/lintian/overrides/rb-broker",
 }
 
 # The pages for users, and what they tell their readers to look at or to run. All lies below the folder of documents as
@@ -76,4 +77,4 @@ def lay_out_tools(top: Path, root: Path) -> None:
     # Where tools look for the client package, so that they find it whatever python3 is the first on the path.
     client = root / "usr/share/rb_broker" / PACKAGES[0]
     client.parent.mkdir(parents=True)
-    client.symlink_to(f"../../../../../../{PYTHON}/rb_broker_client")
+    client.symlink_to(os.path.relpath(root / PYTHON / "rb_broker_client", client.parent))

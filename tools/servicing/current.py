@@ -76,7 +76,7 @@ class Current:
                 self._see(self.looks.look)
                 self._see_beginning()
                 seen = self._seen()
-                why = Reason.ASKED if self._signals.count else why_to_end(seen)
+                why = Reason.ASKED if self._signals.count else self._other_settings() or why_to_end(seen)
                 if why is not None:
                     return why
                 self._prepare_end(seen)
@@ -113,6 +113,15 @@ class Current:
             elements=looks.queue.elements if looks.queue else None, moment=looks.moment, aside=self.record.aside,
             first_aside=self._first_aside, leaving=looks.leaving,
             is_prepared=self._visits is not None and self._visits.are_made)
+
+    def _other_settings(self) -> Reason | None:
+        """Why the run has to end if it was begun by a service with another policy. Its history is checked by that."""
+        run, was, now = self.record.number, self.record.policy, tuple(self._settings.policy)
+        if was == now:
+            return None
+        say("warning", "settings", run=run, was=" ".join(was), now=" ".join(now),
+            text=f"run {run} ends now, and the next one has the new settings")
+        return Reason.SETTINGS
 
     def _prepare_end(self, seen: Seen) -> None:
         """In the last part of a run, uses up most of its sessions, so that its end takes no time."""

@@ -1,6 +1,6 @@
 """The folder of a service: it is locked, and each file in it is written whole or not at all.
 
-    lock              locked as long as a service runs, and says which
+    lock              locked, as the folder is, as long as a service runs, and says which
     id                a name that no other folder has
     opening-N.txt     what run N began with; aside-N.txt what did not fit into that
     run-N.json        what is known of run N
@@ -56,8 +56,11 @@ class Folder:
             self._lock = os.open(f"{path}/lock", os.O_RDWR | os.O_CREAT | os.O_CLOEXEC | os.O_NOFOLLOW, 0o600)
         except OSError as fault:
             raise Unusable(f"{fault.filename}: {fault.strerror}") from None
+        # The folder itself is locked, too: a lock that is a file can be deleted.
+        self._own_lock = os.open(path, os.O_RDONLY | os.O_DIRECTORY | os.O_CLOEXEC)
         try:
-            fcntl.flock(self._lock, fcntl.LOCK_EX | fcntl.LOCK_NB)
+            for it in (self._own_lock, self._lock):
+                fcntl.flock(it, fcntl.LOCK_EX | fcntl.LOCK_NB)
         except OSError:
             who = os.pread(self._lock, 4096, 0).decode(errors="replace").strip()
             raise Unusable(f"{path} is in use by {who or 'another service'}") from None

@@ -13,7 +13,7 @@ A request is an object of JSON with `do`; the answer is one too, with `fault` if
     status    {"run": N or null, "last": N or null, "pid": P, "status": S or null}: which run is held, the last that was
               started here or is over, the server's process, and its exit status once it has ended
     take      the same, with the descriptors of the history, of what the server prints, and of its process
-    start     with run, words, the first two descriptors and that of the opening: starts the server
+    start     with run, words, the first two descriptors and that of the opening: starts the server, and answers as take
     hold      with run, pid and all three: holds what another keeper held, which was killed
     cut       with ports: cuts the sessions of the clients at these ports
     room      {"room": N}: lets so many connections wait for a worker
@@ -79,7 +79,7 @@ class Keeper:
             self._last = asked.get("last", self._last)
         status = self._child.poll() if self._child else None
         told = {"run": self._run, "last": self._last, "pid": self._pid, "status": status}
-        return told, self._held if do == "take" else []
+        return told, self._held if do in ("start", "take") else []
 
     def _start(self, run: int, words: list[str], given: list[int]) -> None:
         self._drop()

@@ -127,18 +127,17 @@ class Keeping:
         with self._turn:
             link = self._link
             try:
-                answer, _ = self._ask("start", files, run=run, words=list(words))
+                answer, got = self._ask("start", files, run=run, words=list(words))
             except KeeperLost:
                 self._replace(link)
                 found = orphan_of(self._folder.id, run)
                 if found is not None:  # it was killed when the server was there
                     self.hold(found)
                     return found
-                answer, _ = self._ask("start", files, run=run, words=list(words))
+                answer, got = self._ask("start", files, run=run, words=list(words))
             if "fault" in answer:
                 raise NotStarted(answer["fault"])
-            pid = answer["pid"]
-            self._server = Server(run, pid, os.dup(files[0]), os.dup(files[1]), os.pidfd_open(pid))
+            self._server = Server(run, answer["pid"], *got)
             return self._server
 
     def hold(self, server: Server) -> None:

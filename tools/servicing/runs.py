@@ -71,6 +71,8 @@ class Runs:
         path = begin_with or (self.folder.history(self._greatest) if self._greatest else None)
         if path is None:
             return Next(Left(0, 0, {}), 0)
+        if os.path.exists(path) and not os.path.isfile(path):  # it is read twice, and a pipe would keep this waiting
+            raise Unusable(f"{path} is no regular file")
         replay(path)
         left = left_of(path)
         age = max(time.time_ns() - os.stat(path).st_mtime_ns, 0)

@@ -66,6 +66,12 @@ def _address(word: str) -> tuple[str, int]:
         raise argparse.ArgumentTypeError(f"{word!r} is no address such as 127.0.0.1:7080") from None
 
 
+def _path(word: str) -> str:
+    if not word:
+        raise argparse.ArgumentTypeError("'' is no path")
+    return word
+
+
 def _option(
     help: str, read: Callable[[str], Any], default: Any = None, metavar: str | None = "TIME", **more: Any
 ) -> Any:
@@ -79,10 +85,10 @@ class Settings:
     """How the service is to run. Spans are nanoseconds."""
 
     port: int = _option("the port on 127.0.0.1", number(int, 1, 65_535), 7011, "P")
-    folder: str = _option("where the runs are kept (~/.local/state/rb_broker/PORT)", str, None, "DIR")
+    folder: str = _option("where the runs are kept (~/.local/state/rb_broker/PORT)", _path, None, "DIR")
     program: str = _option("the program that serves (that of ./broker)", program_named, None, "PATH")
     begin_with: str | None = _option(
-        "begins an empty folder with what this history left", str, None, "HISTORY", flag="--from", dest="begin_with")
+        "begins an empty folder with what this history left", _path, None, "HISTORY", flag="--from", dest="begin_with")
     accept_loss: int | None = _option(
         "goes on though what run N did is not in the folder any more, or was changed", number(int, 1, 999_999_999), None, "N")
     workers: int = _option("clients served at once, 1 to 16", number(int, 1, 16), 16, "N")

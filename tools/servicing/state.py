@@ -41,6 +41,7 @@ class Reason(str, Enum):
     TIME = "time"  # --every
     CALLS = "calls"  # few are left, or none
     SESSIONS = "sessions"
+    SETTINGS = "settings"  # a service that was started again has another --delay, --rate or --attempts
     ELEMENTS = "elements"  # elements that were set aside have room again, or are due
     KILLED = "killed"  # the server's process ended before its run did: the run is lost
     UNKNOWN = "unknown"  # it ended in good order while no service was there

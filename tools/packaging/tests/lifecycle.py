@@ -10,7 +10,7 @@ from common.program import TOP, tested_program
 from packaging import Fault
 from packaging.tests.booted import try_units
 from packaging.tests.installed import try_installed
-from packaging.tests.options import check_help, check_layout, check_page, check_ranges
+from packaging.tests.options import check_help, check_layouts, check_page, check_ranges
 from packaging.tests.running import DONE, Told, expect, run
 from packaging.tests.service import try_dates, try_service
 from packaging.tests.unit import check_by_systemd, check_unit
@@ -45,7 +45,7 @@ def check(tally: Tally) -> None:
             check_refusals(tally, program, folder)
             root, package = f"{folder}/root", made(tally, program, folder)
             install(tally, package, root)
-            check_layout(tally, f"{root}/usr/share/man/man1/rb_broker.1.gz")
+            check_layouts(tally, f"{root}/usr/share/man/man1")
             check_by_systemd(tally, root, folder)
             try_service(tally, root, f"{folder}/state")
             try_dates(tally, root, f"{folder}/dates")

@@ -150,12 +150,24 @@ def uses_of(option: Option) -> Iterator[tuple[list[str], bool]]:
         yield [], False
 
 
-def check_layout(tally: Tally, path: str) -> None:
-    """The page in a file is set without a warning. mandoc checks it too if it is installed."""
-    told = run("man", "--warnings", "-E", "UTF-8", "-l", path)
-    heads = [it for it in ("NAME", "SCRIPT", "REPLAY", "SERVE", "EXIT STATUS", "FILES") if it not in told.said]
-    expect(tally, "man of the page", not told.errors and told.status == 0, told)
-    expect(tally, "the page's sections", not heads, f"it has no {heads}")
-    if is_there("mandoc", tally, "mandoc -T lint of the page"):
-        told = run("mandoc", "-T", "lint", path)
-        tally.count("mandoc -T lint of the page", told.said + told.errors)
+# What each page has to have: the program's, and those of the tools.
+SECTIONS = {
+    "rb_broker": ("NAME", "SCRIPT", "REPLAY", "SERVE", "EXIT STATUS", "FILES"),
+    "rb_broker_service": ("keeps a server running", "usage: rb_broker_service ", "--accept-loss N", "Exit status: "),
+    "rb_broker_report": ("reports on histories", "usage: rb_broker_report ", "--html", "Exit status: "),
+    "rb_broker_verify": ("compares a history with what its clients", "usage: rb_broker_verify ", "Exit status: "),
+    "rb_broker_load": ("puts a running server under load", "usage: rb_broker_load ", "--record", "Exit status: "),
+}
+
+
+def check_layouts(tally: Tally, folder: str) -> None:
+    """Each page in a folder is set without a warning. mandoc checks it too if it is installed."""
+    for name, parts in SECTIONS.items():
+        path = f"{folder}/{name}.1.gz"
+        told = run("man", "--warnings", "-E", "UTF-8", "-l", path)
+        missing = [it for it in parts if it not in told.said]
+        expect(tally, f"man of {name}", not told.errors and told.status == 0, told)
+        expect(tally, f"the sections of {name}", not missing, f"it has no {missing}")
+        if is_there("mandoc", tally, f"mandoc -T lint of {name}"):
+            told = run("mandoc", "-T", "lint", path)
+            tally.count(f"mandoc -T lint of {name}", told.said + told.errors)

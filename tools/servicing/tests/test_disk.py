@@ -8,7 +8,7 @@ import time
 from pathlib import Path
 
 from common.program import tested_program
-from servicing.tests.process import ServiceTest, until
+from servicing.tests.process import Service, ServiceTest, until
 
 JOBS = 2000
 
@@ -72,13 +72,19 @@ class FolderTest(ServiceTest):
         self.file("unread/run-1.json", "{")
         self.file("bare/run-1.json", "{}")
         for folder, program, says, lines in (
-            ("plain/runs", "", "Not a directory", 1), ("unread", "", "run-1.json is no record of a run: Expecting", 1),
+            ("", "", "argument --folder: '' is no path", 1), ("plain/runs", "", "Not a directory", 1), ("unread", "", "run-1.json is no record of a run: Expecting", 1),
             ("bare", "", "run-1.json is no record of a run: it has no 'end'", 1),
             ("runs", "/bin/false", f"no server at port {self.port}: its process has ended", 2),
         ):
-            service = self.start(folder=self.path(folder), program=program)
-            self.assertEqual((service.end(), len(service.lines)), (1, lines), service.lines)
+            service = Service(self.path(folder) if folder else "", port=self.port, program=program)
+            self.assertEqual((service.end(), len(service.lines)), (1 if folder else 2, lines), service.lines)
             self.assertIn(says, service.lines[-1])
+
+    def test_a_history_that_is_a_pipe(self) -> None:
+        os.mkfifo(self.path("pipe"))
+        service = self.start("--from", self.path("pipe"))
+        self.assertEqual(service.end(), 1)
+        self.assertIn("/pipe is no regular file", service.lines[-1])
 
     def test_a_history_that_is_no_history_is_kept(self) -> None:
         with self.serving():

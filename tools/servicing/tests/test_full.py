@@ -13,6 +13,7 @@ from servicing.site import _asked
 from servicing.state import Queue
 from servicing.tests.process import ServiceTest, until
 from servicing.tests.support import connection, record
+from serving import PATIENCE
 from serving.session import Session
 
 HELD = 50
@@ -30,7 +31,7 @@ class FullTest(ServiceTest):
                     is_over = threading.Event()
                     storm = threading.Thread(target=self.storm, args=(is_over, batch), daemon=True)
                     storm.start()
-                    service.wait("serving", 2)
+                    service.wait("serving", 2, patience=5 * PATIENCE)
                     is_over.set()
                     storm.join()
                 self.assertEqual(service.all("ending")[0]["why"], "calls")

@@ -7,6 +7,7 @@ import time
 from collections.abc import Callable
 from pathlib import Path
 
+from serving import PATIENCE
 from serving.server import free_port
 from serving.session import Session
 from servicing.tests.process import Service, ServiceTest, until
@@ -33,6 +34,17 @@ class KilledTest(ServiceTest):
             self.assertEqual(it.ask(f"DONE {id}"), f"DONE {id}")
         self.ends(again)
         self.assertEqual(again.all("saved")[0]["left"], "0")
+
+    def test_the_next_service_has_another_delay(self) -> None:
+        """It says so at once, and the next run, which has it, begins at once."""
+        self.begin("--delay", "1h").kill()
+        with self.serving("--delay", "0s") as service:
+            told = service.wait("settings")
+            self.assertEqual((told["was"], told["now"]), ("--delay 3600000000000 --attempts 20", "--delay 0 --attempts 20"))
+            service.wait("serving", 2, patience=5 * PATIENCE)
+            self.assertEqual([it["why"] for it in service.all("ending")], ["settings"])
+            self.assertRegex(self.ask("OFFER 0 job", "TAKE")[1], "^ITEM [0-9]+ [0-9]+ 1 job$")
+            self.assertRegex(self.ask("TAKE")[0], "^ITEM [0-9]+ [0-9]+ 2 job$")  # the first session has ended
 
     def test_the_server_ends_while_no_service_is_there(self) -> None:
         service = self.begin("--sessions", "3")
@@ -183,6 +195,9 @@ class KilledTest(ServiceTest):
             self.assertEqual(other.end(), 1)
             self.assertIn(f"no server at port {self.port}: rb_broker: cannot listen", other.lines[-1])
         self.has_left(0)
+        os.unlink(self.path("runs/lock"))  # which tells who has the folder, and is not what keeps others out
+        third = Service(self.path("runs"), port=free_port())
+        self.assertEqual((third.end(), third.lines), (1, [f"service: {self.path('runs')} is in use by another service"]))
         self.ends(service)
         with self.serving("--from", history, folder=self.path("others")):
             self.has_left(1)
