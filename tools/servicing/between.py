@@ -134,14 +134,14 @@ def saved(parts: Parts, run: Current) -> Next:
     why = Reason.ASKED if parts.signals.count and run.why is not Reason.UNKNOWN else run.why
     parts.showing.enter(Phase.BETWEEN, why)
     try:
-        audit, left = server.collect(parts.settings.program, record.policy)
+        audit, left, digest = server.collect(parts.settings.program, record.policy)
     except Damaged as fault:
         if server.size:
             parts.runs.save_damaged(server)
         following = lost(parts, record, str(fault))
         offered, gone, failed = looks.offered, looks.left, 0
     else:
-        digest = parts.until_written(f"run-{record.number}.txt", server.size, lambda: parts.runs.save_history(server))
+        parts.until_written(f"run-{record.number}.txt", server.size, lambda: parts.runs.save_history(server))
         end = replace(end_of(why, audit, left, digest), lost_jobs=server.lost_jobs, held_by=run.held_by, cut=run.cut)
         offered, failed = end.offered or 0, left.failed
         gone = record.opening + offered - len(left.elements)

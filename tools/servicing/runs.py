@@ -5,7 +5,6 @@ history is written before the record says that the run has ended, and that befor
 killed in between finds by `deciding.how_to_start` what is left to do.
 """
 import contextlib
-import hashlib
 import os
 import threading
 import time
@@ -132,14 +131,10 @@ class Runs:
             raise Unusable(f"{path} is not what run {record.number} began with: restore it")
         return self.after(record, left, given)
 
-    def save_history(self, server: Server) -> str:
-        """Writes a run's history, unless it is there. Returns its digest. Raises an `OSError`."""
+    def save_history(self, server: Server) -> None:
+        """Writes a run's history, unless it is there. Raises an `OSError`."""
         if self.folder.history(server.run) is None:
             self.folder.write(f"run-{server.run}.txt", server.text())
-        digest = hashlib.sha256()
-        for piece in server.text():
-            digest.update(piece)
-        return digest.hexdigest()
 
     def misfit(self) -> Misfit | None:
         """What does not fit in the folder, which has a record."""

@@ -1,10 +1,12 @@
 """A server that a keeper has started, how it is found without one, and what it leaves."""
 import contextlib
+import hashlib
 import json
 import os
 import re
 import select
 import subprocess
+from concurrent.futures import ThreadPoolExecutor
 from dataclasses import dataclass
 from pathlib import Path
 from typing import Iterator, Sequence
@@ -70,22 +72,31 @@ class Server:
         for it in (self.history, self.printed, self.process):
             os.close(it)
 
-    def collect(self, program: str, policy: Sequence[str]) -> tuple[dict[str, int], Left]:
-        """Has the history checked, and meanwhile reads what is left in it. Returns both. Raises a `Damaged`."""
+    def digest(self) -> str:
+        """The SHA-256 of the history."""
+        told = hashlib.sha256()
+        for piece in self.text():
+            told.update(piece)
+        return told.hexdigest()
+
+    def collect(self, program: str, policy: Sequence[str]) -> tuple[dict[str, int], Left, str]:
+        """Has the history checked, and meanwhile reads what is left in it and its digest: clients wait for it. Returns
+        all three. Raises a `Damaged`."""
         if not self.size:
             raise Damaged(f"the server left no history: {self.last_line or 'it was killed'}")
         words = [program, "replay", f"/dev/fd/{self.history}", "--chains", *policy]
         pipe = subprocess.PIPE
-        with subprocess.Popen(words, stdin=subprocess.DEVNULL, stdout=pipe, stderr=pipe, pass_fds=[self.history],
-                              encoding="utf-8", errors="replace", start_new_session=True) as replay:
-            left = None
+        with ThreadPoolExecutor(1) as pool, subprocess.Popen(
+                words, stdin=subprocess.DEVNULL, stdout=pipe, stderr=pipe, pass_fds=[self.history], encoding="utf-8",
+                errors="replace", start_new_session=True) as replay:
+            left, digest = None, pool.submit(self.digest)
             with contextlib.suppress(ValueError, IndexError, KeyError):  # which the replay explains
                 with open(f"/proc/self/fd/{self.history}", "rb", 1 << 18) as file:
                     left = left_in(file)
             said, errors = replay.communicate()
         if replay.returncode or left is None:
             raise Damaged((said + errors).strip() or f"status {replay.returncode}")
-        return json.loads(said), left
+        return json.loads(said), left, digest.result()
 
 
 def file_name(folder_id: str, number: int, what: str) -> str:
