@@ -64,7 +64,7 @@ def _following(parts: Parts, last: Run, start: Start) -> Next:
 
 
 def _accept(parts: Parts, misfit: Misfit) -> None:
-    """Goes on without what a run did if that is accepted. Otherwise raises an `Unusable` that says what does not fit."""
+    """Goes on without what a run did, if that is accepted. Otherwise raises an `Unusable` that says what it is."""
     if parts.settings.accept_loss != misfit.run:
         raise Unusable(str(misfit))
     say("error", "accepted-loss", run=misfit.run, text=misfit.what)

@@ -18,8 +18,8 @@ class Misfit:
     next: Run | None = None  # whose record names another run than there is
 
     def __str__(self) -> str:
-        return (f"{self.what}. Put what was there back, or start with --accept-loss {self.run}, which gives up what run "
-                f"{self.run} did")
+        return (f"{self.what}. Put what was there back, or start with --accept-loss {self.run}, which gives up what "
+                f"run {self.run} did")
 
 
 def digest_of(run: Run | None) -> str:

@@ -42,8 +42,8 @@ def is_loopback(host: str) -> bool:
 
 
 class HttpServer(socketserver.ThreadingMixIn, socketserver.TCPServer):
-    """Serves what `answer` says of a path, or None where there is nothing, at a host and port, or at a path to this user
-    and to root. These may ask for what `acts` has."""
+    """Serves what `answer` says of a path, or None where there is nothing, at a host and port, or at a path to this
+    user and to root. These may ask for what `acts` has."""
 
     allow_reuse_address, daemon_threads, block_on_close, request_queue_size = True, True, False, MOST_CONNECTIONS
 

@@ -4,9 +4,9 @@
 
 A history is written into memory that has no name, so no full disk can cut it off. It is there as long as some process
 has it open: the server, the service and this one. If the service is killed, the next one asks here for the server and
-its history; if this process is killed, the service begins another one. It serves one service at a time, of its own user
-alone since it executes what it is sent, and ends when that one says so. Where nobody has asked for half a minute, it ends too if it holds nothing, or if the server has ended
-and its folder is gone.
+its history; if this process is killed, the service begins another one. It executes what it is sent, so it serves its
+own user alone. It serves one service at a time, and ends when that one says so. Where nobody has asked for half a
+minute, it ends too if it holds nothing, or if the server has ended and its folder is gone.
 
 A request is an object of JSON with `do`; the answer is one too, with `fault` if it could not be done.
 

@@ -64,7 +64,8 @@ class Keeping:
         return None
 
     def _begun(self) -> socket.socket:
-        """A connection to a new one, which outlives this process and gets none of its signals. Raises a `KeeperLost`."""
+        """A connection to a new one, which outlives this process and gets none of its signals. Raises a
+        `KeeperLost`."""
         none = subprocess.DEVNULL
         try:
             with socket.socket(socket.AF_UNIX, socket.SOCK_SEQPACKET) as door:
@@ -92,8 +93,8 @@ class Keeping:
                     self._replace(link)
                     self._showing.lower_alert("no-keeper")
                 except KeeperLost as fault:
-                    self._showing.raise_alert("no-keeper", f"the keeper is lost, and {fault}: if this service is killed, "
-                                              "so is the run", "error")
+                    text = f"the keeper is lost, and {fault}: if this service is killed, so is the run"
+                    self._showing.raise_alert("no-keeper", text, "error")
                     time.sleep(AGAIN)
 
     def _replace(self, link: socket.socket) -> None:

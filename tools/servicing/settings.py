@@ -90,7 +90,8 @@ class Settings:
     begin_with: str | None = _option(
         "begins an empty folder with what this history left", _path, None, "HISTORY", flag="--from", dest="begin_with")
     accept_loss: int | None = _option(
-        "goes on though what run N did is not in the folder any more, or was changed", number(int, 1, 999_999_999), None, "N")
+        "goes on though what run N did is not in the folder any more, or was changed",
+        number(int, 1, 999_999_999), None, "N")
     workers: int = _option("clients served at once, 1 to 16", number(int, 1, 16), 16, "N")
     sessions: int = _option("sessions of a run, 1 to 10000", number(int, 1, 10_000), 10_000, "N")
     calls: int = _option("calls of a run, 1 to 1000000", number(int, 1, 1_000_000), 1_000_000, "N")
@@ -106,8 +107,8 @@ class Settings:
         "how long a run's end waits for clients to leave, before it cuts their sessions, %(type)s", _span("1s", "1h"),
         "60s")
     silent: int = _option(
-        "cuts sessions over which nothing came or went for so long, so no job may run longer, %(type)s", _span("1s", "1d"),
-        "10m")
+        "cuts sessions over which nothing came or went for so long, so no job may run longer, %(type)s",
+        _span("1s", "1d"), "10m")
     keep: Keep = _option("how many old runs are kept, or for how long", _keep, "7d", "N|TIME")
     http: tuple[str, int] | None = _option(
         "serves a page, /metrics and /health there (nowhere)", _address, None, "HOST:PORT")

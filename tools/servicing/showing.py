@@ -76,9 +76,9 @@ class Showing:
         seen = {it: getattr(looks, it, None) for it in (
             "queue", "clients", "calls", "sessions", "offered_a_second", "left_a_second")}
         self._state = state = replace(
-            self._state, at=time.time(), closed_since=closed, waits_for=self.waits_for, run=self.run, traffic=traffic, runs=runs,
-            lost_runs=last.lost if last else 0, lost_jobs=last.lost_jobs if last else 0, alerts=(*self._raised.values(), *self._alerts(runs)),
-            unwritten=self.unwritten, **seen)
+            self._state, at=time.time(), closed_since=closed, waits_for=self.waits_for, run=self.run, traffic=traffic,
+            runs=runs, lost_runs=last.lost if last else 0, lost_jobs=last.lost_jobs if last else 0,
+            alerts=(*self._raised.values(), *self._alerts(runs)), unwritten=self.unwritten, **seen)
         self._board.put(state)
         # An end takes as long as --stop-within says, and an opening of many elements its time.
         longer = {} if state.phase is Phase.SERVING else {"EXTEND_TIMEOUT_USEC": MORE_TIME}
@@ -92,8 +92,9 @@ class Showing:
             yield Alert(LOST_RUN, lost_text(lost), lost.end.date)
         full = next((it for it in runs if it.end and it.end.lost_jobs), None)
         if lost_jobs:
-            yield Alert(LOST_JOBS, f"{counted(lost_jobs, 'job')} failed in a full run, and could not come back: they are "
-                        "lost, until tools/service --acknowledge", full.end.date if full and full.end else time.time())
+            text = (f"{counted(lost_jobs, 'job')} failed in a full run, could not come back, and are lost; "
+                    "tools/service --acknowledge ends this alert")
+            yield Alert(LOST_JOBS, text, full.end.date if full and full.end else time.time())
         if self.looks is not None:
             yield from _held_up(self.looks, self._state.workers)
         run, queue = self.run, self.looks.queue if self.looks else None
@@ -110,8 +111,8 @@ def _held_up(looks: Looks, workers: int) -> Iterator[Alert]:
     """What keeps jobs from getting out."""
     now, queue, served = time.time(), looks.queue, looks.served
     if looks.own.waits > NO_TURN:
-        yield Alert("no-turn", f"no worker has served this service for {NO_TURN:g} seconds: what it says of the queue is "
-                    "old", now - looks.own.waits)
+        text = f"no worker has served this service for {NO_TURN:g} seconds: what it says of the queue is old"
+        yield Alert("no-turn", text, now - looks.own.waits)
     late = queue.late + now - queue.at if queue is not None and queue.elements else 0.0
     if len(served) >= workers and all(it.silence or it.is_unread or it.has_hung_up for it in served):
         if looks.waiting_long or late > OVERDUE:

@@ -15,7 +15,8 @@ RUN = ("run", "began", "lasted", "at the start", "calls", "left")  # the columns
 WHY = {
     Reason.ASKED: "asked to end", Reason.TIME: "its time was up", Reason.CALLS: "few calls were left",
     Reason.SESSIONS: "few sessions were left", Reason.ELEMENTS: "elements that were set aside had room",
-    Reason.SETTINGS: "failed jobs are to come back otherwise", Reason.KILLED: "lost: its server was killed", Reason.UNKNOWN: "ended while no service was running",
+    Reason.SETTINGS: "failed jobs are to come back otherwise", Reason.KILLED: "lost: its server was killed",
+    Reason.UNKNOWN: "ended while no service was running",
 }
 
 

@@ -72,7 +72,8 @@ class FolderTest(ServiceTest):
         self.file("unread/run-1.json", "{")
         self.file("bare/run-1.json", "{}")
         for folder, program, says, lines in (
-            ("", "", "argument --folder: '' is no path", 1), ("plain/runs", "", "Not a directory", 1), ("unread", "", "run-1.json is no record of a run: Expecting", 1),
+            ("", "", "argument --folder: '' is no path", 1),
+            ("plain/runs", "", "Not a directory", 1), ("unread", "", "run-1.json is no record of a run: Expecting", 1),
             ("bare", "", "run-1.json is no record of a run: it has no 'end'", 1),
             ("runs", "/bin/false", f"no server at port {self.port}: its process has ended", 2),
         ):

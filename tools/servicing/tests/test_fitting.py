@@ -74,10 +74,12 @@ class ChangedTest(ServiceTest):
         as there was if it is not the last one."""
         text = Path(self.path("runs/run-3.txt")).read_bytes()
         end, before = self.record(3)["end"], self.record(2)["end"]
-        self.assertEqual((end["digest"], self.record(3)["follows"]), (hashlib.sha256(text).hexdigest(), before["digest"]))
+        digest = hashlib.sha256(text).hexdigest()
+        self.assertEqual((end["digest"], self.record(3)["follows"]), (digest, before["digest"]))
         self.assertEqual((end["left"], end["offered"]), (6, 1))
         for name, change, run, size, says in (
-            ("missing", lambda it: os.unlink(it / "run-3.txt"), 3, 5, "run 3 ended in good order, and has no history. "),
+            ("missing", lambda it: os.unlink(it / "run-3.txt"), 3, 5,
+             "run 3 ended in good order, and has no history. "),
             ("edited", lambda it: (it / "run-3.txt").write_bytes(text.replace(b"of-1-0", b"of-1-7")), 3, 5,
              "run-3.txt can't be continued: its SHA-256 is "),
             ("swapped", lambda it: (it / "run-3.txt").write_bytes(self.other(it)), 3, 5,

@@ -1,4 +1,5 @@
-"""Runs whose calls are used up: jobs in hand come back, and what is lost all the same is said until it is acknowledged."""
+"""Runs whose calls are used up: jobs in hand come back, and what is lost all the same is said until somebody
+acknowledges it."""
 import contextlib
 import subprocess
 import sys
@@ -23,8 +24,8 @@ class FullTest(ServiceTest):
     def test_a_client_that_only_asks_fills_no_run(self) -> None:
         """It makes calls that change nothing the server tells of. It is cut, and the jobs of another one come back."""
         for batch in (1, 20):
-            with self.subTest(batch=batch), self.serving(
-                    "--calls", "20000", "--stop-within", "2s", "--delay", "0s", folder=self.path(f"by-{batch}")) as service:
+            options = ("--calls", "20000", "--stop-within", "2s", "--delay", "0s")
+            with self.subTest(batch=batch), self.serving(*options, folder=self.path(f"by-{batch}")) as service:
                 self.offer(HELD)
                 with Session(self.port) as holder:
                     self.take(holder)
@@ -64,7 +65,7 @@ class FullTest(ServiceTest):
             self.assertEqual(self.alert(), (f"rb_broker_lost_jobs_total{{port=\"{self.port}\"}} {jobs}", True))
         with self.serving() as service:
             self.assertEqual(self.alert(), (f"rb_broker_lost_jobs_total{{port=\"{self.port}\"}} {jobs}", True))
-            self.assertIn("lost, until tools/service --acknowledge", _asked(self.path("runs"), "GET /")[1].decode())
+            self.assertIn("are lost; tools/service --acknowledge ends", _asked(self.path("runs"), "GET /")[1].decode())
             words = [sys.executable, "-B", f"{TOP}/tools/service", "--acknowledge", "--folder", self.path("runs")]
             self.assertEqual(subprocess.run(words, check=False).returncode, 0)
             until(lambda: not self.alert()[1], "the alert is over")
@@ -74,7 +75,8 @@ class FullTest(ServiceTest):
     def alert(self) -> tuple[str, bool]:
         """The count of lost jobs, and whether there is the alert."""
         text = _asked(self.path("runs"), "GET /metrics")[1].decode()
-        return next(it for it in text.splitlines() if it.startswith("rb_broker_lost_jobs_total")), 'name="lost-jobs"' in text
+        count = next(it for it in text.splitlines() if it.startswith("rb_broker_lost_jobs_total"))
+        return count, 'name="lost-jobs"' in text
 
 
 class CallsTest(unittest.TestCase):

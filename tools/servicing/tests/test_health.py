@@ -36,8 +36,9 @@ class HealthTest(unittest.TestCase):
         late, due = Queue(time.time(), 1, 11.0), Queue(time.time(), 1, 1.0)
         for wanted, clients, queue in (
             ([], (silent, unread), None), (["all-silent"], (silent, unread, waits), None),
-            (["all-silent"], (silent, gone, waits), None), ([], (silent, busy, waits), None), ([], (silent, waits), None),
-            (["all-silent"], (silent, unread), late), ([], (silent, unread), due), ([], (silent, busy), late),
+            (["all-silent"], (silent, gone, waits), None), ([], (silent, busy, waits), None),
+            ([], (silent, waits), None), (["all-silent"], (silent, unread), late), ([], (silent, unread), due),
+            ([], (silent, busy), late),
             (["all-silent"], (silent, unread), Queue(time.time() - 30, 1, -1.0)),  # it is late meanwhile
             ([], (silent, unread), Queue(time.time() - 30, 0, 0.0)),
         ):

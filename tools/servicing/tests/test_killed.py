@@ -40,7 +40,8 @@ class KilledTest(ServiceTest):
         self.begin("--delay", "1h").kill()
         with self.serving("--delay", "0s") as service:
             told = service.wait("settings")
-            self.assertEqual((told["was"], told["now"]), ("--delay 3600000000000 --attempts 20", "--delay 0 --attempts 20"))
+            wanted = "--delay 3600000000000 --attempts 20", "--delay 0 --attempts 20"
+            self.assertEqual((told["was"], told["now"]), wanted)
             service.wait("serving", 2, patience=5 * PATIENCE)
             self.assertEqual([it["why"] for it in service.all("ending")], ["settings"])
             self.assertRegex(self.ask("OFFER 0 job", "TAKE")[1], "^ITEM [0-9]+ [0-9]+ 1 job$")
@@ -197,7 +198,8 @@ class KilledTest(ServiceTest):
         self.has_left(0)
         os.unlink(self.path("runs/lock"))  # which tells who has the folder, and is not what keeps others out
         third = Service(self.path("runs"), port=free_port())
-        self.assertEqual((third.end(), third.lines), (1, [f"service: {self.path('runs')} is in use by another service"]))
+        says = f"service: {self.path('runs')} is in use by another service"
+        self.assertEqual((third.end(), third.lines), (1, [says]))
         self.ends(service)
         with self.serving("--from", history, folder=self.path("others")):
             self.has_left(1)

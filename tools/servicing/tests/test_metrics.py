@@ -45,8 +45,8 @@ class MetricsTest(RoomTest):
 
     def test_what_is_not_known_is_left_out(self) -> None:
         told = self.told(first_state())
-        self.assertEqual(told.keys(), {"up", "healthy", "workers", "lost_runs_total", "lost_jobs_total", "offered_total", "left_total",
-                                       "failed_total", "unwritten_bytes"})
+        self.assertEqual(told.keys(), {"up", "healthy", "workers", "lost_runs_total", "lost_jobs_total",
+                                       "offered_total", "left_total", "failed_total", "unwritten_bytes"})
         self.assertEqual((told["up"], told["healthy"]), (0, 0))
         self.assertEqual(self.told(state(queue=Queue(AT, 0, 0)))["head_late_seconds"], 0)
 

@@ -36,8 +36,8 @@ class OthersTest(ServiceTest):
         proof = Path(self.path("proof"))
         words = ["setpriv", f"--reuid={user}", f"--regid={user}", "--clear-groups", SYSTEMS_PYTHON, "-c", ATTACK]
         id = Path(self.path("runs/id")).read_text("ascii").strip()
-        told = subprocess.run([*words, str(proof), id, *paths], capture_output=True, check=True, cwd="/", text=True).stdout
-        return told, proof.exists()
+        ran = subprocess.run([*words, str(proof), id, *paths], capture_output=True, check=True, cwd="/", text=True)
+        return ran.stdout, proof.exists()
 
     def open_to_all(self, *names: str) -> list[str]:
         """Takes every guard of the file system away. Returns the paths."""

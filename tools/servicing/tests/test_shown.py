@@ -62,7 +62,8 @@ class ShownTest(ServiceTest):
         self.assertEqual(self.metric("offered_total"), 20)
         shown = self.status()
         self.assertEqual((shown.returncode, shown.stderr), (0, ""))
-        self.assertRegex(shown.stdout, rf"^port {self.port}: 1 alert, [a-z]+, run [0-9]+, 20 elements, .*1 lost run")
+        # On a busy machine a second one is that new clients wait.
+        self.assertRegex(shown.stdout, rf"^port {self.port}: [12] alerts?, [a-z]+, run [0-9]+, 20 elements, .*1 lost run")
         self.assertEqual(service.stop(), 0)
         self.assertRaises(ConnectionRefusedError, self.get, "/health")
         self.assertEqual(self.status().returncode, 1)
@@ -89,7 +90,7 @@ class NotifyingTest(ServiceTest):
         with socket.socket(socket.AF_UNIX, socket.SOCK_DGRAM) as it:
             it.bind(self.path("notify"))
             told: list[str] = []
-            reader = threading.Thread(target=self.read, args=(it, told))
+            reader = threading.Thread(target=self.read, args=(it, told), daemon=True)
             reader.start()
             with mock.patch.dict(os.environ, NOTIFY_SOCKET=self.path("notify")):
                 with self.serving():

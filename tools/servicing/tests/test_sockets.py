@@ -15,7 +15,7 @@ LISTED = """LISTEN 2 128 127.0.0.1:7011 0.0.0.0:*     users:(("rb_broker",pid=30
 ESTAB  5      0       127.0.0.1:7011 127.0.0.1:44070 ino:0 sk:2004 cgroup:/ <->
 	 ts sack bbr rto:200 rtt:0.007/0.003 segs_in:3 data_segs_in:1 lastsnd:1244 lastrcv:1208 lastack:1208
 ESTAB  57136  163298  127.0.0.1:7011 127.0.0.1:44066 users:(("rb_broker",pid=30170,fd=9)) ino:32930 sk:2005 <->
-	 ts sack bbr rto:816 bytes_sent:900 bytes_acked:90 bytes_received:651 data_segs_out:5 data_segs_in:7 lastsnd:36 lastrcv:952 notsent:131066
+	 ts bbr rto:816 bytes_sent:900 bytes_received:651 data_segs_out:5 data_segs_in:7 lastsnd:36 lastrcv:952 notsent:9
 CLOSE-WAIT 1  0       127.0.0.1:7011 127.0.0.1:44056 ino:28390 sk:2008 <->
 	 ts rto:204 bytes_sent:95 bytes_received:187 data_segs_out:1 data_segs_in:2 lastsnd:1208
 ESTAB  0      0       127.0.0.1:44066 127.0.0.1:7011 users:(("py\x1b[2Jthon3",pid=30175,fd=5)) ino:32947 <->
