@@ -105,17 +105,15 @@ impl Outcome {
     }
 
     // Asserts that the run met one refusal. A run that came to its end is one of `REFUSED`. Any
-    // other ended with `Memory`: it could not begin and did nothing, or it got no memory for the
-    // text of its history and did everything else.
+    // other ended with `Memory`: it could not begin and did nothing.
     fn expect_refused(&self, rt: &impl Abort) {
         if self.ended.is_ok() {
             expect(rt, REFUSED.iter().any(|run| self.is_as(run)));
             return;
         }
         expect(rt, self.ended == Err(BrokerFault::Memory));
-        let begun = self.unread != SCRIPT.len();
-        let replies = if begun { WHOLE_REPLIES } else { &[] };
-        expect_bytes(rt, &self.replies, replies, 0);
+        expect(rt, self.unread == SCRIPT.len());
+        expect_bytes(rt, &self.replies, b"", 0);
         expect_bytes(rt, &self.history, b"", 0);
     }
 

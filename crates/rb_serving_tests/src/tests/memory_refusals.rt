@@ -38,6 +38,14 @@ fn page(alloc: Global) -> Result<Vec<u8>, AllocError> {
     }
 }
 
+// Takes the room for a history's text, and tries once more if memory is refused.
+fn text_room(alloc: Global) -> Result<HistoryRoom, AllocError> {
+    match HistoryRoom::new(alloc) {
+        Ok(room) => Ok(room),
+        Err(_) => HistoryRoom::new(alloc),
+    }
+}
+
 // The lines that each visitor of a server sends.
 const LINES: &[u8] = b"OFFER 0 a\nQUIT\n";
 
@@ -245,7 +253,7 @@ struct End {
 fn ended(alloc: Global, report: &ServeReport<ListTimer>) -> Result<End, AllocError> {
     let printed = page(alloc)?;
     let history = page(alloc)?;
-    let text = HistoryRoom::new(alloc)?;
+    let text = text_room(alloc)?;
     Ok(ended_into(alloc, text, report, printed, Some(history)))
 }
 
