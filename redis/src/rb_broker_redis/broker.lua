@@ -1,4 +1,4 @@
-#!lua name=rb_broker
+#!lua name=rb_broker_3
 -- The broker's calls as functions of a Redis (7.0 or later). docs/PROTOCOL.md has the requests, docs/HISTORY.md the
 -- lines of events.
 --
@@ -23,6 +23,7 @@
 --   pace      'delay' or 'rate'                   period    its nanoseconds, 20 digits
 --   attempts  those of a job                      gateway   the number of the gateway that joined last
 --   history   'no' if no events are kept          loading   the token of a load that has not ended
+--   format    the version of all this, '1' where there is none
 --   wake      an offer below this expiry is published: a gateway waits, and knows of none below it
 --
 -- A moment is a string of 20 digits, so it is exact up to 2^64 - 1 and ordered as text. Lua's numbers are exact up to
@@ -35,8 +36,10 @@
 -- other gateway ends its sessions, and from then on no call is made in its name: it gets the error LEASE, and has to
 -- join anew. So nothing is given at a seat that has ended.
 --
--- Functions. ARGS are those after the keys.
---   rb_version                                    the version of this library, '2'; it needs no keys
+-- Functions. ARGS are those after the keys. The name of each ends in the version of this library, as rb_calls_3 does,
+-- and so does that of the library. So gateways of several versions serve a queue side by side, as long as its format is
+-- one that they know; of a later one they get the error FORMAT.
+--   rb_version                                    the version of this library; it needs no keys
 --   rb_join LEASE PACE PERIOD ATTEMPTS MODE       a gateway joins, and the queue is made if there is none.
 --       LEASE is microseconds; PACE, PERIOD and ATTEMPTS are the policy, or '' for the queue's. MODE is '', 'change' to
 --       change the policy of a queue that has another, 'silent' to keep no events of a queue that is made now, or
@@ -66,7 +69,8 @@
 --
 -- A publish is 'HEAD NOW': the expiry of an element that has become the earliest, and the moment now.
 
-local VERSION = '2'
+local VERSION = '3'
+local FORMAT = '1'
 local LAST = '18446744073709551615'
 local MOST_HELD = 64
 local MOST_ENDED = 1000
@@ -109,13 +113,16 @@ end
 local function moment_of(microsecond) return pad(whole(microsecond) .. '000') end
 
 -- The queue as a step sees it. Events, counters and the wake are written by `close`, once for all calls of a step.
-local FIELDS = { 'next', 'at', 'calls', 'fetched', 'wake', 'pace', 'period', 'attempts', 'limit', 'history', 'loading' }
+local FIELDS = { 'next', 'at', 'calls', 'fetched', 'wake', 'pace', 'period', 'attempts', 'limit', 'history', 'loading',
+    'format' }
 
 local function is_loading() return redis.error_reply('LOADING_QUEUE a load into this queue has not ended') end
+local function is_later(format) return redis.error_reply('FORMAT ' .. format .. ' ' .. FORMAT) end
 
 local function open(keys, moment)
     local state = redis.call('HMGET', keys[4], unpack(FIELDS))
     if state[11] then return nil, is_loading() end
+    if (state[12] or FORMAT) ~= FORMAT then return nil, is_later(state[12]) end
     if not state[6] then return nil, redis.error_reply('NOQUEUE there is no such queue') end
     local asked = moment == '' and moment_of(microseconds()) or moment
     local at = state[2]
@@ -435,8 +442,9 @@ end
 
 local function join_gateway(keys, args)
     local lease, pace, period, attempts, mode = unpack(args)
-    local state = redis.call('HMGET', keys[4], 'pace', 'period', 'attempts', 'loading')
+    local state = redis.call('HMGET', keys[4], 'pace', 'period', 'attempts', 'loading', 'format')
     if state[4] then return is_loading() end
+    if (state[5] or FORMAT) ~= FORMAT then return is_later(state[5]) end
     local is_new = not state[1]
     if is_new and pace == '' then
         pace, period, attempts = 'delay', pad('30000000000'), '20'
@@ -536,12 +544,16 @@ end
 local function calls(keys, args) return perform(keys, args, false) end
 local function spare(keys, args) return perform(keys, args, true) end
 
-redis.register_function { function_name = 'rb_version', callback = function() return VERSION end, flags = { 'no-writes' } }
-redis.register_function('rb_join', join_gateway)
-redis.register_function('rb_calls', calls)
-redis.register_function { function_name = 'rb_spare', callback = spare, flags = { 'allow-oom' } }
-redis.register_function { function_name = 'rb_renew', callback = renew, flags = { 'allow-oom' } }
-redis.register_function { function_name = 'rb_leave', callback = leave, flags = { 'allow-oom' } }
-redis.register_function { function_name = 'rb_cut', callback = cut, flags = { 'allow-oom' } }
-redis.register_function('rb_load', load)
-redis.register_function('rb_loaded', loaded)
+local function register(name, callback, ...)
+    redis.register_function { function_name = name .. '_' .. VERSION, callback = callback, flags = { ... } }
+end
+
+register('rb_version', function() return VERSION end, 'no-writes')
+register('rb_join', join_gateway)
+register('rb_calls', calls)
+register('rb_spare', spare, 'allow-oom')
+register('rb_renew', renew, 'allow-oom')
+register('rb_leave', leave, 'allow-oom')
+register('rb_cut', cut, 'allow-oom')
+register('rb_load', load)
+register('rb_loaded', loaded)

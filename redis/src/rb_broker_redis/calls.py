@@ -7,6 +7,7 @@ import time
 from collections.abc import Callable
 
 from .keys import keys_of
+from .library import name_of
 from .link import Link
 from .protocol import ErrorReply
 from .resp import Answer, ErrorAnswer, bulks, command
@@ -18,6 +19,8 @@ Answered = Callable[[list[bytes] | None], None]
 
 SEATS_OF_A_GATEWAY = 10**9
 """broker.lua has the same number."""
+
+CALLS, SPARE = (name_of(it).encode() for it in ("rb_calls", "rb_spare"))
 
 FETCHES = (b"POLL", b"TAKE", b"POLLFOR", b"DRAIN")
 
@@ -62,7 +65,7 @@ class Batch:
         """`front` names the gateway whose sessions make the calls."""
         self.front = front
         self.parts: list[tuple[Answered, list[bytes]]] = []
-        self.function = b"rb_calls"
+        self.function = CALLS
         self.sent = 0.0
 
     def calls(self) -> list[bytes]:
@@ -186,7 +189,7 @@ class Calls:
         self._flying[batch] = None
         batch.sent = time.monotonic()
         calls = batch.calls()
-        head = b"*%d\r\n$5\r\nFCALL\r\n$8\r\n%b\r\n$1\r\n8\r\n" % (13 + len(calls), batch.function)
+        head = b"*%d\r\n" % (13 + len(calls)) + bulks([b"FCALL", batch.function, b"8"])
         data = b"".join([head, self._head, batch.front, bulks(calls)])
         if not self._replicas:
             link.send(data, lambda answer: self._answered(link, batch, answer))
@@ -218,8 +221,8 @@ class Calls:
 
     def _refused(self, batch: Batch, answer: Answer) -> None:
         code = answer.code if isinstance(answer, ErrorAnswer) else ""
-        if code == "OOM" and batch.function != b"rb_spare":
-            batch.function = b"rb_spare"
+        if code == "OOM" and batch.function != SPARE:
+            batch.function = SPARE
             self._send_again(batch, 0)
         elif code in LATER:
             self._send_again(batch, SECONDS_BETWEEN_TRIES)

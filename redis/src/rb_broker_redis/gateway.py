@@ -42,7 +42,7 @@ class Gateway:
 
     async def join(self, address: Address, lease: int, policy: tuple[str, str, str], mode: str) -> None:
         """Joins the queues. `policy` and `mode` are as `rb_join` of broker.lua takes them. Raises `OSError`,
-        `ErrorAnswer`, `NewerLibrary`."""
+        `ErrorAnswer`."""
         self._upkeeps = [
             Upkeep(self, shard, address, name, calls, lease=lease // 1_000, policy=policy, mode=mode)
             for shard, (name, calls) in enumerate(self._queues.items())]

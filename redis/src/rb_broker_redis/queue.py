@@ -7,10 +7,10 @@ import redis
 from redis.cluster import ClusterNode, RedisCluster
 from redis.sentinel import Sentinel
 
-from . import library
 from .address import Address, Kind
 from .history import FollowedQueue
 from .keys import channel_of, keys_of
+from .library import SOURCE, name_of
 
 COMMANDS_SEAT = 0
 """The seat of the commands: no session of a gateway has it."""
@@ -57,17 +57,15 @@ class Queue:
     def load_functions(self) -> None:
         """Gives the node the functions, unless it has them."""
         try:
-            version: int | None = int(self.command("FCALL", "rb_version", 0))
+            self.command("FCALL", name_of("rb_version"), 0)
         except redis.ResponseError as fault:
             if "not found" not in str(fault):
                 raise
-            version = None
-        if library.must_load(version):
-            self.command("FUNCTION", "LOAD", "REPLACE", library.SOURCE)
+            self.command("FUNCTION", "LOAD", "REPLACE", SOURCE)
 
     def call(self, function: str, *args: bytes | str | int) -> Any:
         """Calls one function with the queue's keys and these arguments."""
-        return self.command("FCALL", function, len(self.keys), *self.keys, *args)
+        return self.command("FCALL", name_of(function), len(self.keys), *self.keys, *args)
 
     def load(self, token: str, left: FollowedQueue) -> None:
         """Gives the queue, which nobody has used, what is left of another one. Goes on where another load of this token

@@ -129,6 +129,9 @@ def sentence_about(fault: Exception, asked: argparse.Namespace) -> str:
         _, pace, period, attempts = str(fault).split()
         return (f"queue {asked.queue} has --{pace} {period}ns --attempts {attempts}: say the same, or nothing, or"
                 " --change-policy")
+    if isinstance(fault, ErrorAnswer) and fault.code == "FORMAT":
+        _, there, known = str(fault).split()
+        return f"queue {asked.queue} has format {there}, of a later version of this package, which knows format {known}"
     if isinstance(fault, ErrorAnswer) and fault.code == "LOADING_QUEUE":
         return f"a load into queue {asked.queue} has not ended"
     if isinstance(fault, OSError) and fault.filename:

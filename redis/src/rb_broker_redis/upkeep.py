@@ -9,10 +9,10 @@ from collections.abc import Awaitable, Callable
 from typing import TYPE_CHECKING, Any
 from uuid import uuid4
 
-from . import library
 from .address import Address
 from .calls import UNKNOWN, Calls, needs_new_link
 from .keys import channel_of, keys_of
+from .library import SOURCE, name_of
 from .link import Link, closed_on_failure, is_set_in_time
 from .place import connect_to_queue
 from .resp import ErrorAnswer
@@ -52,7 +52,7 @@ class Upkeep:
         calls.gateway_is_unknown = self._is_unknown
 
     async def start(self) -> None:
-        """Connects, and joins the queue. Raises `OSError`, `ErrorAnswer`, `NewerLibrary`."""
+        """Connects, and joins the queue. Raises `OSError`, `ErrorAnswer`."""
         link = await self._connect()
         try:
             await self._join(link)
@@ -90,16 +90,14 @@ class Upkeep:
 
     async def _load_functions(self, link: Link) -> None:
         try:
-            version: int | None = int(await link.ask("FCALL", "rb_version", 0))
+            await link.ask("FCALL", name_of("rb_version"), 0)
         except ErrorAnswer as fault:
             if "not found" not in str(fault):
                 raise
-            version = None
-        if library.must_load(version):
-            await link.ask("FUNCTION", "LOAD", "REPLACE", library.SOURCE)
+            await link.ask("FUNCTION", "LOAD", "REPLACE", SOURCE)
 
     async def _call(self, link: Link, function: str, *args: bytes | str | int) -> Any:
-        return await link.ask("FCALL", function, len(self._keys), *self._keys, *args)
+        return await link.ask("FCALL", name_of(function), len(self._keys), *self._keys, *args)
 
     async def _join(self, link: Link) -> None:
         """Gives the gateway a new number."""
@@ -211,7 +209,7 @@ class Upkeep:
         while True:
             try:
                 return await make()
-            except (OSError, ErrorAnswer, library.NewerLibrary) as fault:
+            except (OSError, ErrorAnswer) as fault:
                 if str(fault) != told:
                     LOG.warning("the Redis of queue %s is not to be had: %s", self._queue, fault)
                 told = str(fault)
