@@ -165,12 +165,13 @@ class Nodes:
 
 
 class Replicas(Nodes):
-    """A primary with replicas."""
+    """A primary with replicas, which may have this in their environment."""
 
-    def __init__(self, folder: Path, count: int, options: Sequence[object] = ALWAYS) -> None:
+    def __init__(self, folder: Path, count: int, options: Sequence[object] = ALWAYS,
+                 environment: dict[str, str] | None = None) -> None:
         self.primary = Node(folder / "primary", options)
         to = ("--replicaof", HOST, self.primary.port)
-        self.replicas = [Node(folder / f"replica-{it}", [*options, *to]) for it in range(count)]
+        self.replicas = [Node(folder / f"replica-{it}", [*options, *to], environment) for it in range(count)]
         self.nodes = [self.primary, *self.replicas]
         wait_until(lambda: self.primary.replication()["connected_slaves"] == count
                    and all(it.replication()["master_link_status"] == "up" for it in self.replicas),

@@ -10,8 +10,8 @@
 --   4 {NAME}:state     hash, below
 --   5 {NAME}:history   list of the event lines that no archive has taken yet, oldest first, without line feeds
 --   6 {NAME}:dead      sorted set, all of score 0: 'ID DIED EXPIRY ORIGIN FIRST ATTEMPT PAYLOAD'
---   7 {NAME}:gateways  sorted set: the number of a gateway, with the microsecond since 1970 at which its lease ends, or
---                      0 while its sessions are ended
+--   7 {NAME}:gateways  sorted set: the number of a gateway, with a score that each renewal of its lease changes, or 0
+--                      while its sessions are ended
 --   8 {NAME}:opening   list: the lines 'open ..' and 'keep ..' with which event 0 begins; no key for an empty opening
 -- In due, held and dead the words EXPIRY, ID, SEAT, FETCH and DIED have 20 digits, and so has an EXPIRY of ids; all
 -- other numbers are as in the protocol. Wakes are published at the channel '{NAME}:head'.
@@ -25,31 +25,38 @@
 --   history   'no' if no events are kept          loading   the token of a load that has not ended
 --   format    the version of all this, '1' where there is none
 --   wake      an offer below this expiry is published: a gateway waits, and knows of none below it
+--   lease:GATEWAY  the microseconds of its lease, and the token with which it joined
 --
 -- A moment is a string of 20 digits, so it is exact up to 2^64 - 1 and ordered as text. Lua's numbers are exact up to
--- 2^53 only; sums are made of two halves of 10 digits. Moments are nanoseconds since 1970 by the node's TIME.
+-- 2^53 only; sums are made of two halves of 10 digits. Moments are nanoseconds since 1970 by the node's TIME, and none is
+-- before the last event's: a clock that is behind lets time stand still until it has caught up, also where a delay is
+-- added to the moment or a deadline is made of it. What a LATER or a publish tells is read off the clock all the same,
+-- so that waits last until then.
 --
 -- A session is its seat, a number that is never used again: GATEWAY * 10^9 + N for the session N of a gateway, and 0
 -- for the commands of the package. GATEWAY is the second since 1970 at which the gateway joined, or the next number
 -- that is free; so it is new even where a fail-over has lost what the queue knew. What a session holds is in held, in
--- the order of FETCH. A session has no lease of its own. Its gateway has one. Once that is over, the rb_renew of any
--- other gateway ends its sessions, and from then on no call is made in its name: it gets the error LEASE, and has to
--- join anew. So nothing is given at a seat that has ended.
+-- the order of FETCH. A session has no lease of its own. Its gateway has one, which is renewed by changing a score. No
+-- clock of a node judges it: another gateway that has seen one score for as long as the lease lasts names that in an
+-- rb_renew, which ends the sessions if the score is still the same. From then on no call is made in the name of the late
+-- gateway: it gets the error LEASE, and has to join anew. So nothing is given at a seat that has ended.
 --
 -- Functions. ARGS are those after the keys. The name of each ends in the version of this library, as rb_calls_3 does,
 -- and so does that of the library. So gateways of several versions serve a queue side by side, as long as its format is
 -- one that they know; of a later one they get the error FORMAT.
 --   rb_version                                    the version of this library; it needs no keys
---   rb_join LEASE PACE PERIOD ATTEMPTS MODE       a gateway joins, and the queue is made if there is none.
+--   rb_join LEASE PACE PERIOD ATTEMPTS MODE TOKEN  a gateway joins, and the queue is made if there is none.
 --       LEASE is microseconds; PACE, PERIOD and ATTEMPTS are the policy, or '' for the queue's. MODE is '', 'change' to
 --       change the policy of a queue that has another, 'silent' to keep no events of a queue that is made now, or
---       'limit N' for a queue that takes N calls. -> [GATEWAY, PACE, PERIOD, ATTEMPTS, NOW], or the error POLICY
+--       'limit N' for a queue that takes N calls. TOKEN tells it from a gateway that gets the same number after the Redis
+--       has lost this call. -> [GATEWAY, PACE, PERIOD, ATTEMPTS], or the error POLICY
 --   rb_calls MOMENT GATEWAY CALL ..               makes the calls, one after the other, in one step.
 --       MOMENT is '' for the node's TIME, or 20 digits. GATEWAY is '' for the commands. -> a reply for each, or the
 --       error LEASE
 --   rb_spare MOMENT GATEWAY CALL ..               the same for a Redis that is full: what needs room is 'ERR 7 memory'
---   rb_renew GATEWAY LEASE [ONLY]                 renews the lease, and ends up to 1,000 jobs of a gateway whose lease
---       is over. -> how many jobs; call again until it is 0; or the error LEASE
+--   rb_renew GATEWAY LEASE TOKEN [LATE SCORE]     renews the lease, and ends up to 200 jobs of the gateway LATE, if its
+--       score is still this. -> how many jobs, what the clock shows, the last event's moment, and number, score and lease
+--       of each other gateway; call again while LATE is among them with the score 0; or the error LEASE
 --   rb_leave GATEWAY                              the gateway leaves, unless sessions of it still hold jobs
 --   rb_cut CUT COUNT                              takes COUNT lines off the front of history, if CUT lines were taken
 --       before, and the opening with them. -> how many were taken in all, which the caller compares
@@ -65,17 +72,17 @@
 --   REVIVE ID DELAY         offers a dead job again, as a new job. -> 'OFFERED id expiry' or 'NONE'
 --   DROP ID                 forgets a dead job. -> 'DROPPED id' or 'NONE'
 -- A reply is the protocol's, each line with its line feed, or 'LATER HEAD NOW START\n' where TAKE and POLLFOR have to
--- wait: the earliest expiry ('-' if the queue is empty), the moment now, and when the wait began, three numbers.
+-- wait: the earliest expiry ('-' if the queue is empty), what the clock shows, and when the wait began, three numbers.
 --
--- A publish is 'HEAD NOW': the expiry of an element that has become the earliest, and the moment now.
+-- A publish is 'HEAD NOW': the expiry of an element that has become the earliest, and what the clock shows.
 
 local VERSION = '3'
 local FORMAT = '1'
 local LAST = '18446744073709551615'
 local MOST_HELD = 64
-local MOST_ENDED = 1000
+local MOST_ENDED = 200
 local NEVER = '~' -- above every moment
-local ENDED = '0' -- in the place of a lease: the gateway's sessions are ended
+local ENDED = '0' -- in the place of a score: the gateway's sessions are ended
 
 -- What stands before a number of so many digits. A library that is loaded may not use string.rep.
 local ZEROS = { [20] = '' }
@@ -124,11 +131,11 @@ local function open(keys, moment)
     if state[11] then return nil, is_loading() end
     if (state[12] or FORMAT) ~= FORMAT then return nil, is_later(state[12]) end
     if not state[6] then return nil, redis.error_reply('NOQUEUE there is no such queue') end
-    local asked = moment == '' and moment_of(microseconds()) or moment
-    local at = state[2]
-    if asked > at then at = asked end
+    local clock, at = moment == '' and moment_of(microseconds()) or moment, state[2]
+    if clock > at then at = clock end
+    local asked = moment == '' and at or moment
     return {
-        keys = keys, asked = asked, at = at, plain_asked = plain(asked), plain_at = plain(at),
+        keys = keys, asked = asked, at = at, plain_asked = plain(asked), plain_clock = plain(clock),
         stamp = ' ' .. plain(asked) .. ' ' .. plain(at) .. ' ',
         next = tonumber(state[1]), calls = tonumber(state[3]), fetched = tonumber(state[4]), wake = state[5],
         pace = state[6], period = state[7], attempts = tonumber(state[8]), limit = tonumber(state[9] or '1e300'),
@@ -151,7 +158,7 @@ local function close(queue)
     end
     if queue.earlier then
         local channel = string.gsub(queue.keys[1], ':due$', ':head')
-        redis.call('PUBLISH', channel, plain(queue.earlier) .. ' ' .. queue.plain_at)
+        redis.call('PUBLISH', channel, plain(queue.earlier) .. ' ' .. queue.plain_clock)
     end
 end
 
@@ -220,7 +227,7 @@ local function later(queue, start)
     local head = head_of(queue)
     local expiry = head and string.sub(head, 1, 20) or NEVER
     if queue.wake == '' or expiry > queue.wake then queue.wake = expiry end
-    return 'LATER ' .. (head and plain(expiry) or '-') .. ' ' .. queue.plain_at .. ' ' .. start .. '\n'
+    return 'LATER ' .. (head and plain(expiry) or '-') .. ' ' .. queue.plain_clock .. ' ' .. start .. '\n'
 end
 
 -- The moment at which the next attempt of a job that fails now expires.
@@ -441,7 +448,7 @@ local function perform(keys, args, spare)
 end
 
 local function join_gateway(keys, args)
-    local lease, pace, period, attempts, mode = unpack(args)
+    local lease, pace, period, attempts, mode, token = unpack(args)
     local state = redis.call('HMGET', keys[4], 'pace', 'period', 'attempts', 'loading', 'format')
     if state[4] then return is_loading() end
     if (state[5] or FORMAT) ~= FORMAT then return is_later(state[5]) end
@@ -464,9 +471,14 @@ local function join_gateway(keys, args)
     local now = microseconds()
     local before = tonumber(redis.call('HGET', keys[4], 'gateway') or '0')
     local gateway = whole(math.max(before + 1, math.floor(now / 1e6)))
-    redis.call('HSET', keys[4], 'gateway', gateway)
+    redis.call('HSET', keys[4], 'gateway', gateway, 'lease:' .. gateway, lease .. ' ' .. (token or ''))
     redis.call('ZADD', keys[7], whole(now + tonumber(lease)), gateway)
-    return { gateway, pace, period, attempts, plain(moment_of(now)) }
+    return { gateway, pace, period, attempts }
+end
+
+local function forget_gateway(keys, gateway)
+    redis.call('HDEL', keys[4], 'lease:' .. gateway)
+    return redis.call('ZREM', keys[7], gateway)
 end
 
 -- The bounds of what a gateway's sessions hold: its first seat, and that of the next gateway.
@@ -474,16 +486,12 @@ local function held_by(gateway)
     return '[' .. pad(gateway .. '000000000'), '(' .. pad(whole(tonumber(gateway) + 1) .. '000000000')
 end
 
-local function renew(keys, args)
-    local gateway, lease, only_own = unpack(args)
-    if not has_lease(keys, gateway) then return lease_is_over() end
-    local now = microseconds()
-    redis.call('ZADD', keys[7], whole(now + tonumber(lease)), gateway)
-    if only_own then return 0 end
-    local late = redis.call('ZRANGEBYSCORE', keys[7], '-inf', whole(now), 'LIMIT', 0, 1)[1]
-    if not late then return 0 end
+-- Ends some of the sessions of a gateway that has this score. -> how many jobs they held, or nil and an error
+local function end_gateway(keys, late, score)
+    local found = redis.call('ZSCORE', keys[7], late)
+    if not found or found ~= score and found ~= ENDED then return 0 end
     local queue, fault = open(keys, '')
-    if not queue then return fault end
+    if not queue then return nil, fault end
     local first, above = held_by(late)
     local members = redis.call('ZRANGEBYLEX', keys[3], first, above, 'LIMIT', 0, MOST_ENDED)
     local ended
@@ -492,14 +500,39 @@ local function renew(keys, args)
         if seat ~= ended then end_session(queue, seat) end
         ended = seat
     end
-    if #members < MOST_ENDED then redis.call('ZREM', keys[7], late) else redis.call('ZADD', keys[7], ENDED, late) end
+    if #members < MOST_ENDED then forget_gateway(keys, late) else redis.call('ZADD', keys[7], ENDED, late) end
     close(queue)
     return #members
 end
 
+-- A gateway of version 2 says nothing of its lease, and its score is the microsecond at which that ends.
+local function lease_of(keys, gateway, score)
+    local lease = redis.call('HGET', keys[4], 'lease:' .. gateway)
+    return lease and string.match(lease, '^%d+') or whole(math.max(tonumber(score) - microseconds(), 0))
+end
+
+local function renew(keys, args)
+    local gateway, lease, token, late, score = unpack(args)
+    if not has_lease(keys, gateway) or redis.call('HGET', keys[4], 'lease:' .. gateway) ~= lease .. ' ' .. token then
+        return lease_is_over()
+    end
+    redis.call('ZADD', keys[7], whole(microseconds() + tonumber(lease)), gateway)
+    local told, fault = { 0, moment_of(microseconds()), redis.call('HGET', keys[4], 'at') }, nil
+    if late then told[1], fault = end_gateway(keys, late, score) end
+    if fault then return fault end
+    local scores = redis.call('ZRANGE', keys[7], 0, -1, 'WITHSCORES')
+    for place = 1, #scores, 2 do
+        local other, its_score = scores[place], scores[place + 1]
+        if other ~= gateway then
+            told[#told + 1], told[#told + 2], told[#told + 3] = other, its_score, lease_of(keys, other, its_score)
+        end
+    end
+    return told
+end
+
 local function leave(keys, args)
     if redis.call('ZLEXCOUNT', keys[3], held_by(args[1])) > 0 then return 0 end
-    return redis.call('ZREM', keys[7], args[1])
+    return forget_gateway(keys, args[1])
 end
 
 local function cut(keys, args)

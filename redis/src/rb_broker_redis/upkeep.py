@@ -6,12 +6,14 @@ import contextlib
 import logging
 import time
 from collections.abc import Awaitable, Callable
-from typing import TYPE_CHECKING, Any
+from typing import TYPE_CHECKING, Any, cast
 from uuid import uuid4
 
 from .address import Address
 from .calls import UNKNOWN, Calls, needs_new_link
+from .clock import NodeClock
 from .keys import channel_of, keys_of
+from .leases import Leases
 from .library import SOURCE, name_of
 from .link import Link, closed_on_failure, is_set_in_time
 from .place import connect_to_queue
@@ -40,11 +42,13 @@ class Upkeep:
         self._lease, self._policy, self._mode = lease, policy, mode
         self._number = b""
         """The gateway's number at this queue."""
+        self._token = uuid4().hex
+        """What tells it from another that gets this number, if the Redis loses what it knows."""
+        self._leases, self._clock = Leases(lease / 3), NodeClock()
         self._name = f"rb_broker-{uuid4().hex}".encode()
         """That of its links, which no other gateway has."""
         self._keys = keys_of(queue)
         self._link: Link | None = None
-        self._linked_at = time.monotonic()
         self.is_joined = False
         """Whether the queue knows this gateway."""
         self._tasks: list[asyncio.Task[None]] = []
@@ -101,11 +105,12 @@ class Upkeep:
 
     async def _join(self, link: Link) -> None:
         """Gives the gateway a new number."""
-        joined = await self._call(link, "rb_join", self._lease, *self._policy, self._mode)
-        self._number, pace, period, attempts, _ = joined
+        joined = await self._call(link, "rb_join", self._lease, *self._policy, self._mode, self._token)
+        self._number, pace, period, attempts = joined
         self._policy = pace.decode(), period.decode(), attempts.decode()
         self._mode = self._mode.replace("change", "")
         self._calls.join(int(self._number))
+        self._leases.forget()
         self.is_joined = True
         self._gateway.seat_all()
 
@@ -125,7 +130,8 @@ class Upkeep:
 
     async def _keep_link(self, link: Link) -> None:
         while True:
-            self._link, self._linked_at = link, time.monotonic()
+            self._link = link
+            self._leases.forget()  # others may not have found the Redis again
             self._calls.use(link)
             self._gateway.waits.look_now(self._shard)
             await link.lost.wait()
@@ -138,9 +144,30 @@ class Upkeep:
     async def _connect_again(self) -> Link:
         link = await self._connect()
         with closed_on_failure(link):
+            if self.is_joined:
+                await self._renew_known(link)
             if not self.is_joined:
                 await self._join_anew(link)
         return link
+
+    async def _renew_known(self, link: Link) -> None:
+        """Renews the lease, if the queue knows this gateway: a Redis that has lost calls may have lost its joining."""
+        try:
+            await self._renew(link)
+        except ErrorAnswer as fault:
+            if fault.code not in UNKNOWN:
+                raise
+            self._is_unknown()
+
+    async def _renew(self, link: Link, *late: bytes) -> list[bytes]:
+        """Renews the lease, and ends sessions of a late gateway. Gives what is told of the others."""
+        renewed = await self._call(link, "rb_renew", self._number, self._lease, self._token, *late)
+        ended, clock, last, *others = cast(list[bytes], renewed)
+        if fault := self._clock.look(int(clock), int(last), time.monotonic_ns()):
+            LOG.warning("the clock at queue %s %s", self._queue, fault)
+        if ended:
+            LOG.warning("a gateway's lease is over: its sessions have ended, and their jobs come back")
+        return others
 
     async def _keep_subscribed(self) -> None:
         while True:
@@ -172,8 +199,10 @@ class Upkeep:
             try:
                 if not self.is_joined:
                     await self._join_anew(link)
-                while await self._call(link, "rb_renew", self._number, self._lease, *self._only()):
-                    LOG.warning("a gateway's lease is over: its sessions have ended, and their jobs come back")
+                self._leases.look(await self._renew(link))
+                while late := self._leases.late():
+                    self._leases.update(await self._renew(link, *late))
+                self._gateway.waits.look_now(self._shard)  # the node's clock may have been set
             except OSError:
                 link.close()
             except ErrorAnswer as fault:
@@ -192,10 +221,6 @@ class Upkeep:
             self.is_joined = False
             self._gateway.stop_all()
             self._must_join.set()
-
-    def _only(self) -> list[str]:
-        """Lets the call renew its own lease only, while others may not have found the Redis again."""
-        return [] if time.monotonic() - self._linked_at > self._lease / 1e6 else ["own"]
 
     async def _watch(self) -> None:
         """Gives a Redis up that doesn't answer."""

@@ -18,6 +18,9 @@ STOPPED = b"STOPPED\n"
 EARLY = 0.0005
 """A loop's timer may run this many seconds early, since it counts milliseconds."""
 
+MOST_BEHIND = SECOND
+"""A timed poll whose deadline is further away by the node's clock, when it has come by the gateway's, is given up."""
+
 WaitAnswered = Callable[[bytes | None], None]
 """Gets the reply to a request that waited, or None where it is in doubt."""
 
@@ -79,7 +82,8 @@ class Waits:
         laters, longest, asks_at_end = laters_in(reply), self._longest, False
         calls = [self._front_of(queue, seat) + request for queue in range(len(laters))]
         if request != b"TAKE":
-            left = laters[0].left(int(request.split()[1]))
+            timeout = int(request.split()[1])
+            left = min(laters[0].left(timeout), timeout)  # the node's clock may be behind the last event
             longest, asks_at_end = min(longest, left), left <= longest
             calls = [b"%b %b" % (call, later.start) for call, later in zip(calls, laters)]
         wait = Wait(seat, calls, answered, asks_at_end)
@@ -176,13 +180,16 @@ class Waits:
         reply = replies[0] if replies else None
         if reply is None or not reply.startswith(LATER):
             self._answer(wait, 0, reply)
-        elif wait.asks_at_end:  # the node's clock is behind
-            (later,) = laters_in(reply)
+        elif wait.asks_at_end and self._left_of(wait, reply) <= MOST_BEHIND:  # the node's clock is a bit behind
             wait.is_over = False
-            self._wait(wait, later.left(int(wait.calls[0].split()[2])))
-            self._note(later, 0)
+            self._wait(wait, self._left_of(wait, reply))
+            self._note(laters_in(reply)[0], 0)
         else:
             self._answer(wait, 0, STOPPED)
+
+    def _left_of(self, wait: Wait, reply: bytes) -> int:
+        """The nanoseconds until the deadline of a timed poll, by the node's reply."""
+        return laters_in(reply)[0].left(int(wait.calls[0].split()[2]))
 
     def _answer(self, wait: Wait, queue: int, reply: bytes | None) -> None:
         wait.timer.cancel()
