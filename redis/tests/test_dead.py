@@ -57,6 +57,14 @@ class DeadTest(RedisTest):
         self.assert_prints(["1: dropped"], "dead", "--drop", "--all")
         self.assertEqual(queue.request("SIZE", SEAT), "SIZE 0")
 
+    def test_a_full_redis_lets_jobs_out(self) -> None:
+        self.with_dead(2)
+        self.addCleanup(self.node.ask, "CONFIG", "SET", "maxmemory", 0)
+        self.node.ask("CONFIG", "SET", "maxmemory", 1)
+        self.assertEqual(self.ran("dead", "--offer", 0), (1, [], "rb_broker_redis: 0: ERR 7 memory\n"))
+        self.assert_prints(["1: dropped"], "dead", "--drop", 1)
+        self.assert_listed(["0"])
+
     def test_more_than_are_read_at_a_time(self) -> None:
         self.with_dead(2_500)
         self.assertEqual(len(self.ran("dead")[1]), 2_500)

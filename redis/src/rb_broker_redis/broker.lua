@@ -53,7 +53,8 @@
 --   rb_calls MOMENT GATEWAY CALL ..               makes the calls, one after the other, in one step.
 --       MOMENT is '' for the node's TIME, or 20 digits. GATEWAY is '' for the commands. -> a reply for each, or the
 --       error LEASE
---   rb_spare MOMENT GATEWAY CALL ..               the same for a Redis that is full: what needs room is 'ERR 7 memory'
+--   rb_spare MOMENT GATEWAY CALL ..               the same for a Redis that is full: offers are 'ERR 7 memory', and all
+--       that takes work out, or back, goes on
 --   rb_renew GATEWAY LEASE TOKEN [LATE SCORE]     renews the lease, and ends up to 200 jobs of the gateway LATE, if its
 --       score is still this. -> how many jobs, what the clock shows, the last event's moment, and number, score and lease
 --       of each other gateway; call again while LATE is among them with the score 0; or the error LEASE
@@ -359,7 +360,6 @@ end
 
 function requests.DRAIN(queue, seat, most)
     if is_full(queue) then return FULL end
-    if queue.spare then return MEMORY end
     local max = math.min(tonumber(most), MOST_HELD - count_of(queue, seat))
     local act, items = { 'drain ' .. whole(max) }, { '' }
     while #items <= max do
@@ -399,9 +399,7 @@ function requests.FAIL(queue, seat, id)
     local member = pad(seat) .. ':' .. pad(id)
     member = redis.call('ZRANGEBYLEX', queue.keys[3], '[' .. member .. ' ', '(' .. member .. '!')[1]
     if not member then return NOT_HELD end
-    local job = job_of(member)
-    if queue.spare and job.attempt < queue.attempts and not is_full(queue) then return MEMORY end
-    return fail_job(queue, seat, job) or FULL
+    return fail_job(queue, seat, job_of(member)) or FULL
 end
 
 function requests.END(queue, seat) return 'ENDED ' .. end_session(queue, seat) .. '\n' end
@@ -582,7 +580,7 @@ local function register(name, callback, ...)
 end
 
 register('rb_version', function() return VERSION end, 'no-writes')
-register('rb_join', join_gateway)
+register('rb_join', join_gateway, 'allow-oom')
 register('rb_calls', calls)
 register('rb_spare', spare, 'allow-oom')
 register('rb_renew', renew, 'allow-oom')

@@ -77,6 +77,12 @@ class Queue:
         self.call("rb_loaded", token, left.next_id, left.last)
 
     def request(self, line: str, seat: int = COMMANDS_SEAT) -> str:
-        """Makes one call of `rb_calls` by the node's time. The reply is without its last line feed."""
-        (reply,) = self.call("rb_calls", "", "", f"{seat} {line}")
+        """Makes one call by the node's time, also of a Redis that is full. The reply is without its last line feed."""
+        words = "", "", f"{seat} {line}"
+        try:
+            (reply,) = self.call("rb_calls", *words)
+        except redis.ResponseError as fault:
+            if not str(fault).startswith("OOM "):
+                raise
+            (reply,) = self.call("rb_spare", *words)
         return str(reply.decode()[:-1])
