@@ -106,6 +106,21 @@ class EndsTest(GatewayTest):
         changed = self.gateway("--attempts", 1, "--rate", "1h", "--change-policy")
         self.assert_talk(self.talker(changed), "TAKE = ITEM .*", "FAIL 1 = DEAD 1")
 
+    def test_a_redis_that_may_throw_queues_away(self) -> None:
+        served = self.serve("--timeout", "60s")
+        talker = self.talker(served)
+        self.addCleanup(self.node.ask, "CONFIG", "SET", "maxmemory-policy", "noeviction")
+        self.node.ask("CONFIG", "SET", "maxmemory-policy", "allkeys-lru")
+        self.assert_refused(3, f"{self.node.url}: its maxmemory-policy allkeys-lru may throw queues away: set noeviction"
+                            " there, or say --allow-eviction", "serve", "--port", 0)
+        self.assert_talk(self.talker(self.gateway("--allow-eviction")), "SIZE = SIZE 0")
+        self.node.ask("CLIENT", "KILL", "TYPE", "normal")  # as where another node takes over
+        wait_until(lambda: "EVICTS allkeys-lru" in served.said, "it does not say why it waits")
+        talker.send("SIZE\n")
+        self.assertTrue(talker.is_silent(0.3))
+        self.node.ask("CONFIG", "SET", "maxmemory-policy", "noeviction")
+        self.assert_talk(talker, "= SIZE 0")
+
     def test_a_port_that_is_in_use_is_named(self) -> None:
         port = self.serve().port
         self.assert_refused(3, f"127.0.0.1:{port}: Address already in use", "serve", "--port", port)

@@ -40,11 +40,14 @@ class Gateway:
         self._count = self._lost = 0
         self._all_ended = asyncio.Event()
 
-    async def join(self, address: Address, lease: int, policy: tuple[str, str, str], mode: str) -> None:
+    async def join(
+        self, address: Address, lease: int, policy: tuple[str, str, str], mode: str, may_evict: bool
+    ) -> None:
         """Joins the queues. `policy` and `mode` are as `rb_join` of broker.lua takes them. Raises `OSError`,
         `ErrorAnswer`."""
         self._upkeeps = [
-            Upkeep(self, shard, address, name, calls, lease=lease // 1_000, policy=policy, mode=mode)
+            Upkeep(self, shard, address, name, calls, lease=lease // 1_000, policy=policy, mode=mode,
+                   may_evict=may_evict)
             for shard, (name, calls) in enumerate(self._queues.items())]
         for upkeep in self._upkeeps:
             await upkeep.start()

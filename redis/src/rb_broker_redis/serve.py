@@ -23,6 +23,14 @@ from .words import (
 
 LOOPBACK = "127.0.0.1"
 
+REFUSALS = {
+    "POLICY": "queue {queue} has --{1} {2}ns --attempts {3}: say the same, or nothing, or --change-policy",
+    "FORMAT": "queue {queue} has format {1}, of a later version of this package, which knows format {2}",
+    "LOADING_QUEUE": "a load into queue {queue} has not ended",
+    "EVICTS": "{address}: its maxmemory-policy {1} may throw queues away: set noeviction there, or say --allow-eviction",
+}
+"""Why a queue can't be served, by the words of the error."""
+
 
 def add_to(commands: argparse._SubParsersAction[Parser]) -> None:
     """Adds the command."""
@@ -43,6 +51,8 @@ def add_to(commands: argparse._SubParsersAction[Parser]) -> None:
     add("--replicas", metavar="N", type=whole(0, 100), default=0,
         help="replies are sent once N replicas have what was done (default: 0)")
     add("--no-history", action="store_true", help="a queue that is made now keeps no events")
+    add("--allow-eviction", action="store_true",
+        help="serves from a Redis whose maxmemory-policy is not noeviction, which may throw the queue away")
     add("--cert", metavar="FILE", help="the certificate with which clients are served over TLS")
     add("--key", metavar="FILE", help="its key, if it is not in the same file")
     add("--client-ca", metavar="FILE", help="serves only clients whose certificate is signed by one of these")
@@ -100,7 +110,8 @@ async def serve(asked: argparse.Namespace) -> int:
     gateway = Gateway(
         shard_names(asked.queue, asked.shards), wait=asked.wait, patience=asked.timeout, replicas=asked.replicas)
     mode = "change" if asked.change_policy else "silent" if asked.no_history else ""
-    await gateway.join(address_in(asked), asked.lease, policy_in(asked) if names_policy(asked) else NO_POLICY, mode)
+    policy = policy_in(asked) if names_policy(asked) else NO_POLICY
+    await gateway.join(address_in(asked), asked.lease, policy, mode, asked.allow_eviction)
     try:
         port = await gateway.listen(str(asked.bind), asked.port, tls)
     except OSError as fault:  # the port is in use, or may not be used
@@ -125,15 +136,8 @@ def end_at_next(loop: asyncio.AbstractEventLoop, stopped: asyncio.Event) -> None
 
 def sentence_about(fault: Exception, asked: argparse.Namespace) -> str:
     """Why it can't serve, in one line."""
-    if isinstance(fault, ErrorAnswer) and fault.code == "POLICY":
-        _, pace, period, attempts = str(fault).split()
-        return (f"queue {asked.queue} has --{pace} {period}ns --attempts {attempts}: say the same, or nothing, or"
-                " --change-policy")
-    if isinstance(fault, ErrorAnswer) and fault.code == "FORMAT":
-        _, there, known = str(fault).split()
-        return f"queue {asked.queue} has format {there}, of a later version of this package, which knows format {known}"
-    if isinstance(fault, ErrorAnswer) and fault.code == "LOADING_QUEUE":
-        return f"a load into queue {asked.queue} has not ended"
+    if isinstance(fault, ErrorAnswer) and fault.code in REFUSALS:
+        return REFUSALS[fault.code].format(*str(fault).split(), queue=asked.queue, address=address_in(asked))
     if isinstance(fault, OSError) and fault.filename:
         return f"{fault.filename}: {fault.strerror}"
     return f"{address_in(asked)}: {reason_of(fault)}"

@@ -4,6 +4,7 @@ from __future__ import annotations
 import asyncio
 import contextlib
 import logging
+import re
 import time
 from collections.abc import Awaitable, Callable
 from typing import TYPE_CHECKING, Any, cast
@@ -35,11 +36,11 @@ class Upkeep:
 
     def __init__(
         self, gateway: Gateway, shard: int, address: Address, queue: str, calls: Calls, *, lease: int,
-        policy: tuple[str, str, str], mode: str,
+        policy: tuple[str, str, str], mode: str, may_evict: bool,
     ) -> None:
         self._gateway, self._shard = gateway, shard
         self._address, self._queue, self._calls = address, queue, calls
-        self._lease, self._policy, self._mode = lease, policy, mode
+        self._lease, self._policy, self._mode, self._may_evict = lease, policy, mode, may_evict
         self._number = b""
         """The gateway's number at this queue."""
         self._token = uuid4().hex
@@ -81,6 +82,7 @@ class Upkeep:
         link = await connect_to_queue(self._address, self._queue, self._calls.patience)
         with closed_on_failure(link):
             await self._cut_off(link)
+            await self._find_evicting(link)
             await self._load_functions(link)
         return link
 
@@ -91,6 +93,13 @@ class Upkeep:
             if b" name=%b " % self._name in client:
                 await link.ask("CLIENT", "KILL", "ID", client.partition(b" ")[0][len(b"id="):])
         await link.ask("CLIENT", "SETNAME", self._name)
+
+    async def _find_evicting(self, link: Link) -> None:
+        """Raises an `ErrorAnswer` EVICTS if this Redis may throw queues away, and was not said to."""
+        if not self._may_evict:
+            found = re.search(rb"^maxmemory_policy:(.*)\r$", await link.ask("INFO", "memory"), re.M)
+            if found and found[1] != b"noeviction":
+                raise ErrorAnswer(f"EVICTS {found[1].decode()}")
 
     async def _load_functions(self, link: Link) -> None:
         try:
