@@ -50,6 +50,16 @@ class ShardedGatewayTest(GatewayTest):
         self.assert_talk(talker, fr"PEEK = HEAD \d+ {min(expiries)} .*")
         self.assertEqual([int(it[2]) for it in talker.asks(*["POLL"] * 40)], sorted(expiries))
 
+    def test_another_number_of_shards_is_refused(self) -> None:
+        self.talker()
+        for count in (1, 2, 4):
+            self.assert_refused(3, f"queue {self.name} has 3 shards: say --shards 3, or move its jobs by the command shards",
+                                "serve", "--port", 0, "--shards", count)
+            self.assert_refused(1, f"queue {self.name} has 3 shards: say --shards 3", "dead", "--shards", count)
+        self.node.ask("UNLINK", self.queue().state)  # as an earlier version leaves it
+        for count in (1, 2):
+            self.assertEqual(self.ran("serve", "--port", 0, "--shards", count)[0], 3)
+
     def test_a_job_that_fails_stays_in_its_queue(self) -> None:
         talker = self.talker()
         self.offer(talker, 1)

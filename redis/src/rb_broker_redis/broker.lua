@@ -24,6 +24,7 @@
 --   attempts  those of a job                      gateway   the number of the gateway that joined last
 --   history   'no' if no events are kept          loading   the token of a load that has not ended
 --   format    the version of all this, '1' where there is none
+--   shards    how many queues there are under this name: 1, or those named NAME.0, NAME.1 and so on
 --   wake      an offer below this expiry is published: a gateway waits, and knows of none below it
 --   lease:GATEWAY  the microseconds of its lease, and the token with which it joined
 --
@@ -58,6 +59,8 @@
 --   rb_renew GATEWAY LEASE TOKEN [LATE SCORE]     renews the lease, and ends up to 200 jobs of the gateway LATE, if its
 --       score is still this. -> how many jobs, what the clock shows, the last event's moment, and number, score and lease
 --       of each other gateway; call again while LATE is among them with the score 0; or the error LEASE
+--   rb_shards COUNT                               sets the number of shards, if it is not set. -> the number before
+--       that, or '' if there was none; without COUNT it sets nothing
 --   rb_leave GATEWAY                              the gateway leaves, unless sessions of it still hold jobs
 --   rb_cut CUT COUNT                              takes COUNT lines off the front of history, if CUT lines were taken
 --       before, and the opening with them. -> how many were taken in all, which the caller compares
@@ -528,6 +531,13 @@ local function renew(keys, args)
     return told
 end
 
+local function shards(keys, args)
+    local there, pace = unpack(redis.call('HMGET', keys[4], 'shards', 'pace'))
+    there = there or pace and '1' or ''
+    if there == '' and args[1] then redis.call('HSET', keys[4], 'shards', args[1]) end
+    return there
+end
+
 local function leave(keys, args)
     if redis.call('ZLEXCOUNT', keys[3], held_by(args[1])) > 0 then return 0 end
     return forget_gateway(keys, args[1])
@@ -584,6 +594,7 @@ register('rb_join', join_gateway, 'allow-oom')
 register('rb_calls', calls)
 register('rb_spare', spare, 'allow-oom')
 register('rb_renew', renew, 'allow-oom')
+register('rb_shards', shards, 'allow-oom')
 register('rb_leave', leave, 'allow-oom')
 register('rb_cut', cut, 'allow-oom')
 register('rb_load', load)

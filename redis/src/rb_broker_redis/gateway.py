@@ -7,6 +7,7 @@ import ssl
 
 from .address import Address
 from .calls import Calls
+from .claim import claim_shards
 from .link import is_set_in_time
 from .protocol import SECOND
 from .session import Session
@@ -41,10 +42,11 @@ class Gateway:
         self._all_ended = asyncio.Event()
 
     async def join(
-        self, address: Address, lease: int, policy: tuple[str, str, str], mode: str, may_evict: bool
+        self, address: Address, queue: str, lease: int, policy: tuple[str, str, str], mode: str, may_evict: bool
     ) -> None:
-        """Joins the queues. `policy` and `mode` are as `rb_join` of broker.lua takes them. Raises `OSError`,
+        """Joins the queue of this name, or its shards. `policy` and `mode` are as `rb_join` of broker.lua takes them. Raises `OSError`,
         `ErrorAnswer`."""
+        await claim_shards(address, queue, len(self._queues), next(iter(self._queues.values())).patience)
         self._upkeeps = [
             Upkeep(self, shard, address, name, calls, lease=lease // 1_000, policy=policy, mode=mode,
                    may_evict=may_evict)

@@ -5,7 +5,9 @@ import re
 
 PARTS = ("due", "ids", "held", "state", "history", "dead", "gateways", "opening")
 
-_NAME = re.compile(r"[A-Za-z0-9_.:-]{1,64}")
+MOST_NAME_BYTES = 64
+
+_NAME = re.compile(r"[A-Za-z0-9_.:-]{1,%d}" % MOST_NAME_BYTES)
 
 
 def checked_name(name: str) -> str:

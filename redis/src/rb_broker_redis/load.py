@@ -134,6 +134,7 @@ def run(asked: argparse.Namespace) -> int:
         _show(left)
         return 0
     queues = queues_in(asked)
+    Queue(queues[0].client, asked.queue).shards(asked.shards)
     for queue, part in zip(queues, split(left, [it.name for it in queues])):
         is_new = load(queue, part)
         print(f"{queue.name}: {len(part.elements)} elements {'loaded' if is_new else 'were loaded before'}")

@@ -67,6 +67,10 @@ class Queue:
         """Calls one function with the queue's keys and these arguments."""
         return self.command("FCALL", name_of(function), len(self.keys), *self.keys, *args)
 
+    def shards(self, *count: int) -> int:
+        """How many queues are there under this name, or 0 if none is. Sets the number, if none is set."""
+        return int(self.call("rb_shards", *count) or 0)
+
     def load(self, token: str, left: FollowedQueue) -> None:
         """Gives the queue, which nobody has used, what is left of another one. Goes on where another load of this token
         was broken off."""

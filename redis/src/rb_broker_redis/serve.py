@@ -26,6 +26,7 @@ LOOPBACK = "127.0.0.1"
 REFUSALS = {
     "POLICY": "queue {queue} has --{1} {2}ns --attempts {3}: say the same, or nothing, or --change-policy",
     "FORMAT": "queue {queue} has format {1}, of a later version of this package, which knows format {2}",
+    "SHARDS": "queue {queue} has {1} shards: say --shards {1}, or move its jobs by the command shards",
     "LOADING_QUEUE": "a load into queue {queue} has not ended",
     "EVICTS": "{address}: its maxmemory-policy {1} may throw queues away: set noeviction there, or say --allow-eviction",
 }
@@ -111,7 +112,7 @@ async def serve(asked: argparse.Namespace) -> int:
         shard_names(asked.queue, asked.shards), wait=asked.wait, patience=asked.timeout, replicas=asked.replicas)
     mode = "change" if asked.change_policy else "silent" if asked.no_history else ""
     policy = policy_in(asked) if names_policy(asked) else NO_POLICY
-    await gateway.join(address_in(asked), asked.lease, policy, mode, asked.allow_eviction)
+    await gateway.join(address_in(asked), asked.queue, asked.lease, policy, mode, asked.allow_eviction)
     try:
         port = await gateway.listen(str(asked.bind), asked.port, tls)
     except OSError as fault:  # the port is in use, or may not be used

@@ -13,7 +13,12 @@ def shard_names(queue: str, count: int) -> list[str]:
     """The names of the queues. A queue of one shard is the queue itself."""
     if not 1 <= count <= MOST_SHARDS:
         raise ValueError(f"there are 1 to {MOST_SHARDS} shards")
-    return [queue] if count == 1 else [f"{queue}.{it}" for it in range(count)]
+    return [queue] if count == 1 else [shard_name(queue, it) for it in range(count)]
+
+
+def shard_name(queue: str, shard: int) -> str:
+    """The name of one of several."""
+    return f"{queue}.{shard}"
 
 
 class Rendezvous:

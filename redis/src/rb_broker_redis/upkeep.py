@@ -15,7 +15,7 @@ from .calls import UNKNOWN, Calls, needs_new_link
 from .clock import NodeClock
 from .keys import channel_of, keys_of
 from .leases import Leases
-from .library import SOURCE, name_of
+from .library import load_functions, name_of
 from .link import Link, closed_on_failure, is_set_in_time
 from .place import connect_to_queue
 from .resp import ErrorAnswer
@@ -83,7 +83,7 @@ class Upkeep:
         with closed_on_failure(link):
             await self._cut_off(link)
             await self._find_evicting(link)
-            await self._load_functions(link)
+            await load_functions(link)
         return link
 
     async def _cut_off(self, link: Link) -> None:
@@ -100,14 +100,6 @@ class Upkeep:
             found = re.search(rb"^maxmemory_policy:(.*)\r$", await link.ask("INFO", "memory"), re.M)
             if found and found[1] != b"noeviction":
                 raise ErrorAnswer(f"EVICTS {found[1].decode()}")
-
-    async def _load_functions(self, link: Link) -> None:
-        try:
-            await link.ask("FCALL", name_of("rb_version"), 0)
-        except ErrorAnswer as fault:
-            if "not found" not in str(fault):
-                raise
-            await link.ask("FUNCTION", "LOAD", "REPLACE", SOURCE)
 
     async def _call(self, link: Link, function: str, *args: bytes | str | int) -> Any:
         return await link.ask("FCALL", name_of(function), len(self._keys), *self._keys, *args)

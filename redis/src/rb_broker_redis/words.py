@@ -85,11 +85,15 @@ def add_queue_words(parser: argparse.ArgumentParser) -> None:
 
 
 def queues_in(asked: argparse.Namespace) -> list[Queue]:
-    """The queue, or its shards, with the functions that they need."""
+    """The queue, or its shards, with the functions that they need. Raises a `Failed` if there is another number."""
     client = connect(address_in(asked))
     queues = [Queue(client, name) for name in shard_names(asked.queue, asked.shards)]
-    for it in queues:
+    named = Queue(client, asked.queue)
+    for it in (named, *queues):
         it.load_functions()
+    there = named.shards()
+    if there not in (0, asked.shards):
+        raise Failed(f"queue {asked.queue} has {there} shards: say --shards {there}")
     return queues
 
 
