@@ -24,8 +24,7 @@ class ArchiveCommandTest(RedisTest):
         calls = [draw.choice([f"{SEAT} OFFER {draw.randrange(10**9)} job-{number}", f"{SEAT + number} POLL",
                               f"{SEAT + number} DRAIN 3", f"{SEAT} PEEK", f"{SEAT} SIZE"]) for number in range(count)]
         calls += [f"{SEAT + number} END" for number in range(count)]
-        for place in range(0, len(calls), 500):
-            queue.call("rb_calls", "", "", *calls[place:place + 500])
+        queue.make(calls)
         return queue.command("LRANGE", queue.history, 0, -1)
 
     def files(self) -> list[Path]:

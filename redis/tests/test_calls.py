@@ -83,6 +83,26 @@ class CallsTest(unittest.IsolatedAsyncioTestCase):
         """These are the calls that were sent last."""
         self.assertEqual(self.link.data.split(b"\r\n")[-2 * len(calls)::2], [*calls])
 
+    async def test_calls_that_the_redis_had_no_time_for_go_out_again(self) -> None:
+        self.calls.submit([b"1 SIZE", b"1 PEEK"], self.replies.append)
+        self.calls.submit([b"2 TAKE"], self.replies.append)
+        await self.let_go_out()
+        self.link.sent.pop()([b"SIZE 0\n"])
+        self.assertEqual(self.replies, [])
+        self.calls.withhold(b"2 ")
+        await self.let_go_out()
+        self.assert_sent(b"2 WAIT", b"1 PEEK")
+        self.link.sent.pop()([b"LATER - 5 5\n", b"NONE\n"])
+        self.assertEqual(self.replies, [[b"LATER - 5 5\n"], [b"SIZE 0\n", b"NONE\n"]])
+
+    async def test_the_rest_of_a_session_that_has_ended_is_refused(self) -> None:
+        self.calls.submit([b"1 DONE 1", b"1 DONE 2", b"1 DONE 3"], self.replies.append)
+        await self.let_go_out()
+        self.link.sent.pop()([b"DONE 1\n"])
+        await self.let_go_out()
+        self.link.sent.pop()(ErrorAnswer("LEASE the lease of this gateway is over"))
+        self.assertEqual(self.replies, [[b"DONE 1\n", b"ERR 5 not-held\n", b"ERR 5 not-held\n"]])
+
     async def test_what_a_lost_link_did_not_answer_is_in_doubt(self) -> None:
         await self.submit(2)
         self.link.sent[0]([b"OFFERED 0 5\n"])

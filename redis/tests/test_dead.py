@@ -13,7 +13,7 @@ class DeadTest(RedisTest):
         for first in range(0, count, 500):
             numbers = range(first, min(first + 500, count))
             calls = [f"{SEAT} {it}" for number in numbers for it in (f"OFFER 0 job-{number}", "POLL", f"FAIL {number}")]
-            replies = [it.decode() for it in queue.call("rb_calls", "", "", *calls)]
+            replies = [it.decode() for it in queue.make(calls)]
             self.assertEqual({it.split(" ")[0] for it in replies[1::3]}, {"ITEM"})
             self.assertEqual(replies[2::3], [f"DEAD {number}\n" for number in numbers])
         return queue

@@ -29,9 +29,9 @@ class LeaseTest(RedisTest):
     def test_a_lease_is_over_once_another_gateway_has_found_it_so(self) -> None:
         queue = self.queue()
         late, other = self.join(queue), self.join(queue)
-        queue.call("rb_calls", "", "", *["0 OFFER 0 a"] * JOBS)
+        queue.make(["0 OFFER 0 a"] * JOBS)
         fetches = [f"{late}{1 + number // 50:09} POLL" for number in range(JOBS)]
-        given = queue.call("rb_calls", "", late, *fetches)
+        given = queue.make(fetches, gateway=late)
         self.assertEqual({it.split(b" ")[0] for it in given}, {b"ITEM"})
         _, number, score, lease = self.renew(queue, other)
         self.assertEqual((int(number), int(lease)), (late, LEASE))

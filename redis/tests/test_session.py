@@ -4,9 +4,9 @@ from __future__ import annotations
 import asyncio
 import unittest
 
-from rb_broker_redis.calls import Answered
 from rb_broker_redis.protocol import SECOND
 from rb_broker_redis.session import MOST_AT_ONCE, MOST_WAITING_LINES, SECONDS_BETWEEN_ENDS, Session
+from rb_broker_redis.turns import Answered
 from rb_broker_redis.waits import Waits
 
 LATER = b"LATER - 100 100\n"
@@ -20,7 +20,7 @@ class FakeCalls:
         self.submitted: list[tuple[list[bytes], Answered]] = []
         self.withheld: list[bytes] = []
 
-    def submit(self, calls: list[bytes], answered: Answered) -> None:
+    def submit(self, calls: list[bytes], answered: Answered, sessions: int = 1) -> None:
         self.submitted.append((calls, answered))
 
     def withhold(self, front: bytes) -> None:

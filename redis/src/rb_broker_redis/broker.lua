@@ -53,7 +53,8 @@
 --       has lost this call. -> [GATEWAY, PACE, PERIOD, ATTEMPTS], or the error POLICY
 --   rb_calls MOMENT GATEWAY CALL ..               makes the calls, one after the other, in one step.
 --       MOMENT is '' for the node's TIME, or 20 digits. GATEWAY is '' for the commands. -> a reply for each, or the
---       error LEASE
+--       error LEASE. A step that has taken its time makes no further call: then there are fewer replies, and those of the
+--       first calls
 --   rb_spare MOMENT GATEWAY CALL ..               the same for a Redis that is full: offers are 'ERR 7 memory', and all
 --       that takes work out, or back, goes on
 --   rb_renew GATEWAY LEASE TOKEN [LATE SCORE]     renews the lease, and ends up to 200 jobs of the gateway LATE, if its
@@ -85,6 +86,9 @@ local FORMAT = '1'
 local LAST = '18446744073709551615'
 local MOST_HELD = 64
 local MOST_ENDED = 200
+local MOST_MICROSECONDS = 8000 -- after which a step begins no further call
+local MOST_WORK = 1000 -- the same, counted in calls and what they give and record, where TIME stands still in a step
+local WORK_BETWEEN_LOOKS = 16
 local NEVER = '~' -- above every moment
 local ENDED = '0' -- in the place of a score: the gateway's sessions are ended
 
@@ -144,7 +148,8 @@ local function open(keys, moment)
         next = tonumber(state[1]), calls = tonumber(state[3]), fetched = tonumber(state[4]), wake = state[5],
         pace = state[6], period = state[7], attempts = tonumber(state[8]), limit = tonumber(state[9] or '1e300'),
         silent = state[10] == 'no', lines = {}, counts = {},
-        at_before = state[2], calls_before = tonumber(state[3]), wake_before = state[5],
+        at_before = state[2], calls_before = tonumber(state[3]), fetched_before = tonumber(state[4]),
+        wake_before = state[5],
     }
 end
 
@@ -439,10 +444,15 @@ local function perform(keys, args, spare)
     if not queue then return fault end
     if args[2] ~= '' and not has_lease(keys, args[2]) then return lease_is_over() end
     queue.spare = spare
-    local replies = {}
+    local replies, began, next_look = {}, microseconds(), WORK_BETWEEN_LOOKS
     for place = 3, #args do
         local seat, word, number, rest = string.match(args[place], '^(%d+) (%u+) ?(%S*) ?(%S*)$')
         replies[place - 2] = requests[word](queue, seat, number, rest)
+        local work = place + queue.calls - queue.calls_before + queue.fetched - queue.fetched_before
+        if work >= next_look then
+            if work >= MOST_WORK or microseconds() - began >= MOST_MICROSECONDS then break end
+            next_look = work + WORK_BETWEEN_LOOKS
+        end
     end
     close(queue)
     return replies

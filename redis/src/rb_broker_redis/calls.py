@@ -9,20 +9,15 @@ from collections.abc import Callable
 from .keys import keys_of
 from .library import name_of
 from .link import Link
-from .protocol import ErrorReply
 from .resp import Answer, ErrorAnswer, bulks, command
+from .turns import Answered, Batch, Part, Turns
 
 LOG = logging.getLogger(__name__)
-
-Answered = Callable[[list[bytes] | None], None]
-"""Gets the replies of what was submitted, or None where it is in doubt whether the calls were made."""
 
 SEATS_OF_A_GATEWAY = 10**9
 """broker.lua has the same number."""
 
 CALLS, SPARE = (name_of(it).encode() for it in ("rb_calls", "rb_spare"))
-
-FETCHES = (b"POLL", b"TAKE", b"POLLFOR", b"DRAIN")
 
 MOST_IN_FLIGHT = 2
 """How many commands are under way at once. While they are, further calls are gathered."""
@@ -36,9 +31,6 @@ ELSEWHERE = {"MOVED", "READONLY", "MASTERDOWN", "UNBLOCKED"}
 # The same, and the Redis does not know this gateway: its sessions have ended.
 UNKNOWN = {"NOQUEUE", "LEASE"}
 
-AT_AN_END = {b"DONE": ErrorReply.NOT_HELD, b"FAIL": ErrorReply.NOT_HELD, b"END": b"ENDED 0\n"}
-"""What calls of a session are answered that has ended. The others have no reply."""
-
 
 def needs_new_link(answer: Answer) -> bool:
     """Whether the Redis has done nothing, because the queue is at another node or the functions are gone, which each
@@ -46,68 +38,19 @@ def needs_new_link(answer: Answer) -> bool:
     return isinstance(answer, ErrorAnswer) and (answer.code in ELSEWHERE or "Function not found" in str(answer))
 
 
-def word_of(call: bytes) -> bytes:
-    """What a call asks for."""
-    return call.split(b" ")[1]
-
-
-def without_fetch(call: bytes) -> bytes:
-    """The call, or one that fetches nothing in its place."""
-    return call.partition(b" ")[0] + b" WAIT" if word_of(call) in FETCHES else call
-
-
-class Batch:
-    """Calls that go out together, with who is told the replies."""
-
-    __slots__ = ("parts", "front", "function", "sent")
-
-    def __init__(self, front: bytes) -> None:
-        """`front` names the gateway whose sessions make the calls."""
-        self.front = front
-        self.parts: list[tuple[Answered, list[bytes]]] = []
-        self.function = CALLS
-        self.sent = 0.0
-
-    def calls(self) -> list[bytes]:
-        """All calls, in their order."""
-        return [call for _, calls in self.parts for call in calls]
-
-    def answer(self, replies: list[bytes]) -> None:
-        """Tells each its replies."""
-        start = 0
-        for answered, calls in self.parts:
-            answered(replies[start:start + len(calls)])
-            start += len(calls)
-
-    def withhold(self, front: bytes) -> None:
-        """Fetches nothing for the session before whose calls this stands. Those that would are answered LATER."""
-        self.parts = [(answered, [without_fetch(it) if it.startswith(front) else it for it in calls])
-                      for answered, calls in self.parts]
-
-    def answer_at_an_end(self) -> None:
-        """The sessions have ended, and no call is made: what they held they do not hold any more."""
-        for answered, calls in self.parts:
-            replies = [AT_AN_END[word] for word in map(word_of, calls) if word in AT_AN_END]
-            answered(replies if len(replies) == len(calls) else None)
-
-    def doubt(self) -> None:
-        """Nobody knows whether the calls were made."""
-        for answered, _ in self.parts:
-            answered(None)
-
-
 class Calls:
-    """While there is no link, calls are gathered. Whoever submits waits for the replies before it submits again, so a
-    batch that the Redis refused can be sent again later than others."""
+    """While there is no link, calls are gathered. Whoever submits waits for the replies before it submits again, and only
+    some of its calls are under way, so a batch that the Redis refused can be sent again later than others."""
 
     def __init__(self, queue: str, *, replicas: int = 0, patience: float = 5.0) -> None:
         self._head = bulks(key.encode() for key in keys_of(queue))
         self._replicas, self.patience = replicas, patience
         self._front = bulks([b"", b""])
-        self._batch = Batch(self._front)
+        self._turns = Turns()
         self._again: list[Batch] = []
         self._refused_for_now: set[Batch] = set()
         self._flying: dict[Batch, None] = {}
+        self._answered_at = 0.0
         self._link: Link | None = None
         self._is_leaving = False
         """The link is to be closed, once what is under way on it is answered."""
@@ -128,9 +71,6 @@ class Calls:
     def join(self, gateway: int) -> None:
         """From now on the calls are those of this gateway. What was gathered before is of the one before."""
         self._gateway, self._front = gateway, bulks([b"", b"%d" % gateway])
-        if self._batch.parts:
-            self._again.append(self._batch)
-        self._batch = Batch(self._front)
 
     def use(self, link: Link | None) -> None:
         """Sends by this link from now on. What was sent by the one before, and not answered, is in doubt."""
@@ -146,16 +86,18 @@ class Calls:
         if self._link and not self._flying:
             self._link.close()
 
-    def submit(self, calls: list[bytes], answered: Answered) -> None:
-        """Makes these calls, one after the other."""
-        self._batch.parts.append((answered, calls))
+    def submit(self, calls: list[bytes], answered: Answered, sessions: int = 1) -> None:
+        """Makes these calls, which are of so many sessions, one after the other."""
+        self._turns.add(Part(self._front, calls, answered, sessions))
         if not self._is_scheduled:
             self._schedule()
 
     def withhold(self, front: bytes) -> None:
         """The session before whose calls this stands has left: what has not been sent yet fetches nothing for it."""
-        for batch in (self._batch, *self._again, *self._refused_for_now):
-            batch.withhold(front)
+        for part in (*self._turns, *(part for it in (*self._again, *self._refused_for_now) for part in it.parts)):
+            part.withhold(front, len(part.replies))
+        for part in (part for it in self._flying for part in it.parts):
+            part.withhold(front, len(part.replies) + part.count)
 
     def is_late(self) -> bool:
         """Whether the Redis has not answered in time."""
@@ -177,12 +119,12 @@ class Calls:
             return
         if self._again:
             batch = self._again.pop(0)
-        elif self._batch.parts:
-            batch, self._batch = self._batch, Batch(self._front)
+        elif self._turns:
+            batch = self._turns.take(CALLS)
         else:
             return
         self._send(link, batch)
-        if self._again or self._batch.parts:
+        if self._again or self._turns:
             self._schedule()
 
     def _send(self, link: Link, batch: Batch) -> None:
@@ -203,16 +145,29 @@ class Calls:
         if link is not self._link:
             return  # it was in doubt when the link was given up
         del self._flying[batch]
-        if self._again or self._batch.parts:
+        if self._again or self._turns:
             self._schedule()
         if isinstance(answer, list):
-            batch.answer(answer)
+            self._made(batch, answer)
         elif answer is None:
             batch.doubt()
         else:
             self._refused(batch, answer)
         if self._is_leaving:
             self.leave()
+
+    def _made(self, batch: Batch, replies: list[bytes]) -> None:
+        """The calls of a batch are made, or the first of them, as far as the Redis came in its time."""
+        now = time.monotonic()
+        self._turns.adapt(len(batch), len(replies), now - max(batch.sent, self._answered_at))
+        self._answered_at = now
+        batch.take(replies)
+        self._turns.put_back(batch)
+        if self._turns:
+            self._schedule()
+        for part in batch.parts:
+            if len(part.replies) == len(part.calls):
+                part.end(part.replies)
 
     def _copied(self, link: Link, batch: Batch, answer: Answer, count: Answer) -> None:
         """So many replicas have what the batch did. If they are too few, a fail-over may lose it: it is in doubt."""
@@ -232,7 +187,8 @@ class Calls:
         elif code in UNKNOWN:
             if batch.front is self._front:
                 self.gateway_is_unknown()
-            batch.answer_at_an_end()
+            for part in batch.parts:
+                part.end_at_an_end()
         else:
             LOG.error("the Redis answered: %s", answer)
             batch.doubt()

@@ -1,6 +1,7 @@
 """One queue of a Redis, for the commands: each call waits for its reply. The gateway has a way of its own (`link`)."""
 from __future__ import annotations
 
+from collections.abc import Sequence
 from typing import Any, Union
 
 import redis
@@ -79,6 +80,13 @@ class Queue:
         while there < len(lines):
             there = int(self.call("rb_load", token, there, *lines[there:there + CHUNK]))
         self.call("rb_loaded", token, left.next_id, left.last)
+
+    def make(self, calls: Sequence[bytes | str], moment: str = "", gateway: int | str = "") -> list[bytes]:
+        """Makes these calls of `rb_calls`, in as many steps as it takes. The replies."""
+        replies: list[bytes] = []
+        while len(replies) < len(calls):
+            replies += self.call("rb_calls", moment, gateway, *calls[len(replies):len(replies) + CHUNK])
+        return replies
 
     def request(self, line: str, seat: int = COMMANDS_SEAT) -> str:
         """Makes one call by the node's time, also of a Redis that is full. The reply is without its last line feed."""

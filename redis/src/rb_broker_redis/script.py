@@ -190,5 +190,4 @@ class ScriptSession:
             self._calls = []
 
     def _perform(self, calls: list[bytes]) -> list[bytes]:
-        replies: list[bytes] = self._queue.call("rb_calls", f"{self._moment:020}", "", *calls)
-        return replies
+        return self._queue.make(calls, f"{self._moment:020}")

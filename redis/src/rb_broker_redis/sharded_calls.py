@@ -5,9 +5,10 @@ import asyncio
 from collections.abc import Iterable, Sequence
 from itertools import groupby
 
-from .calls import Answered, Calls
+from .calls import Calls
 from .protocol import MOST_HELD, ErrorReply
 from .shards import Rendezvous, inner_id, outer_id
+from .turns import Answered
 from .waits import LATER, laters_in
 
 BY_PAYLOAD = (b"OFFER", b"OFFERAT")

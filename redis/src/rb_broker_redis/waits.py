@@ -131,7 +131,8 @@ class Waits:
         queue = self._waiting.tried_queue
         for wait in tried:
             wait.is_tried = True
-        self._queues[queue].submit([wait.calls[queue] for wait in tried], lambda replies: self._tried(tried, replies))
+        calls = [wait.calls[queue] for wait in tried]
+        self._queues[queue].submit(calls, lambda replies: self._tried(tried, replies), len(tried))
 
     def _set_timer(self, moment: int | None) -> None:
         if moment is None or moment == self._timed_for:

@@ -1,0 +1,166 @@
+"""Whose calls a command of the Redis carries: a share for each of many sessions, and no more than it does in a while."""
+from __future__ import annotations
+
+from collections import deque
+from collections.abc import Callable, Iterator
+
+from .protocol import ErrorReply
+
+Answered = Callable[[list[bytes] | None], None]
+"""Gets the replies of what was submitted, or None where it is in doubt whether the calls were made."""
+
+FETCHES = (b"POLL", b"TAKE", b"POLLFOR", b"DRAIN")
+
+FIRST_SHARE, SHARE = 1, 8
+"""How many calls of a session go out before others have had their turn: at its first turn, and then."""
+
+LEAST, MOST = 64, 1_024
+"""How many calls a command carries at most. What it does not get done in its time is sent again."""
+
+SLOW = 0.05
+"""A command that takes more seconds is followed by shorter ones."""
+
+NEW_FOR_EACH_OTHER = 24
+"""So many who have just submitted come before one who has been served already, so these get a quarter of the calls."""
+
+AT_AN_END = {b"DONE": ErrorReply.NOT_HELD, b"FAIL": ErrorReply.NOT_HELD, b"END": b"ENDED 0\n"}
+"""What calls of a session are answered that has ended. The others have no reply."""
+
+
+def word_of(call: bytes) -> bytes:
+    """What a call asks for."""
+    return call.split(b" ")[1]
+
+
+def without_fetch(call: bytes) -> bytes:
+    """The call, or one that fetches nothing in its place."""
+    return call.partition(b" ")[0] + b" WAIT" if word_of(call) in FETCHES else call
+
+
+class Part:
+    """Calls that were submitted together. They are made in their order, some at a time: the next ones go out once those
+    before them are answered."""
+
+    __slots__ = ("front", "calls", "replies", "count", "sessions", "_answered")
+
+    def __init__(self, front: bytes, calls: list[bytes], answered: Answered, sessions: int) -> None:
+        """`front` names the gateway whose sessions make the calls; `sessions` is how many these are."""
+        self.front, self.calls, self._answered, self.sessions = front, calls, answered, sessions
+        self.replies: list[bytes] = []
+        self.count = 0
+        """How many calls are under way."""
+
+    @property
+    def left(self) -> int:
+        """How many calls have not gone out."""
+        return len(self.calls) - len(self.replies) - self.count
+
+    def under_way(self) -> list[bytes]:
+        """The calls that are under way."""
+        start = len(self.replies)
+        return self.calls[start:start + self.count]
+
+    def take(self, replies: list[bytes]) -> None:
+        """The first of the calls that are under way are made, with these replies; the others are not."""
+        self.replies += replies
+        self.count = 0
+
+    def end(self, replies: list[bytes] | None) -> None:
+        """Tells the submitter the replies, or that they are in doubt."""
+        self._answered(replies)
+
+    def end_at_an_end(self) -> None:
+        """The sessions have ended, and no further call is made: what they held they do not hold any more."""
+        words = [word_of(it) for it in self.calls[len(self.replies):]]
+        self.end([*self.replies, *(AT_AN_END[it] for it in words)] if AT_AN_END.keys() >= {*words} else None)
+
+    def withhold(self, front: bytes, start: int) -> None:
+        """Fetches nothing for the session before whose calls this stands, from this call on."""
+        if self.sessions > 1 or self.calls[0].startswith(front):
+            self.calls[start:] = [without_fetch(it) if it.startswith(front) else it for it in self.calls[start:]]
+
+
+class Batch:
+    """Calls that go out together."""
+
+    __slots__ = ("parts", "front", "function", "sent")
+
+    def __init__(self, parts: list[Part], function: bytes) -> None:
+        self.parts, self.function, self.front = parts, function, parts[0].front
+        self.sent = 0.0
+
+    def calls(self) -> list[bytes]:
+        """All calls, in their order."""
+        return [call for part in self.parts for call in part.under_way()]
+
+    def __len__(self) -> int:
+        return sum(part.count for part in self.parts)
+
+    def take(self, replies: list[bytes]) -> None:
+        """Gives each part its replies. There may be fewer than calls: then the last ones were not made."""
+        start = 0
+        for part in self.parts:
+            end = start + part.count
+            part.take(replies[start:end])
+            start = end
+
+    def doubt(self) -> None:
+        """Nobody knows whether the calls were made."""
+        for part in self.parts:
+            part.end(None)
+
+
+class Turns:
+    """The parts whose next calls are to go out."""
+
+    def __init__(self) -> None:
+        self._new: deque[Part] = deque()
+        self._others: deque[Part] = deque()
+        """Those of which calls have been made."""
+        self._most = 4 * LEAST
+
+    def __bool__(self) -> bool:
+        return bool(self._new or self._others)
+
+    def __iter__(self) -> Iterator[Part]:
+        yield from self._new
+        yield from self._others
+
+    def add(self, part: Part) -> None:
+        """A part is new."""
+        self._new.append(part)
+
+    def take(self, function: bytes) -> Batch:
+        """The calls that go out next, for this function. They are of one gateway's number. There must be some."""
+        parts: list[Part] = []
+        room, turn = self._most, 0
+        while room and self:
+            is_new = bool(self._new) and not (self._others and turn == NEW_FOR_EACH_OTHER)
+            line = self._new if is_new else self._others
+            if parts and line[0].front is not parts[0].front:
+                break
+            turn = turn + 1 if is_new else 0
+            part = line.popleft()
+            part.count = min(part.left, (FIRST_SHARE if is_new else SHARE) * part.sessions, room)
+            room -= part.count
+            parts.append(part)
+        for part in parts:  # what others leave is shared in the same order
+            more = min(part.left, room)
+            part.count, room = part.count + more, room - more
+        return Batch(parts, function)
+
+    def put_back(self, batch: Batch) -> None:
+        """Those of whose parts calls are left have their turns again: whoever had none made is first."""
+        for part in reversed(batch.parts):
+            if not part.replies:
+                self._new.appendleft(part)
+        self._others.extend(part for part in batch.parts if part.replies and part.left)
+
+    def adapt(self, sent: int, made: int, seconds: float) -> None:
+        """So many of the calls of a command were made, in so many seconds."""
+        if made < sent:
+            self._most = max(made, LEAST)
+        elif seconds > SLOW:
+            self._most = max(self._most // 2, LEAST)
+        elif sent >= self._most:
+            self._most = min(2 * self._most, MOST)
