@@ -23,6 +23,10 @@ from serving.server import PORTS
 _given: deque[int] = deque(maxlen=10)  # the ports that were given last
 PATIENCE = 180  # seconds that anything may take, on a busy machine
 
+LONGEST = 50_000
+"""Microseconds that a command may take on a processor of its own."""
+LOGS_SLOW = ("--slowlog-log-slower-than", str(LONGEST), "--slowlog-max-len", "10000")
+
 ALWAYS = ("--appendonly", "yes", "--appendfsync", "always")
 EVERYSEC = ("--appendonly", "yes", "--appendfsync", "everysec")
 FORGETFUL = ("--appendonly", "no")
@@ -128,7 +132,7 @@ class Node(Process):
                  environment: dict[str, str] | None = None) -> None:
         folder.mkdir(parents=True)
         self.port = free_port()
-        words = ["redis-server", "--port", self.port, "--bind", HOST, "--dir", folder, "--save", "", *options]
+        words = ["redis-server", "--port", self.port, "--bind", HOST, "--dir", folder, "--save", "", *LOGS_SLOW, *options]
         super().__init__([*map(str, words)], folder / "log", environment)
         self.start()
 
@@ -147,6 +151,14 @@ class Node(Process):
         """The answer to a command, over a connection of its own."""
         with self.client() as client:
             return client.execute_command(*words)
+
+    def slow(self) -> list[tuple[int, str]]:
+        """The commands that took too long, with their microseconds. One processor has much other work on a busy machine,
+        so that may take several times as long."""
+        others = max(1.0, os.getloadavg()[0] / (os.cpu_count() or 1))
+        with self.client() as client:
+            return [(it["duration"], it["command"].decode()[:200]) for it in client.slowlog_get(10_000)
+                    if it["duration"] > LONGEST * others]
 
     def replication(self) -> dict[str, Any]:
         """What it says about its replicas, or as one."""

@@ -8,9 +8,10 @@ from pathlib import Path
 from unittest import mock
 
 from rb_broker_redis import cuts
-from rb_broker_redis.archive import Archive, Conflict, Position
+from rb_broker_redis.archive import Archive
 from rb_broker_redis.archive_folder import UNFINISHED, ArchiveFolder, FolderInUse
 from rb_broker_redis.history import Damaged, FollowedQueue, read_text
+from rb_broker_redis.queue_events import Conflict, Position
 from redis_test import RoomTest
 
 # A job that fails once, and one that stays.
@@ -36,7 +37,7 @@ class ListSource:
         self.dies_before_cut = self.dies_after_cut = False
 
     def position(self) -> Position:
-        return Position(self.first, len(self.list), self.in_hand)
+        return Position(self.first, len(self.list), len(self.list), self.in_hand)
 
     def opening(self) -> FollowedQueue | None:
         return FollowedQueue.of_opening(self.kept) if self.kept else None
@@ -167,6 +168,14 @@ class KillTest(ArchiveTest):
             self.assertRaises(Killed, self.take)
             self.assert_files(*texts)
         self.assertEqual(self.take(), [])
+
+    def test_a_kill_while_events_are_taken_out(self) -> None:
+        self.source.dies_before_cut = True
+        self.assertRaises(Killed, self.take)
+        self.source.dies_before_cut = False
+        self.source.first, self.source.list, self.source.kept = 2, EVENTS[2:], []
+        self.take()
+        self.assert_files(FIRST, SECOND, THIRD)
 
     def test_a_kill_while_a_file_is_written(self) -> None:
         for place in ("os.fsync", "pathlib.Path.rename"):

@@ -3,6 +3,7 @@ from __future__ import annotations
 
 import random
 import signal
+import threading
 from pathlib import Path
 
 from judging import replay_chains
@@ -11,6 +12,9 @@ from rb_broker_redis.archive_folder import ArchiveFolder
 from rb_broker_redis.history import read_text
 from rb_broker_redis.queue import Queue
 from redis_test import SEAT, RedisTest
+
+
+ELEMENTS = 20_000
 
 
 class ArchiveCommandTest(RedisTest):
@@ -92,6 +96,60 @@ class TakeTest(ArchiveCommandTest):
         said, _ = process.communicate(timeout=PATIENCE)
         self.assertEqual(process.returncode, 0)
         self.assertIn("the Redis has lost events that were archived, from number 0: see ", said)
+
+
+class LargeTest(ArchiveCommandTest):
+    """What may not be done in one piece, since all who use the Redis would wait for it."""
+
+    def setUp(self) -> None:
+        super().setUp()
+        self.joined(attempts=1).make([f"{SEAT} OFFER {it} job-{it}" for it in range(ELEMENTS)])
+
+    def left(self) -> dict[int, bytes]:
+        """The elements in the queue behind the last file, as that tells."""
+        return read_text(self.files()[-1]).elements
+
+    def assert_all_there(self) -> None:
+        """The last file tells what is in the queue, and no command took long."""
+        queue = self.queue()
+        found = [it.decode().partition(" ") for it in queue.command("ZRANGE", queue.due, 0, -1)]
+        elements = {int(place[21:]): f"{int(place[21:])} {int(place[:20])} {rest}".encode() for place, _, rest in found}
+        self.assertEqual(self.left(), elements)
+        self.assertEqual(self.node.slow(), [])
+
+    def test_a_queue_begins_anew_while_it_is_used(self) -> None:
+        is_over = threading.Event()
+        user = threading.Thread(target=self.use_until, args=(is_over,))
+        user.start()
+        try:
+            for _ in range(2):
+                status, _, errors = self.ran("archive", self.folder, "--anew")
+                self.assertEqual((status, errors), (0, ""))
+                for it in self.files():
+                    it.rename(it.with_suffix(".earlier"))
+        finally:
+            is_over.set()
+            user.join()
+        self.queue().request("SIZE", SEAT)
+        self.assertEqual(self.ran("archive", self.folder, "--anew")[0], 0)
+        self.queue().request("SIZE", SEAT)
+        self.assertEqual(self.ran("archive", self.folder)[0], 0)
+        self.assert_all_there()
+
+    def use_until(self, is_over: threading.Event) -> None:
+        """Makes calls at random, of which each is an event."""
+        queue, draw = self.queue(), random.Random(1)
+        while not is_over.is_set():
+            queue.make([f"{SEAT} {draw.choice((f'OFFER {10**9} new', 'POLL', f'REMOVE {draw.randrange(ELEMENTS)}', 'SIZE'))}"
+                        for _ in range(20)] + [f"{SEAT} END"])
+
+    def test_all_that_is_in_hand_is_looked_for_in_pieces(self) -> None:
+        queue = self.queue()
+        queue.make([f"{SEAT + it // 64} POLL" for it in range(ELEMENTS)])
+        self.assertEqual(self.ran("archive", self.folder)[0], 0)
+        queue.make([f"{SEAT + it} END" for it in range(ELEMENTS // 64 + 1)])
+        self.assertEqual(self.ran("archive", self.folder)[0], 0)
+        self.assert_all_there()
 
 
 class InHandTest(ArchiveCommandTest):

@@ -11,19 +11,9 @@ from rb_broker_redis.turns import FIRST_SHARE, LEAST, MOST, SHARE, Batch, Part, 
 CROWD = 400
 REQUESTS = 256  # of each
 HELD = 64
-LONGEST = 50_000  # microseconds that a command may take, on a busy machine
 
 
 class CrowdTest(GatewayTest):
-    def setUp(self) -> None:
-        super().setUp()
-        self.node.ask("CONFIG", "SET", "slowlog-log-slower-than", LONGEST)
-        self.node.ask("SLOWLOG", "RESET")
-
-    def assert_nothing_is_slow(self) -> None:
-        with self.node.client() as client:
-            self.assertEqual([(it["duration"], it["command"][:80]) for it in client.slowlog_get()], [])
-
     def test_a_crowd_that_sends_much_at_once(self) -> None:
         served = self.serve("--timeout", "2s")
         innocent, *crowd = [self.talker(served) for _ in range(CROWD + 1)]
@@ -46,7 +36,7 @@ class CrowdTest(GatewayTest):
             it.send(f"DRAIN {HELD}\n")
             self.assert_talk(it, f"= DRAINED {HELD}", *["= ITEM .*"] * HELD)
         self.assert_ends_well(served, CROWD + 1)
-        self.assert_nothing_is_slow()
+        self.assertEqual(self.node.slow(), [])
 
 
 class TurnsTest(unittest.TestCase):

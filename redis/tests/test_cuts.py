@@ -19,7 +19,7 @@ class CutsTest(unittest.TestCase):
         cuts = Cuts(FollowedQueue())
         for line in EVENTS[:count]:
             cuts.follow(line)
-        return cuts.best(in_hand, most)
+        return cuts.best(in_hand, most, count)
 
     def test_behind_the_last_event_where_nothing_is_in_hand(self) -> None:
         for count in (1, 3, 6, 7):
@@ -35,12 +35,19 @@ class CutsTest(unittest.TestCase):
         self.assertEqual(self.best(7, 10, [b"1"]), Cut(6, 0))
         self.assertEqual(self.best(4, 10, [b"77"]), Cut(4, 0))  # it was given before the first event
 
+    def test_not_behind_what_came_while_those_in_hand_were_looked_for(self) -> None:
+        cuts = Cuts(FollowedQueue())
+        for line in EVENTS:
+            cuts.follow(line)
+        # Job 1 was in hand behind the fourth event, and had come back before it was looked for.
+        self.assertEqual([cuts.best([], 10, settled).count for settled in (3, 4, 5, 6, 7)], [3, 3, 3, 6, 7])
+
     def test_the_fewest_cross_where_a_cut_must_be(self) -> None:
         # The first event gives job 0, which is never settled.
         cuts = Cuts(FollowedQueue.of_opening([b"open 2 1 2", b"keep 0 1 0 1 1 a", b"keep 1 1 1 1 1 b"]))
         for line in (b"2 2 2 poll 0", b"2 2 2 take 1", b"1 3 3 size 0", b"2 4 4 offer 2 9 1 1 2 b"):
             cuts.follow(line)
-        self.assertEqual(cuts.best([b"0"], 3), Cut(0, 0))
+        self.assertEqual(cuts.best([b"0"], 3, 6), Cut(0, 0))
         cuts.follow(b"1 5 5 size 1")
         cuts.follow(b"1 5 5 size 1")
-        self.assertEqual(cuts.best([], 3), Cut(1, 1))
+        self.assertEqual(cuts.best([], 3, 6), Cut(1, 1))

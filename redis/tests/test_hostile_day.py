@@ -49,9 +49,11 @@ class Day(RoomTest):
         self.archive = self.room / "archive"
         self.draw = random.Random()
         self.pauses: list[threading.Timer] = []
+        self.slow: list[tuple[int, str]] = []
         self.kills = {it: 0 for it in ("gateway", "worker", "producer", "archive", "redis", "lease")}
 
-    def run_day(self, redis: str, kill_redis: Callable[[], None], serving: tuple[object, ...] = SERVING) -> None:
+    def run_day(self, redis: str, kill_redis: Callable[[], None], primary: Callable[[], Node],
+                serving: tuple[object, ...] = SERVING) -> None:
         """Lets the day pass, and judges it."""
         serving = (*serving, "--shards", self.shards)
         self.gateways = [self.till_end(Gateway(self.room, redis, QUEUE, serving)) for _ in range(GATEWAYS)]
@@ -69,6 +71,7 @@ class Day(RoomTest):
         self.archiving.start()
         self.let_all_go_wrong(kill_redis)
         self.end_in_good_order()
+        self.note_slow(primary())
         self.judge()
 
     def let_all_go_wrong(self, kill_redis: Callable[[], None]) -> None:
@@ -139,7 +142,12 @@ class Day(RoomTest):
         ran = subprocess.run(self.take_events, capture_output=True, text=True, timeout=PATIENCE, check=False)
         self.assertEqual((ran.returncode, ran.stderr), (0, ""))
 
+    def note_slow(self, node: Node) -> None:
+        """Notes the commands that took long of a node that is about to end."""
+        self.slow += node.slow()
+
     def judge(self) -> None:
+        self.assertEqual(self.slow, [])
         queues = self.histories()
         histories = [it for files in queues for it in files]
         for it in histories:
@@ -189,11 +197,12 @@ class OneNodeTest(Day):
         node = self.till_end(Node(self.room / "node", ALWAYS))
 
         def kill_redis() -> None:
+            self.note_slow(node)
             node.kill()
             time.sleep(self.draw.uniform(0, 0.5))
             node.start()
 
-        self.run_day(node.url, kill_redis)
+        self.run_day(node.url, kill_redis, lambda: node)
         self.assertEqual(list(self.archive.glob("*.lost-*")), [])
 
 
@@ -212,6 +221,7 @@ class SentinelTest(Day):
             """Kills the primary, and starts it again once another has its place. The next one is killed only once both
             replicas have all that it has."""
             primary = sentinels.primary()
+            self.note_slow(primary)
             primary.kill()
             wait_until(lambda: sentinels.primary() is not primary, "no replica takes over")
             primary.start()
@@ -219,4 +229,4 @@ class SentinelTest(Day):
             wait_until(lambda: all(it["state"] == "online" for name, it in sentinels.primary().replication().items()
                                    if name[:5] == "slave"), "the replicas are not in step")
 
-        self.run_day(sentinels.url, kill_redis, (*SERVING, "--replicas", 1))
+        self.run_day(sentinels.url, kill_redis, sentinels.primary, (*SERVING, "--replicas", 1))

@@ -9,11 +9,12 @@ import time
 from collections.abc import Sequence
 from pathlib import Path
 
-from .archive import Archive, QueueEvents
+from .archive import Archive
 from .archive_folder import ArchiveFolder
 from .ending import FAULTS, fail
 from .history import MOST_EVENTS
 from .protocol import SECOND
+from .queue_events import QueueEvents
 from .words import Parser, add_command, add_queue_words, duration, queues_in, whole
 
 SOON = 10.0  # seconds after which something is tried again that failed

@@ -87,7 +87,7 @@ local LAST = '18446744073709551615'
 local MOST_HELD = 64
 local MOST_ENDED = 200
 local MOST_MICROSECONDS = 8000 -- after which a step begins no further call
-local MOST_WORK = 1000 -- the same, counted in calls and what they give and record, where TIME stands still in a step
+local MOST_WORK = 512 -- the same, in calls and in jobs that they give or let fail, where TIME stands still in a step
 local WORK_BETWEEN_LOOKS = 16
 local NEVER = '~' -- above every moment
 local ENDED = '0' -- in the place of a score: the gateway's sessions are ended
@@ -148,8 +148,7 @@ local function open(keys, moment)
         next = tonumber(state[1]), calls = tonumber(state[3]), fetched = tonumber(state[4]), wake = state[5],
         pace = state[6], period = state[7], attempts = tonumber(state[8]), limit = tonumber(state[9] or '1e300'),
         silent = state[10] == 'no', lines = {}, counts = {},
-        at_before = state[2], calls_before = tonumber(state[3]), fetched_before = tonumber(state[4]),
-        wake_before = state[5],
+        at_before = state[2], calls_before = tonumber(state[3]), wake_before = state[5], work = 0,
     }
 end
 
@@ -224,7 +223,7 @@ local function fetch(queue, seat)
     redis.call('ZPOPMIN', queue.keys[1])
     redis.call('HDEL', queue.keys[2], shown)
     queue.head = nil
-    queue.fetched = queue.fetched + 1
+    queue.fetched, queue.work = queue.fetched + 1, queue.work + 1
     redis.call('ZADD', queue.keys[3], 0, pad(seat) .. ':' .. id .. ' ' .. pad(whole(queue.fetched)) .. ' ' .. expiry
         .. ' ' .. string.sub(head, 43))
     queue.counts[seat] = count_of(queue, seat) + 1
@@ -257,6 +256,7 @@ end
 -- Lets a held job fail. -> its reply, or nil if its next attempt is refused: then it stays held
 local function fail_job(queue, seat, job)
     local reply
+    queue.work = queue.work + 1
     if job.attempt >= queue.attempts then
         redis.call('ZADD', queue.keys[6], 0, job.id .. ' ' .. queue.at .. ' ' .. string.sub(job.member, 64))
         reply = 'DEAD ' .. plain(job.id) .. '\n'
@@ -448,10 +448,10 @@ local function perform(keys, args, spare)
     for place = 3, #args do
         local seat, word, number, rest = string.match(args[place], '^(%d+) (%u+) ?(%S*) ?(%S*)$')
         replies[place - 2] = requests[word](queue, seat, number, rest)
-        local work = place + queue.calls - queue.calls_before + queue.fetched - queue.fetched_before
-        if work >= next_look then
-            if work >= MOST_WORK or microseconds() - began >= MOST_MICROSECONDS then break end
-            next_look = work + WORK_BETWEEN_LOOKS
+        queue.work = queue.work + 1
+        if queue.work >= next_look then
+            if queue.work >= MOST_WORK or microseconds() - began >= MOST_MICROSECONDS then break end
+            next_look = queue.work + WORK_BETWEEN_LOOKS
         end
     end
     close(queue)

@@ -48,8 +48,9 @@ class Cuts:
         if len(queue.elements) > MOST_KEPT:
             self._too_large.append(event + 1)
 
-    def best(self, in_hand: Iterable[bytes], most: int) -> Cut:
-        """The last good place behind at most so many events, while the jobs of these origins are in hand.
+    def best(self, in_hand: Iterable[bytes], most: int, settled: int) -> Cut:
+        """The last good place behind at most so many events, and no more than are settled: the jobs of these origins were
+        in hand behind those.
 
         If there is none, but twice as many events, it is the last of the places that the fewest jobs cross.
         """
@@ -57,7 +58,7 @@ class Cuts:
             if origin in self._given:
                 self._crossings[self._given.pop(origin) + 1] += 1
         best, crossed, too_large = Cut(0, most), 0, set(self._too_large)
-        for count, more in enumerate(self._crossings[:most + 1]):
+        for count, more in enumerate(self._crossings[:min(most, settled) + 1]):
             crossed += more
             if count and crossed <= best.crossed and count not in too_large:
                 best = Cut(count, crossed)

@@ -120,9 +120,9 @@ class FollowedQueue:
         elif act == "removed":
             self._leave(match["removed"])
         elif act == "clear":
-            self.elements.clear()
-        elif act == "size" and int(match["size"]) != len(self.elements):
-            raise Damaged(f"the queue holds {len(self.elements)}")
+            self._clear()
+        elif act == "size":
+            self._test_size(int(match["size"]))
         self.last = at
 
     def opening(self) -> Iterator[bytes]:
@@ -139,6 +139,13 @@ class FollowedQueue:
             raise Damaged(f"its id is not the next one, {self.next_id}")
         self.elements[self.next_id] = self.offered = words
         self.next_id += 1
+
+    def _clear(self) -> None:
+        self.elements.clear()
+
+    def _test_size(self, size: int) -> None:
+        if size != len(self.elements):
+            raise Damaged(f"the queue holds {len(self.elements)}")
 
     def _leave(self, id: bytes) -> bytes:
         words = self.elements.pop(int(id), None)
