@@ -67,7 +67,10 @@
 --       before, and the opening with them. -> how many were taken in all, which the caller compares
 --   rb_load TOKEN INDEX LINE ..                   gives an unused queue the 'keep' lines that follow INDEX others, in
 --       rising order of id. -> how many it has in all, so that a load that was broken off can go on
---   rb_loaded TOKEN NEXT LAST                     ends the load: the next id, and the last moment
+--   rb_loaded TOKEN NEXT LAST [PACE PERIOD ATTEMPTS]  ends the load: the next id, the last moment, and a policy
+--   rb_freeze TOKEN [TEST]                        begins a load into a queue that may have been used, but is at rest: no
+--       gateway, no job in hand, no event that an archive has not taken. With TEST it only looks. Or the error INUSE
+--   rb_empty TOKEN                                ends such a load by emptying the queue
 --
 -- A CALL is one argument: 'SEAT REQUEST', where REQUEST is a line of the protocol that is known to be well formed
 -- (without AT and QUIT), or one of these:
@@ -458,6 +461,13 @@ local function perform(keys, args, spare)
     return replies
 end
 
+local function make_queue(keys, pace, period, attempts)
+    redis.call('HSET', keys[4], 'pace', pace, 'period', period, 'attempts', attempts)
+    for field, value in pairs({ next = '0', at = pad('0'), calls = '0', fetched = '0', wake = '', cut = '0' }) do
+        redis.call('HSETNX', keys[4], field, value)
+    end
+end
+
 local function join_gateway(keys, args)
     local lease, pace, period, attempts, mode, token = unpack(args)
     local state = redis.call('HMGET', keys[4], 'pace', 'period', 'attempts', 'loading', 'format')
@@ -471,11 +481,8 @@ local function join_gateway(keys, args)
     elseif not is_new and mode ~= 'change' and (pace ~= state[1] or period ~= state[2] or attempts ~= state[3]) then
         return redis.error_reply('POLICY ' .. state[1] .. ' ' .. plain(state[2]) .. ' ' .. state[3])
     end
-    redis.call('HSET', keys[4], 'pace', pace, 'period', period, 'attempts', attempts)
+    make_queue(keys, pace, period, attempts)
     if is_new then
-        for field, value in pairs({ next = '0', at = pad('0'), calls = '0', fetched = '0', wake = '', cut = '0' }) do
-            redis.call('HSETNX', keys[4], field, value)
-        end
         if mode == 'silent' then redis.call('HSET', keys[4], 'history', 'no') end
         if string.sub(mode, 1, 6) == 'limit ' then redis.call('HSET', keys[4], 'limit', string.sub(mode, 7)) end
     end
@@ -564,7 +571,7 @@ end
 local function load(keys, args)
     local token, index = args[1], tonumber(args[2])
     local state = redis.call('HMGET', keys[4], 'loading', 'next')
-    if state[2] or state[1] and state[1] ~= token then
+    if state[1] ~= token and (state[1] or state[2]) then
         return redis.error_reply('USED this queue is in use, or another load into it has not ended')
     end
     redis.call('HSET', keys[4], 'loading', token)
@@ -579,7 +586,7 @@ local function load(keys, args)
 end
 
 local function loaded(keys, args)
-    local token, next, last = unpack(args)
+    local token, next, last, pace, period, attempts = unpack(args)
     local state = redis.call('HMGET', keys[4], 'loading', 'loaded')
     if state[1] ~= token then
         if state[2] == token then return 0 end
@@ -588,8 +595,31 @@ local function loaded(keys, args)
     local count = redis.call('LLEN', keys[8])
     redis.call('LPUSH', keys[8], 'open ' .. next .. ' ' .. last .. ' ' .. whole(count))
     redis.call('HSET', keys[4], 'next', next, 'at', pad(last), 'loaded', token)
+    if pace then make_queue(keys, pace, period, attempts) end
     redis.call('HDEL', keys[4], 'loading')
     return count
+end
+
+local function freeze(keys, args)
+    local loading, loaded_before = unpack(redis.call('HMGET', keys[4], 'loading', 'loaded'))
+    if loading == args[1] or loaded_before == args[1] then return 0 end
+    local why = loading and 'a load into it has not ended' or redis.call('ZCARD', keys[7]) > 0 and 'a gateway serves it'
+        or redis.call('ZCARD', keys[3]) > 0 and 'jobs of it are in hand'
+        or redis.call('LLEN', keys[5]) > 0 and 'it has events that no archive has taken'
+    if why then return redis.error_reply('INUSE ' .. why) end
+    if not args[2] then
+        redis.call('HSET', keys[4], 'loading', args[1])
+        redis.call('UNLINK', keys[8])
+    end
+    return 1
+end
+
+local function empty(keys, args)
+    local loading, next, at = unpack(redis.call('HMGET', keys[4], 'loading', 'next', 'at'))
+    if loading ~= args[1] then return 0 end
+    redis.call('UNLINK', keys[1], keys[2], keys[6], keys[8])
+    redis.call('RPUSH', keys[8], 'open ' .. next .. ' ' .. plain(at) .. ' 0')
+    return redis.call('HDEL', keys[4], 'loading')
 end
 
 local function calls(keys, args) return perform(keys, args, false) end
@@ -609,3 +639,5 @@ register('rb_leave', leave, 'allow-oom')
 register('rb_cut', cut, 'allow-oom')
 register('rb_load', load)
 register('rb_loaded', loaded)
+register('rb_freeze', freeze)
+register('rb_empty', empty, 'allow-oom')

@@ -2,11 +2,11 @@
 from __future__ import annotations
 
 
-from . import archive_command, dead_command, load, script, serve
+from . import archive_command, dead_command, load, script, serve, shards_command
 from .ending import FAULTS, NAME, fail
 from .words import Parser
 
-COMMANDS = (serve, script, archive_command, load, dead_command)
+COMMANDS = (serve, script, archive_command, load, dead_command, shards_command)
 """Each is a module with `add_to`, which adds its words and says what runs them."""
 
 

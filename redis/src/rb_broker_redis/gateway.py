@@ -51,8 +51,12 @@ class Gateway:
             Upkeep(self, shard, address, name, calls, lease=lease // 1_000, policy=policy, mode=mode,
                    may_evict=may_evict)
             for shard, (name, calls) in enumerate(self._queues.items())]
-        for upkeep in self._upkeeps:
-            await upkeep.start()
+        try:
+            for upkeep in self._upkeeps:
+                await upkeep.start()
+        except BaseException:
+            await self.leave()
+            raise
 
     async def listen(self, host: str, port: int, tls: ssl.SSLContext | None) -> int:
         """Serves clients at this port, or at one of the system's choice for 0. Returns the port."""

@@ -1,7 +1,7 @@
 """One queue of a Redis, for the commands: each call waits for its reply. The gateway has a way of its own (`link`)."""
 from __future__ import annotations
 
-from collections.abc import Sequence
+from collections.abc import Iterable, Sequence
 from typing import Any, Union
 
 import redis
@@ -16,7 +16,7 @@ from .library import SOURCE, name_of
 COMMANDS_SEAT = 0
 """The seat of the commands: no session of a gateway has it."""
 
-CHUNK = 1_000  # elements that are loaded in one step
+CHUNK = 500  # elements that are loaded in one step
 
 PATIENCE = 60.0  # seconds that an answer may take: a queue may be large
 
@@ -75,11 +75,15 @@ class Queue:
     def load(self, token: str, left: FollowedQueue) -> None:
         """Gives the queue, which nobody has used, what is left of another one. Goes on where another load of this token
         was broken off."""
-        lines = [it[:-1] for it in left.kept()]
+        self.add(left.elements.values(), token)
+        self.call("rb_loaded", token, left.next_id, left.last)
+
+    def add(self, elements: Iterable[bytes], token: str) -> None:
+        """Gives the queue elements, by the words of their `keep` lines."""
+        lines = [b"keep " + it for it in elements]
         there = int(self.call("rb_load", token, 0))
         while there < len(lines):
             there = int(self.call("rb_load", token, there, *lines[there:there + CHUNK]))
-        self.call("rb_loaded", token, left.next_id, left.last)
 
     def make(self, calls: Sequence[bytes | str], moment: str = "", gateway: int | str = "") -> list[bytes]:
         """Makes these calls of `rb_calls`, in as many steps as it takes. The replies."""

@@ -70,7 +70,7 @@ class QueueEvents:
         """How far the events have been taken out, and what is in hand then. Raises a `Conflict` if the queue keeps
         none."""
         first, _, _, settled = self._counts()
-        in_hand = frozenset(it.split(b" ")[3] for it in self._members(self._queue.held))
+        in_hand = frozenset(it.split(b" ")[3] for it in members_of(self._queue, self._queue.held))
         return Position(first, self._counts()[3], settled, in_hand)
 
     def opening(self) -> FollowedQueue | None:
@@ -102,7 +102,7 @@ class QueueEvents:
         number. After a kill it may be begun again. Raises a `Conflict` if another archive is at work."""
         first, next_id, last, start = self._counts()
         queue = ScannedQueue(next_id, last)
-        for member in self._members(self._queue.due):
+        for member in members_of(self._queue, self._queue.due):
             place, rest = member.split(b" ", 1)
             expiry, id = map(int, place.split(b":"))
             queue.elements[id] = b"%d %d %b" % (id, expiry, rest)
@@ -129,9 +129,10 @@ class QueueEvents:
             raise Conflict(f"{self.name}: this queue keeps no events")
         return int(first or 0), int(next_id or 0), int(last or 0), count
 
-    def _members(self, key: str) -> Iterator[bytes]:
-        """Those of a sorted set, of which some may come and go meanwhile."""
-        after = b"-"
-        while members := self._queue.command("ZRANGEBYLEX", key, after, "+", "LIMIT", 0, CHUNK):
-            yield from members
-            after = b"(" + members[-1]
+
+def members_of(queue: Queue, key: str) -> Iterator[bytes]:
+    """Those of a sorted set of a queue, of which some may come and go meanwhile."""
+    after = b"-"
+    while members := queue.command("ZRANGEBYLEX", key, after, "+", "LIMIT", 0, CHUNK):
+        yield from members
+        after = b"(" + members[-1]

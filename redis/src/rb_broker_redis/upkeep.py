@@ -65,6 +65,7 @@ class Upkeep:
             link.close()
             await link.lost.wait()
             raise
+        self._link = link
         tasks = self._keep_link(link), self._keep_subscribed(), self._keep_lease(), self._watch()
         self._tasks = [asyncio.ensure_future(it) for it in tasks]
 
