@@ -76,10 +76,23 @@ class TakeTest(ArchiveCommandTest):
             queue.request("SIZE", SEAT)
             wait_until(lambda: len(self.files()) == number, "no file is written")
         process.send_signal(signal.SIGTERM)
+        process.send_signal(signal.SIGTERM)  # by a hand that does not wait
         _, errors = process.communicate(timeout=PATIENCE)
-        self.assertEqual((process.returncode, errors), (0, ""))
+        self.assertEqual((process.returncode in (0, -signal.SIGTERM), errors), (True, ""))
         events = [line for it in self.files() for line in it.read_bytes().splitlines()[2:-1]]
         self.assertEqual([it.split(b" ", 3)[3] for it in events], [b"size 0"] * 3)
+
+    def test_a_redis_that_is_not_there_yet(self) -> None:
+        self.node.kill()
+        try:
+            process = self.started("archive", self.folder, "--every", "50ms")
+            self.assertIn("Connection refused", process.stderr.readline())
+        finally:
+            self.node.start()
+        self.joined().request("SIZE", SEAT)
+        wait_until(self.files, "no file is written")
+        process.send_signal(signal.SIGTERM)
+        self.assertEqual(process.wait(PATIENCE), 0)
 
     def test_a_redis_that_is_away_for_a_while(self) -> None:
         queue = self.joined()

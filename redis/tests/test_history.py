@@ -1,7 +1,9 @@
 """Histories that are read: what is left at their end, and the texts that are none."""
 from __future__ import annotations
 
-from rb_broker_redis.history import Damaged, Element, FollowedQueue, read_text
+from unittest import mock
+
+from rb_broker_redis.history import Damaged, Element, FollowedQueue, read_judged, read_text
 from redis_test import RoomTest
 
 # At its end four elements are left. 5 is the second attempt of job 3.
@@ -91,6 +93,12 @@ class DamagedTest(HistoryTest):
             (f"line 6: {moment}", b"120 120", b"120 121"),
             ("line 11: the queue holds 4", b"remove 9 no", b"size 3"),
             ("line 4: the id of a `keep` line is above the one before, and below the next", b"keep 2", b"keep 3"),
+            ("line 6: element 0 is not the earliest", b"keep 0 90", b"keep 0 120"),
+            ("line 6: an element has expired, and is not given", b"poll 0", b"poll none"),
+            ("line 6: an element has expired, and is not given", b"poll 0", b"drain 2 0"),
+            ("line 6: element 2 is not the earliest", b"poll 0", b"peek 2"),
+            ("line 6: element 1 is not in the queue", b"poll 0", b"peek 1"),
+            ("line 6: the queue is not empty", b"poll 0", b"peek none"),
             # What is no history.
             ("line 1: no `history 1`, `history 2` or `history 3`", b"history 3", b"history 4"),
             ("line 3: no `keep` line", b"history 3", b"history 2"),
@@ -105,6 +113,23 @@ class DamagedTest(HistoryTest):
             with self.subTest(new=new):
                 self.assertEqual(RUN.count(old), 1)
                 self.assert_damaged(said, RUN.replace(old, new))
+
+    def test_a_peek_into_an_empty_queue(self) -> None:
+        self.assert_damaged("line 3: element 0 is not in the queue", ACTS.replace(b"peek none", b"peek 0"))
+
+    def test_an_element_that_is_early(self) -> None:
+        self.assert_damaged("line 10: element 1 has not expired", ACTS.replace(b"offer 1 6 1 6", b"offer 1 7 1 7"))
+
+    def test_a_program_judges_where_there_is_one(self) -> None:
+        file, program = self.room / "text", self.room / "rb_broker"
+        file.write_bytes(RUN)
+        with mock.patch.dict("os.environ", PATH=str(self.room)):
+            self.assertEqual(read_judged(file).next_id, 7)
+            program.write_text("#!/bin/sh\n[ \"$*\" = \"replay $FILE\" ] && echo refused 3 why && exit 1\n")
+            program.chmod(0o755)
+            with mock.patch.dict("os.environ", FILE=str(file)), self.assertRaises(Damaged) as raised:
+                read_judged(file)
+        self.assertEqual(str(raised.exception), f"{file}: rb_broker replay: refused 3 why")
 
     def test_an_empty_file_as_a_killed_server_leaves_it(self) -> None:
         self.assert_damaged("line 1: the text ends before the history does", b"")

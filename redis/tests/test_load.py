@@ -241,6 +241,10 @@ class RefusalTest(LoadTest):
         self.history.write_bytes(RUN.replace(b"poll 0", b"poll 1"))
         self.assert_refused(1, f"{self.history}: line 6: element 1 is not in the queue", *self.load)
 
+    def test_a_history_that_is_not_legal(self) -> None:
+        self.history.write_bytes(RUN.replace(b"120 poll 0", b"120 poll none"))
+        self.assert_refused(1, f"{self.history}: line 6: an element has expired, and is not given", *self.load)
+
     def test_a_file_that_can_not_be_read(self) -> None:
         for path, why in ((self.room / "none", "No such file or directory"), (self.room, "Is a directory")):
             self.assert_refused(2, f"{path}: {why}", "load", path, "--began", NINE)

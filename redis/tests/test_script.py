@@ -24,11 +24,6 @@ from redis_test import RedisTest
 SCRIPTS = int(os.environ.get("RB_BROKER_SCRIPTS", "200"))
 """How many random scripts are compared."""
 
-PASSED_OVER = {
-    "no run goes on behind a history that is not legal": "`rb_broker replay` tests whether a history is legal",
-}
-"""Cases that the command does not pass, with the reason."""
-
 
 class RunHere:
     """A run of the command in a thread of this process, as a `Program` sees a process."""
@@ -74,14 +69,13 @@ class Here(Program):
 
 
 class CasesTest(RedisTest):
-    def test_each_case_passes_or_is_passed_over_by_name(self) -> None:
+    def test_each_case_passes(self) -> None:
         program, tried = Here(self.node.url), 0
         for case in (it for file in sorted(CASES.glob("*.case")) for it in read_cases(str(file))):
             if case.is_script and not reason_to_skip(case, []):
                 tried += 1
                 with self.subTest(case.name, file=case.file, line=case.line):
-                    differs = difference(program, case, [])
-                    self.assertEqual(bool(differs), case.name in PASSED_OVER, differs)
+                    self.assertFalse(difference(program, case, []))
         self.assertGreater(tried, 70)
 
 

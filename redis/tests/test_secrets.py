@@ -12,7 +12,7 @@ from unittest import mock
 from encryption import Certificates  # of the tests of clients/python
 from gateway_test import GatewayTest
 from gateways import Gateway
-from nodes import Node, free_port
+from nodes import Node, Process, free_port, wait_until
 from rb_broker_redis.address import read_address
 from rb_broker_redis.ending import Failed
 from rb_broker_redis.words import address_in
@@ -46,6 +46,17 @@ class PasswordTest(GatewayTest):
 
     def test_the_environment_has_the_password(self) -> None:
         self.assert_serves_in_secret(self.gateway(redis="", RB_BROKER_REDIS=self.url))
+
+    def test_sentinels_have_a_password_of_their_own(self) -> None:
+        port, conf = free_port(), self.room / "sentinel.conf"
+        conf.write_text(f"port {port}\nbind {HOST}\ndir {self.room}\nrequirepass sesame\n"
+                        f"sentinel monitor main {HOST} {self.node.port} 1\nsentinel auth-pass main {PASSWORD}\n")
+        sentinel = self.till_end(Process(["redis-sentinel", str(conf)], self.room / "sentinel.log"))
+        sentinel.start()
+        file = self.room / "redis.url"
+        file.write_text(f"redis+sentinel://:{PASSWORD}@{HOST}:{port}/main?sentinel_password=sesame")
+        wait_until(lambda: self.ran("dead", "--redis", f"@{file}") == (0, [], ""), "no Sentinel names the node", 10)
+        self.assert_talk(self.talker(self.gateway(redis=f"@{file}")), "SIZE = SIZE 0")
 
     def test_a_wrong_environment_is_named(self) -> None:
         for wrong, why in (("localhost", "this is no address of a Redis"), ("@nowhere", "No such file or directory")):

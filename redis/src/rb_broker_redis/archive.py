@@ -92,7 +92,7 @@ class Archive:
         if before is None:
             raise Conflict(f"{self._source.name}: event {first} is next, and no file in {self._folder.path} ends there: "
                            "bring that file back, or begin a new series with --anew")
-        return read_text(before.path)
+        return read_text(before.path).copy()
 
     def _followed(self, follow: Callable[[bytes], None], first: int, count: int) -> Iterator[bytes]:
         """The events, each of which was followed."""

@@ -11,7 +11,7 @@ from pathlib import Path
 
 from .archive import Archive
 from .archive_folder import ArchiveFolder
-from .ending import FAULTS, fail
+from .ending import FAULTS, REDIS_FAULTS, fail
 from .history import MOST_EVENTS
 from .protocol import SECOND
 from .queue_events import QueueEvents
@@ -57,17 +57,32 @@ def add_to(commands: argparse._SubParsersAction[Parser]) -> None:
 def run(asked: argparse.Namespace) -> int:
     """Takes the events once, or again and again."""
     with contextlib.closing(ArchiveFolder(asked.folder)) as folder:
-        sources = [QueueEvents(it) for it in queues_in(asked)]
-        if asked.anew:
-            for it in sources:
-                print(f"{it.name}: {it.begin_anew()} events are given up", flush=True)
-        archives = [Archive(it, folder, asked.events) for it in sources]
         if asked.every is None:
-            return _take(archives)
-        signal.signal(signal.SIGTERM, lambda *_: sys.exit(0))
+            return _take(_archives(asked, folder))
+        signal.signal(signal.SIGTERM, _end)
         seconds = asked.every / SECOND
+        archives: list[Archive] = []
         while True:
-            time.sleep(seconds if _take(archives) == 0 else min(seconds, SOON))
+            try:
+                archives = archives or _archives(asked, folder)
+            except REDIS_FAULTS as fault:  # there may be no Redis yet
+                fail(fault)
+            time.sleep(seconds if archives and _take(archives) == 0 else min(seconds, SOON))
+
+
+def _end(*_: object) -> None:
+    """Ends at a signal; the next one ends at once."""
+    signal.signal(signal.SIGTERM, signal.SIG_DFL)
+    sys.exit(0)
+
+
+def _archives(asked: argparse.Namespace, folder: ArchiveFolder) -> list[Archive]:
+    """That of each queue, which begins anew if it is to."""
+    sources = [QueueEvents(it) for it in queues_in(asked)]
+    if asked.anew:
+        for it in sources:
+            print(f"{it.name}: {it.begin_anew()} events are given up", flush=True)
+    return [Archive(it, folder, asked.events) for it in sources]
 
 
 def _take(archives: Sequence[Archive]) -> int:

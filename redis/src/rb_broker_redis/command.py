@@ -1,6 +1,7 @@
 """rb_broker's line protocol over queues that stand in a Redis: python3 -m rb_broker_redis COMMAND .."""
 from __future__ import annotations
 
+import logging
 
 from . import archive_command, dead_command, load, script, serve, shards_command
 from .ending import FAULTS, NAME, fail
@@ -22,6 +23,7 @@ def parser() -> Parser:
 def main(words: list[str] | None = None) -> int:
     """Runs the command that these words ask for. Returns the exit status."""
     asked = parser().parse_args(words)
+    logging.getLogger("redis").addHandler(logging.NullHandler())  # whose word on a fault is a traceback
     try:
         return int(asked.run(asked))
     except FAULTS as fault:

@@ -4,6 +4,7 @@ from __future__ import annotations
 import sys
 
 import redis
+from redis.exceptions import RedisClusterException
 
 NAME = "rb_broker_redis"
 
@@ -16,7 +17,10 @@ class Failed(Exception):
         self.status = status
 
 
-FAULTS = (Failed, redis.RedisError, OSError)
+REDIS_FAULTS = (redis.RedisError, RedisClusterException)
+"""What redis-py raises; that of a Cluster, as where a slot has no node, is no `RedisError`."""
+
+FAULTS = (Failed, *REDIS_FAULTS, OSError)
 """What may keep a command from going on."""
 
 
@@ -26,4 +30,4 @@ def fail(fault: Exception) -> int:
     print(f"{NAME}: {why}", file=sys.stderr, flush=True)
     if isinstance(fault, Failed):
         return fault.status
-    return 3 if isinstance(fault, redis.RedisError) else 2
+    return 3 if isinstance(fault, REDIS_FAULTS) else 2

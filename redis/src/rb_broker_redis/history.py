@@ -2,7 +2,10 @@
 from __future__ import annotations
 
 import gzip
+import heapq
 import re
+import shutil
+import subprocess
 import zlib
 from collections.abc import Iterable, Iterator
 from pathlib import Path
@@ -28,11 +31,11 @@ _ELEMENT = rb"(?:%b ){4}(?:[1-9][0-9]{0,2}|1000) [!-~]{1,64}" % _NUMBER
 _EVENT = re.compile(rb"%b (%b) (%b) (?:" % (_NUMBER, _NUMBER, _NUMBER) + b"|".join([
     rb"offer (?P<offer>%b)" % _ELEMENT,
     rb"(?:poll|take|pollfor %b %b) (?:(?P<gave>%b)|none)" % (_NUMBER, _NUMBER, _NUMBER),
-    rb"drain %b(?P<drained>(?: %b)*)" % (_NUMBER, _NUMBER),
+    rb"drain (?P<most>%b)(?P<drained>(?: %b)*)" % (_NUMBER, _NUMBER),
     rb"remove (?:(?P<removed>%b) yes|%b no)" % (_NUMBER, _NUMBER),
     rb"(?P<clear>clear)",
     rb"size (?P<size>%b)" % _NUMBER,
-    rb"peek (?:%b|none)" % _NUMBER,
+    rb"peek (?P<peeked>%b|none)" % _NUMBER,
 ]) + rb")")
 _EARLIER_ELEMENT = re.compile(rb"((?:%b %b %b offer|keep) %b (%b) (%b)) ([1-9][0-9]{0,2}|1000) ([!-~]{1,64})\n" % (
     (_NUMBER,) * 6))
@@ -66,7 +69,7 @@ class Element(NamedTuple):
 class FollowedQueue:
     """The elements in a queue, by their ids in rising order, followed event by event.
 
-    Whether an element of an earlier expiry was passed over is not tested: `rb_broker replay` does that.
+    Whether an element of an earlier expiry was passed over is not tested: `LegalQueue` does that.
     """
 
     def __init__(self, next_id: int = 0, last: int = 0) -> None:
@@ -111,19 +114,19 @@ class FollowedQueue:
         at = int(match[2])
         if at != max(int(match[1]), self.last) or at > GREATEST_NUMBER:
             raise Damaged("its moment is not the later of the one asked and the last")
-        self.offered, self.gave = None, []
+        self.offered, self.gave, self.last = None, [], at
         act = match.lastgroup
         if act == "offer":
             self._offer(match["offer"])
         elif act == "gave" or act == "drained":
-            self.gave = [self._leave(id) for id in match[act].split()]
+            self.gave = [self._give(id) for id in match[act].split()]
         elif act == "removed":
             self._leave(match["removed"])
         elif act == "clear":
             self._clear()
         elif act == "size":
             self._test_size(int(match["size"]))
-        self.last = at
+        self._test_none(match)
 
     def opening(self) -> Iterator[bytes]:
         """The `open` line of a run that continues here, and its `keep` lines."""
@@ -147,6 +150,12 @@ class FollowedQueue:
         if size != len(self.elements):
             raise Damaged(f"the queue holds {len(self.elements)}")
 
+    def _test_none(self, event: re.Match[bytes]) -> None:
+        """Tests an event for what it did not find."""
+
+    def _give(self, id: bytes) -> bytes:
+        return self._leave(id)
+
     def _leave(self, id: bytes) -> bytes:
         words = self.elements.pop(int(id), None)
         if words is None:
@@ -154,9 +163,64 @@ class FollowedQueue:
         return words
 
 
-def read_text(path: Path) -> FollowedQueue:
+class LegalQueue(FollowedQueue):
+    """Also tests that what was given was the earliest and had expired, and that where nothing was found, nothing was to
+    be found. It takes the more time for it."""
+
+    def __init__(self, next_id: int = 0, last: int = 0) -> None:
+        super().__init__(next_id, last)
+        self._expiries: list[tuple[int, int]] = []  # a heap, with the ids; of elements that are there, and of others
+
+    def keep(self, words: bytes) -> None:
+        super().keep(words)
+        self._push(words)
+
+    def _offer(self, words: bytes) -> None:
+        super()._offer(words)
+        self._push(words)
+
+    def _push(self, words: bytes) -> None:
+        id, expiry, _ = words.split(b" ", 2)
+        heapq.heappush(self._expiries, (int(expiry), int(id)))
+
+    @property
+    def _earliest(self) -> int | None:
+        """The expiry of the earliest element, if there is one."""
+        while self._expiries and self._expiries[0][1] not in self.elements:
+            heapq.heappop(self._expiries)
+        return self._expiries[0][0] if self._expiries else None
+
+    def _has_expired(self) -> bool:
+        return self._earliest is not None and self._earliest <= self.last
+
+    def _give(self, id: bytes) -> bytes:
+        self._test_earliest(id)
+        if not self._has_expired():
+            raise Damaged(f"element {id.decode()} has not expired")
+        return super()._give(id)
+
+    def _test_earliest(self, id: bytes) -> None:
+        words = self.elements.get(int(id))
+        if words and int(words.split(b" ", 2)[1]) != self._earliest:
+            raise Damaged(f"element {id.decode()} is not the earliest")
+
+    def _test_none(self, event: re.Match[bytes]) -> None:
+        peeked, most = event["peeked"], event["most"]
+        if peeked == b"none" and self.elements:
+            raise Damaged("the queue is not empty")
+        if peeked not in (None, b"none"):
+            if int(peeked) not in self.elements:
+                raise Damaged(f"element {peeked.decode()} is not in the queue")
+            self._test_earliest(peeked)
+        gives_less = most is not None and len(self.gave) < int(most) or most is None and peeked is None and (
+            event[0].endswith(b" none"))
+        if gives_less and self._has_expired():
+            raise Damaged("an element has expired, and is not given")
+
+
+def read_text(path: Path) -> LegalQueue:
     """The queue at the end of a text, which is read whole, in any version, also if gzip has compressed it. Raises a
-    `Damaged` that names the file and the line."""
+    `Damaged` that names the file and the line if it is none, or says what no queue does."""
     opened: BinaryIO | gzip.GzipFile = gzip.GzipFile(path) if path.suffix == ".gz" else open(path, "rb")
     with opened as file:
         reader = _Reader(file)
@@ -176,7 +240,7 @@ class _Reader:
         self._version = 3
         self._firsts: dict[bytes, bytes] = {}  # the first expiry of each job, by its origin
 
-    def read(self) -> FollowedQueue:
+    def read(self) -> LegalQueue:
         header = self._line()
         self._version = 3 if header == HEADER else EARLIER.get(header, 0)
         if not self._version:
@@ -184,7 +248,7 @@ class _Reader:
         next_id = opened_at = kept = 0
         if self._version > 1:
             next_id, opened_at, kept = map(int, self._matched(_OPEN, "no `open` line").groups())
-        queue = FollowedQueue(next_id, opened_at)
+        queue = LegalQueue(next_id, opened_at)
         for _ in range(kept):
             queue.keep(self._matched(_KEEP, "no `keep` line")[1])
         for count in range(MOST_EVENTS + 1):
@@ -221,3 +285,13 @@ class _Reader:
         if match is None:
             raise Damaged(otherwise)
         return match
+
+
+def read_judged(path: Path) -> LegalQueue:
+    """The same, once `rb_broker replay` has judged the text too, where that is on the path and the text not compressed."""
+    program = shutil.which("rb_broker")
+    if program and path.suffix != ".gz":
+        ran = subprocess.run([program, "replay", path], capture_output=True, text=True, check=False)
+        if ran.returncode == 1:
+            raise Damaged(f"{path}: rb_broker replay: {ran.stdout.strip()}")
+    return read_text(path)

@@ -13,7 +13,7 @@ import redis
 
 from .dates import date_text, nanoseconds_of
 from .ending import Failed
-from .history import GREATEST_ID, MOST_KEPT, Element, FollowedQueue, read_text
+from .history import GREATEST_ID, MOST_KEPT, Element, FollowedQueue, read_judged
 from .protocol import GREATEST_NUMBER
 from .queue import Queue
 from .shards import Rendezvous
@@ -128,7 +128,7 @@ def run(asked: argparse.Namespace) -> int:
         return 0
     if not asked.histories or len(asked.histories) != len(asked.began):
         asked.parser.error("there is a HISTORY, and a --began for each")
-    runs = [read_text(it) for it in asked.histories]
+    runs = [read_judged(it) for it in asked.histories]
     left = left_by(runs, [run.opened_at if it is None else it for run, it in zip(runs, asked.began)])
     if asked.show:
         _show(left)

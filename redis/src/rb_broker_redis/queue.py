@@ -33,7 +33,8 @@ def connect(address: Address) -> Client:
     if address.kind is Kind.CLUSTER:
         return RedisCluster(startup_nodes=[ClusterNode(*host) for host in address.hosts], **login)
     if address.kind is Kind.SENTINEL:
-        sentinels = Sentinel(list(address.hosts), socket_timeout=PATIENCE)
+        for_sentinels: dict[str, Any] = {**address.sentinel_login, "socket_timeout": PATIENCE}
+        sentinels = Sentinel(list(address.hosts), sentinel_kwargs=for_sentinels)
         client: redis.Redis[bytes] = sentinels.master_for(address.master, db=address.database, **login)
         return client
     host, port = address.hosts[0]

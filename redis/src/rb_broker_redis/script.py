@@ -11,7 +11,7 @@ from pathlib import Path
 from typing import BinaryIO
 
 from .ending import Failed
-from .history import GREATEST_ID, HEADER, MOST_KEPT, Damaged, FollowedQueue, read_text
+from .history import GREATEST_ID, HEADER, MOST_KEPT, Damaged, FollowedQueue, read_judged
 from .protocol import MOST_CALLS, ErrorReply
 from .queue import Queue, connect
 from .request import Kind, LineCutter, read_request
@@ -64,7 +64,7 @@ def opening_of(path: str | None) -> FollowedQueue:
         return FollowedQueue()
     try:
         with ends_with("cannot read history"):
-            queue = read_text(Path(path))
+            queue = read_judged(Path(path))
     except Damaged:
         raise Failed("bad opening") from None
     if queue.next_id > GREATEST_ID or len(queue.elements) > MOST_KEPT:
