@@ -1,6 +1,7 @@
 """Tests with gateways of their own."""
 from __future__ import annotations
 
+import signal
 import ssl
 
 from gateways import Gateway
@@ -16,7 +17,7 @@ class GatewayTest(RedisTest):
 
     def serve(self, *options: object) -> Gateway:
         """A gateway whose failed jobs come back at once, with patience for a Redis on a busy machine."""
-        return self.gateway("--delay", 0, "--attempts", 3, "--timeout", "60s", *options)
+        return self.gateway("--delay", 0, "--attempts", 3, "--timeout", "60s", "--grace", 0, *options)
 
     def talker(
         self, served: Gateway | None = None, *options: object, tls: ssl.SSLContext | None = None
@@ -46,9 +47,9 @@ class GatewayTest(RedisTest):
         self.begin_wait(talker, request)
         self.assertTrue(talker.is_silent(0.3))
 
-    def assert_ends_well(self, served: Gateway, sessions: int) -> None:
-        """A gateway that had so many sessions ends in good order, and says that no job is lost."""
-        self.assertEqual((served.end(), served.said.splitlines()[1:]), (0, [f"sessions {sessions} lost 0"]))
+    def assert_ends_well(self, served: Gateway, sessions: int, number: int = signal.SIGTERM) -> None:
+        """A gateway that had so many sessions ends in good order by this signal, and says that no job is lost."""
+        self.assertEqual((served.end(number), served.said.splitlines()[1:]), (0, [f"sessions {sessions} lost 0"]))
 
     def held(self) -> int:
         """How many jobs of the queue are held."""

@@ -307,3 +307,19 @@ class SessionTest(unittest.IsolatedAsyncioTestCase):
         self.session.stop()
         self.assert_sent(b"STOPPED\n")
         self.assert_ends()
+
+    async def test_a_session_that_retires_ends_once_it_holds_nothing(self) -> None:
+        self.session.data_received(b"DRAIN 5\n")
+        self.assert_exchange({b"7 DRAIN 5": b"DRAINED 2\nITEM 0 5 1 a\nITEM 1 5 1 b\n"})
+        self.gateway.waits.longest = 0
+        self.session.retire()
+        self.assert_idle()
+        self.session.data_received(b"SIZE\nDONE 0\nTAKE\n")
+        self.assert_exchange({b"7 SIZE": b"SIZE 0\n", b"7 DONE 0": b"DONE 0\n"})
+        while not self.transport.sent:
+            await asyncio.sleep(0)
+        self.assert_sent(b"STOPPED\n")
+        self.assert_idle()
+        self.session.data_received(b"FAIL 1\nSIZE\n")
+        self.assert_exchange({b"7 FAIL 1": b"AGAIN 2 5\n", b"7 SIZE": b"SIZE 1\n"})
+        self.assert_ends()

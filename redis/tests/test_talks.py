@@ -2,6 +2,7 @@
 from __future__ import annotations
 
 import re
+import signal
 import socket
 import time
 from collections.abc import Callable, Iterator, Mapping
@@ -16,6 +17,7 @@ TALKS = Path(__file__).with_name("talks.txt")
 
 OF_PROCESSES: Mapping[str, Callable[[Process], object]] = {
     "is killed": Process.kill, "starts": lambda it: it.start(), "stands still": Process.pause, "goes on": Process.go_on,
+    "is asked to end": lambda it: it.signal(signal.SIGTERM),
 }
 OF_CLIENTS: Mapping[str, Callable[[Talker], object]] = {
     "hangs up": Talker.hang_up, "resets": Talker.reset, "sends no more": lambda it: it.socket.shutdown(socket.SHUT_WR),
@@ -44,7 +46,8 @@ class TalkTest(GatewayTest):
             elif subject == "redis":
                 self.ask(*rest.partition(" = ")[::2])
             elif subject in self.processes:
-                self.assert_ends_well(self.processes[subject], self.sessions[subject])
+                number = 0 if rest == "has ended" else signal.SIGTERM
+                self.assert_ends_well(self.processes[subject], self.sessions[subject], number)
             else:
                 for step in rest.split(" | "):
                     self.talk(self.client(subject, step), step, line)

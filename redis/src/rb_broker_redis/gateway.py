@@ -65,11 +65,17 @@ class Gateway:
             lambda: Session(self), host, port, ssl=tls, backlog=1_024, reuse_address=True)
         return int(self._server.sockets[0].getsockname()[1])
 
-    async def stop(self) -> tuple[int, int]:
-        """Ends in good order: no further client is served, waits are answered STOPPED, and sessions end. Returns how
-        many sessions there were, and how many jobs were lost."""
+    async def stop(self, grace: int) -> tuple[int, int]:
+        """Ends in good order: no further client is served, waits are answered STOPPED, and sessions end, as soon as they
+        hold nothing or when the time of grace is over. Returns how many sessions there were, and how many jobs were
+        lost."""
         self._server.close()
         self._all_ended.clear()
+        if grace:
+            for session in list(self._sessions):
+                session.retire()
+            if self._sessions:
+                await is_set_in_time(self._all_ended, grace / SECOND)
         self.stop_all()
         if self._sessions and not await is_set_in_time(self._all_ended, SECONDS_TO_END):
             LOG.warning("%d sessions did not end, and will when the lease is over", len(self._sessions))

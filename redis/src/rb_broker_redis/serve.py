@@ -47,6 +47,8 @@ def add_to(commands: argparse._SubParsersAction[Parser]) -> None:
         help="a TAKE or POLLFOR waits so long at most (default: 1s)")
     add("--lease", metavar="TIME", type=duration, default=15 * SECOND,
         help="the sessions of a gateway that dies end after this time, 1s or more (default: 15s)")
+    add("--grace", metavar="TIME", type=duration, default=30 * SECOND,
+        help="at SIGTERM, sessions that hold jobs may end these for so long; nothing is fetched (default: 30s)")
     add("--timeout", metavar="TIME", type=duration, default=5 * SECOND,
         help="a Redis that does not answer for so long is given up (default: 5s)")
     add("--replicas", metavar="N", type=whole(0, 100), default=0,
@@ -122,7 +124,7 @@ async def serve(asked: argparse.Namespace) -> int:
         logging.warning("PLAIN: whoever reaches %s:%d is let in, and reads what others send", asked.bind, port)
     print(f"listening {asked.bind}:{port}", flush=True)
     await stopped.wait()
-    count, lost = await gateway.stop()
+    count, lost = await gateway.stop(asked.grace)
     print(f"sessions {count} lost {lost}", flush=True)
     return 0
 

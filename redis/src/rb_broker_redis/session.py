@@ -6,8 +6,9 @@ import socket
 from collections import deque
 from typing import TYPE_CHECKING, cast
 
-from .protocol import ErrorReply
+from .protocol import SECOND, ErrorReply
 from .request import Kind, LineCutter, read_request, refused
+from .turns import FETCHES
 from .waits import LATER, STOPPED, Wait
 
 if TYPE_CHECKING:
@@ -32,6 +33,15 @@ NO_WAIT = b"POLLFOR 0"
 TRUNCATED = refused(ErrorReply.LINE)
 
 
+def more_held_by(reply: bytes) -> int:
+    """How many more jobs a session holds behind this reply."""
+    if reply.startswith(b"ITEM"):
+        return 1
+    if reply.startswith(b"DRAINED"):
+        return int(reply.partition(b"\n")[0].split(b" ")[1])
+    return -1 if reply.startswith((b"DONE", b"AGAIN", b"DEAD")) else 0
+
+
 class Session(asyncio.Protocol):
     """A connection of a client. While calls of it are under way it is busy, and further lines wait."""
 
@@ -49,6 +59,10 @@ class Session(asyncio.Protocol):
         self._wait: Wait | None = None
         self._is_busy = False
         self._has_called = False
+        self._held = 0
+        """How many jobs it holds."""
+        self._is_retiring = False
+        """It fetches nothing more, and ends once it holds nothing."""
         self._is_at_end = False
         """No further line comes: its client has closed its side, or it is to end."""
         self._is_gone = False
@@ -100,6 +114,14 @@ class Session(asyncio.Protocol):
         if not self._is_busy:
             self._go_on()
 
+    def retire(self) -> None:
+        """Fetches nothing more, and ends in good order once it holds nothing."""
+        self._is_retiring = True
+        if self._wait:
+            self._gateway.waits.give_up(self._wait)
+        elif not self._is_busy:
+            self._go_on()
+
     def stop(self) -> None:
         """Ends it in good order: what is under way is answered, and no further line is carried out. If it has ended at
         the queue, what is under way is refused there."""
@@ -121,10 +143,15 @@ class Session(asyncio.Protocol):
 
     def _go_on(self) -> None:
         """Carries out the next lines, up to one that may wait."""
+        if self._is_retiring and not self._held:
+            self._come_to_rest()
         if self._lines and self._seat and not self._is_full:
             self._is_busy = True
             calls = self._calls_of_next()
-            if calls:
+            if self._wait_request and not calls:  # it fetches nothing more
+                seconds = self._gateway.waits.longest / SECOND
+                asyncio.get_running_loop().call_later(seconds, self._wait_ended, STOPPED)
+            elif calls:
                 self._has_called = True
                 self._gateway.calls.submit(calls, self._answered)
             elif self._lines:  # other sessions come before more refusals of this one
@@ -138,6 +165,11 @@ class Session(asyncio.Protocol):
         if self._is_at_end and not self._lines:
             self._end()
 
+    def _come_to_rest(self) -> None:
+        """No further line is carried out."""
+        self._lines.clear()
+        self._is_at_end = True
+
     def _calls_of_next(self) -> list[bytes]:
         calls: list[bytes] = []
         plan: list[bytes | None] = []
@@ -145,6 +177,14 @@ class Session(asyncio.Protocol):
         while lines and len(plan) < MOST_AT_ONCE:
             line = lines.popleft()
             kind, text = TRUNCATED if line is None else read_request(line)
+            if self._is_retiring and text.startswith(FETCHES):
+                if plan:
+                    lines.appendleft(line)
+                elif kind is Kind.WAIT:
+                    self._wait_request = text
+                else:
+                    self._come_to_rest()
+                break
             if kind is Kind.CALL:
                 calls.append(seat + text)
                 plan.append(None)
@@ -154,8 +194,7 @@ class Session(asyncio.Protocol):
                 self._wait_request = text
                 break
             elif kind is Kind.QUIT:
-                lines.clear()
-                self._is_at_end = True
+                self._come_to_rest()
                 plan.append(BYE)
                 break
             else:
@@ -172,7 +211,7 @@ class Session(asyncio.Protocol):
         later = self._send(replies)
         if later:
             self._begin_wait(later)
-        elif self._lines or self._is_at_end or self._is_paused:
+        elif self._lines or self._is_at_end or self._is_paused or self._is_retiring:
             self._go_on()
 
     def _send(self, replies: list[bytes]) -> bytes | None:
@@ -182,6 +221,7 @@ class Session(asyncio.Protocol):
             later = replies.pop()
         else:
             self._wait_request = b""
+        self._held += sum(map(more_held_by, replies))
         plan = self._plan
         if len(plan) > 1 or plan and plan[0] is not None:
             given = iter(replies)

@@ -68,7 +68,7 @@ class Waits:
         self, queues: Sequence[Calls], longest: int, front_of: Callable[[int, bytes], bytes] = lambda queue, seat: seat,
         seen: Callable[[int, bytes, bytes], bytes] = lambda queue, seat, reply: reply,
     ) -> None:
-        self._queues, self._longest, self._front_of, self._seen = queues, longest, front_of, seen
+        self._queues, self.longest, self._front_of, self._seen = queues, longest, front_of, seen
         self._waiting: Waiting[Wait] = Waiting()
         self._loop = asyncio.get_event_loop()
         self._timer: asyncio.TimerHandle | None = None
@@ -79,7 +79,7 @@ class Waits:
 
     def begin(self, seat: bytes, request: bytes, reply: bytes, answered: WaitAnswered) -> Wait:
         """A request, whose reply was LATER, waits."""
-        laters, longest, asks_at_end = laters_in(reply), self._longest, False
+        laters, longest, asks_at_end = laters_in(reply), self.longest, False
         calls = [self._front_of(queue, seat) + request for queue in range(len(laters))]
         if request != b"TAKE":
             timeout = int(request.split()[1])
