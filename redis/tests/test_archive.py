@@ -144,12 +144,12 @@ class FilesTest(ArchiveTest):
             self.take(4)  # behind the fourth event are two
             self.assertEqual(self.file(0).read_bytes(), FIRST)
             self.assertEqual(self.file(3).read_bytes(), SECOND.replace(b"end 3\n", b"2 17 17 poll none\nend 4\n"))
-        events = [b"1 5 5 offer 0 5 0 5 1 a", b"1 6 6 size 1", b"1 7 7 size 1"]
-        self.source = ListSource([], "full")
-        with mock.patch.object(cuts, "MOST_KEPT", 0):
-            self.assertEqual(self.take(1, events[:1]), [])
-            self.assert_conflict("^full: more than 1,000,000 elements are in the queue, with which ", 1, events)
-        self.assertEqual(self.source.list, events)
+        with mock.patch.object(cuts, "MOST_KEPT", 0):  # where no place is better, they leave the Redis all the same
+            self.source = ListSource(EVENTS[:1], "full")
+            file = self.folder / f"full-{0:012}.txt"
+            self.assertEqual(self.take(), [f"full: 1 events in {file}; more than 1,000,000 elements are left at its end, so"
+                                           " `replay --chains` refuses the next file"])
+        self.assertEqual(self.source.list, [])
 
     def test_the_last_file_opens_the_next_run(self) -> None:
         self.take()

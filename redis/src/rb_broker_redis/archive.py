@@ -37,9 +37,10 @@ class Archive:
             if not cut.count:
                 return
             file = self._take(position.first, cut.count)
-            yield (f"{self._source.name}: {file.count} events in {file.path}" + (
-                f"; {cut.crossed} jobs that were in hand at its end came back later, so `replay --chains` refuses the next"
-                " file" if cut.crossed else ""))
+            why = (f"more than {MOST_KEPT:,} elements are left at its end" if cut.is_too_large else
+                   f"{cut.crossed} jobs that were in hand at its end came back later" if cut.crossed else "")
+            yield f"{self._source.name}: {file.count} events in {file.path}" + (
+                f"; {why}, so `replay --chains` refuses the next file" if why else "")
             position = self._source.position()
 
     def _settle(self) -> Iterator[str]:
@@ -65,11 +66,7 @@ class Archive:
         """Where the next file ends."""
         cuts = Cuts(self._opening(position.first).copy())
         collections.deque(self._followed(cuts.follow, position.first, position.waiting), maxlen=0)
-        cut = cuts.best(position.in_hand, self._most, position.settled)
-        if not cut.count and position.waiting >= 2 * self._most:
-            raise Conflict(f"{self._source.name}: more than {MOST_KEPT:,} elements are in the queue, with which no "
-                           "history can begin; the events stay in the Redis until there are fewer")
-        return cut
+        return cuts.best(position.in_hand, self._most, position.settled)
 
     def _take(self, first: int, count: int) -> ArchivedFile:
         """Writes the next file, of this many events, and takes them out."""

@@ -21,6 +21,8 @@ class Cut:
     """The number of events in front of it; with 0 there is no place."""
     crossed: int
     """How many jobs come back behind it that were given in front of it."""
+    is_too_large: bool = False
+    """Whether the queue has more elements there than `replay` lets a file begin with."""
 
 
 class Cuts:
@@ -31,7 +33,7 @@ class Cuts:
         self._given: dict[bytes, int] = {}  # which event gave a job last, by the job's origin
         # By the number of events in front of a cut: how many more jobs cross it than cross the one before.
         self._crossings = array("i", [0])
-        self._too_large: list[int] = []  # the cuts at which the queue has more elements than a file can begin with
+        self._too_large: set[int] = set()  # the cuts at which the queue has more elements than a file can begin with
 
     def follow(self, line: bytes) -> None:
         """Takes the next event. Raises a `Damaged`."""
@@ -46,7 +48,7 @@ class Cuts:
                 self._crossings[self._given.pop(origin) + 1] += 1
                 self._crossings[event + 1] -= 1
         if len(queue.elements) > MOST_KEPT:
-            self._too_large.append(event + 1)
+            self._too_large.add(event + 1)
 
     def best(self, in_hand: Iterable[bytes], most: int, settled: int) -> Cut:
         """The last good place behind at most so many events, and no more than are settled: the jobs of these origins were
@@ -57,10 +59,16 @@ class Cuts:
         for origin in in_hand:
             if origin in self._given:
                 self._crossings[self._given.pop(origin) + 1] += 1
-        best, crossed, too_large = Cut(0, most), 0, set(self._too_large)
-        for count, more in enumerate(self._crossings[:min(most, settled) + 1]):
+        last, too_large = min(most, settled), self._too_large
+        best = self._best(last, most, too_large)
+        return best if best.count or not too_large.issuperset(range(1, last + 1)) else self._best(last, most, set())
+
+    def _best(self, last: int, most: int, passed_over: set[int]) -> Cut:
+        """The same, with the last place that there may be, and without some."""
+        best, crossed = Cut(0, most), 0
+        for count, more in enumerate(self._crossings[:last + 1]):
             crossed += more
-            if count and crossed <= best.crossed and count not in too_large:
-                best = Cut(count, crossed)
+            if count and crossed <= best.crossed and count not in passed_over:
+                best = Cut(count, crossed, count in self._too_large)
         must_cut = len(self._crossings) > 2 * most
         return best if best.crossed == 0 or must_cut and best.count else Cut(0, 0)
