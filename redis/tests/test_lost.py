@@ -18,9 +18,12 @@ from itertools import count
 from pathlib import Path
 from typing import NamedTuple
 
+import redis
+
 from gateways import Gateway
 from nodes import ALWAYS, EVERYSEC, FORGETFUL, PATIENCE, Node, Replicas, Sentinels, wait_until
 from redis_test import RoomTest
+from serving import HOST
 from serving.session import Session
 
 ROUNDS = int(os.environ.get("RB_BROKER_ROUNDS", 1))
@@ -196,3 +199,45 @@ class FailOverTest(LostTest):
             total = self.tried(f"--replicas 1, {'cut off for 0.3 s, ' if is_cut_off else ''}kill, fail-over",
                                self.failed_over(is_cut_off, "--replicas", 1))
             self.assertEqual(total.lost, 0)
+
+
+class TwoReplicasTest(LostTest):
+    """A primary with two replicas, under Sentinel."""
+
+    def struck(self, strike: Callable[[Sentinels], None], *options: object) -> Callable[[Path], Lost]:
+        """Something befalls the primary, and another node has its place."""
+
+        def round_of(room: Path) -> Lost:
+            watched = Replicas(room / "nodes", 2, ALWAYS)
+            sentinels = Sentinels(room / "sentinels", watched)
+            try:
+                offers, struck = self.offered_until(room, sentinels.url, lambda: self.replace(sentinels, strike), *options)
+                return self.missing(offers, struck, sentinels.primary())
+            finally:
+                sentinels.kill()
+                watched.kill()
+
+        return round_of
+
+    def replace(self, sentinels: Sentinels, strike: Callable[[Sentinels], None]) -> None:
+        before = sentinels.primary()
+        strike(sentinels)
+        wait_until(lambda: sentinels.primary() is not before and sentinels.primary().replication()["role"] == "master",
+                   "no replica takes over")
+        before.go_on()
+        wait_until(lambda: before.replication()["role"] == "slave", "the primary before does not follow")
+
+    def fail_over(self, sentinels: Sentinels) -> None:
+        """As planned."""
+        redis.Redis(HOST, sentinels.ports[0]).execute_command("SENTINEL", "FAILOVER", sentinels.name)
+
+    def test_planned_fail_overs(self) -> None:
+        self.tried("2 replicas, --replicas 1, SENTINEL FAILOVER", self.struck(self.fail_over, "--replicas", 1))
+        total = self.tried("2 replicas, --replicas 2, SENTINEL FAILOVER", self.struck(self.fail_over, "--replicas", 2))
+        self.assertEqual(total.lost, 0)
+
+    def test_a_primary_that_stands_still(self) -> None:
+        for replicas in (1, 2):
+            total = self.tried(f"2 replicas, --replicas {replicas}, primary stands still",
+                               self.struck(lambda it: it.primary().pause(), "--replicas", replicas))
+        self.assertEqual(total.lost, 0)

@@ -89,9 +89,13 @@ class FaultyRedisTest(TalkTest):
 
     def test_too_few_replicas_leave_a_call_in_doubt(self) -> None:
         self.play(["gateway g --replicas 1 --timeout 3s", "c > OFFER 0 a", "c ends"])
-        replica = self.till_end(Node(self.room / "replica", [*ALWAYS, "--replicaof", HOST, self.node.port]))
-        wait_until(lambda: replica.replication()["master_link_status"] == "up", "no replica")
-        self.play(["other OFFER 0 again = OFFERED .*"])
+        for count in (1, 2):
+            self.till_end(Node(self.room / f"replica-{count}", [*ALWAYS, "--replicaof", HOST, self.node.port]))
+            wait_until(lambda: self.node.replication()["connected_slaves"] == count, "no replica")
+            self.play([f"gateway g{count} --replicas 1", f"c{count} OFFER 0 again = OFFERED .*"])
+        few = "--replicas 1, but the Redis of queue .* has 2: a fail-over to another may lose what was answered"
+        self.assertNotRegex(self.processes["g1"].said, few)
+        self.assertRegex(self.processes["g2"].said, few)
 
     def test_a_gateway_needs_its_redis_to_begin(self) -> None:
         self.node.kill()

@@ -44,7 +44,7 @@ class Calls:
 
     def __init__(self, queue: str, *, replicas: int = 0, patience: float = 5.0) -> None:
         self._head = bulks(key.encode() for key in keys_of(queue))
-        self._replicas, self.patience = replicas, patience
+        self.replicas, self.patience = replicas, patience
         self._front = bulks([b"", b""])
         self._turns = Turns()
         self._again: list[Batch] = []
@@ -133,10 +133,10 @@ class Calls:
         calls = batch.calls()
         head = b"*%d\r\n" % (13 + len(calls)) + bulks([b"FCALL", batch.function, b"8"])
         data = b"".join([head, self._head, batch.front, bulks(calls)])
-        if not self._replicas:
+        if not self.replicas:
             link.send(data, lambda answer: self._answered(link, batch, answer))
             return
-        data += command("WAIT", self._replicas, int(self.patience * 1000))
+        data += command("WAIT", self.replicas, int(self.patience * 1000))
         before: list[Answer] = []
         link.send(data, before.append, lambda count: self._copied(link, batch, before[0], count))
 
@@ -171,7 +171,7 @@ class Calls:
 
     def _copied(self, link: Link, batch: Batch, answer: Answer, count: Answer) -> None:
         """So many replicas have what the batch did. If they are too few, a fail-over may lose it: it is in doubt."""
-        are_enough = isinstance(count, int) and count >= self._replicas
+        are_enough = isinstance(count, int) and count >= self.replicas
         self._answered(link, batch, answer if are_enough or not isinstance(answer, list) else None)
 
     def _refused(self, batch: Batch, answer: Answer) -> None:

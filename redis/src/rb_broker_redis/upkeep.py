@@ -84,6 +84,7 @@ class Upkeep:
         with closed_on_failure(link):
             await self._cut_off(link)
             await self._find_evicting(link)
+            await self._warn_of_replicas(link)
             await load_functions(link)
         return link
 
@@ -101,6 +102,14 @@ class Upkeep:
             found = re.search(rb"^maxmemory_policy:(.*)\r$", await link.ask("INFO", "memory"), re.M)
             if found and found[1] != b"noeviction":
                 raise ErrorAnswer(f"EVICTS {found[1].decode()}")
+
+    async def _warn_of_replicas(self, link: Link) -> None:
+        """Says it where replies wait for some of the replicas: another one that takes over may not have what was done."""
+        if self._calls.replicas:
+            found = re.search(rb"^connected_slaves:(\d+)", await link.ask("INFO", "replication"), re.M)
+            if found and int(found[1]) > self._calls.replicas:
+                LOG.warning("--replicas %d, but the Redis of queue %s has %d: a fail-over to another may lose what was"
+                            " answered", self._calls.replicas, self._queue, int(found[1]))
 
     async def _call(self, link: Link, function: str, *args: bytes | str | int) -> Any:
         return await link.ask("FCALL", name_of(function), len(self._keys), *self._keys, *args)
