@@ -4,6 +4,7 @@ from __future__ import annotations
 import time
 
 from gateway_test import GatewayTest
+from judging import replay_chains
 from nodes import wait_until
 
 MILLISECOND = 1_000_000
@@ -27,6 +28,18 @@ class RequestsTest(GatewayTest):
         queue = self.joined()
         queue.call("rb_calls", f"{2**63:020}", "", "0 SIZE")  # an event that is still to come
         self.assert_talk(self.talker(), f"OFFERAT {2**63} a = OFFERED 0 {2**63}", f"POLL = ITEM 0 {2**63} 1 a")
+
+
+    def test_polls_that_find_nothing_need_not_be_kept(self) -> None:
+        served = self.gateway("--brief-history", "--wait", "60s")
+        talker = self.talker(served)
+        self.assert_talk(talker, "POLL = NONE", "POLLFOR 0 = NONE", f"POLLFOR {MILLISECOND} = NONE", "DRAIN 5 = DRAINED 0")
+        self.assertEqual(self.events(), [])
+        self.assert_talk(talker, "OFFER 0 a = OFFERED .*", "POLL = ITEM .*", "POLL = NONE", "SIZE = SIZE 0", "DONE 0 = DONE 0")
+        self.assertEqual([it[3] for it in self.events()], [b"offer", b"poll", b"size"])
+        self.assertEqual(self.ran("archive", self.room / "archive")[0], 0)
+        (path,) = (self.room / "archive").iterdir()
+        self.assertEqual(replay_chains(path, 30_000_000_000, 20), 3)
 
 
 class WaitsTest(GatewayTest):

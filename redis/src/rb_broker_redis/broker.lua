@@ -23,6 +23,7 @@
 --   pace      'delay' or 'rate'                   period    its nanoseconds, 20 digits
 --   attempts  those of a job                      gateway   the number of the gateway that joined last
 --   history   'no' if no events are kept          loading   the token of a load that has not ended
+--             'brief' if those are not of a POLL, POLLFOR or DRAIN that found nothing
 --   format    the version of all this, '1' where there is none
 --   shards    how many queues there are under this name: 1, or those named NAME.0, NAME.1 and so on
 --   wake      an offer below this expiry is published: a gateway waits, and knows of none below it
@@ -48,7 +49,7 @@
 --   rb_version                                    the version of this library; it needs no keys
 --   rb_join LEASE PACE PERIOD ATTEMPTS MODE TOKEN  a gateway joins, and the queue is made if there is none.
 --       LEASE is microseconds; PACE, PERIOD and ATTEMPTS are the policy, or '' for the queue's. MODE is '', 'change' to
---       change the policy of a queue that has another, 'silent' to keep no events of a queue that is made now, or
+--       change the policy of a queue that has another, 'silent' or 'brief' to keep no events, or fewer, of a queue that is made now, or
 --       'limit N' for a queue that takes N calls. TOKEN tells it from a gateway that gets the same number after the Redis
 --       has lost this call. -> [GATEWAY, PACE, PERIOD, ATTEMPTS], or the error POLICY
 --   rb_calls MOMENT GATEWAY CALL ..               makes the calls, one after the other, in one step.
@@ -150,7 +151,7 @@ local function open(keys, moment)
         stamp = ' ' .. plain(asked) .. ' ' .. plain(at) .. ' ',
         next = tonumber(state[1]), calls = tonumber(state[3]), fetched = tonumber(state[4]), wake = state[5],
         pace = state[6], period = state[7], attempts = tonumber(state[8]), limit = tonumber(state[9] or '1e300'),
-        silent = state[10] == 'no', lines = {}, counts = {},
+        silent = state[10] == 'no', brief = state[10] == 'brief', lines = {}, counts = {},
         at_before = state[2], calls_before = tonumber(state[3]), wake_before = state[5], work = 0,
     }
 end
@@ -178,6 +179,11 @@ local function record(queue, seat, act)
     local lines = queue.lines
     lines[#lines + 1] = seat .. queue.stamp .. act
     if #lines == 1000 then append(queue) end
+end
+
+-- Records what was found, or that nothing was.
+local function record_found(queue, seat, found, act)
+    if found or not queue.brief then record(queue, seat, act) end
 end
 
 local function is_full(queue) return queue.calls >= queue.limit end
@@ -317,7 +323,7 @@ function requests.POLL(queue, seat)
     if count_of(queue, seat) >= MOST_HELD then return HELD end
     if is_full(queue) then return FULL end
     local id, item = fetch(queue, seat)
-    record(queue, seat, id and 'poll ' .. id or 'poll none')
+    record_found(queue, seat, id, 'poll ' .. (id or 'none'))
     return item or 'NONE\n'
 end
 
@@ -336,7 +342,7 @@ function requests.POLLFOR(queue, seat, timeout, start)
     if start == '' then start = queue.plain_asked end
     local id, item = fetch(queue, seat)
     if not id and (add(pad(start), pad(timeout)) or LAST) > queue.at then return later(queue, start) end
-    record(queue, seat, 'pollfor ' .. start .. ' ' .. timeout .. ' ' .. (id or 'none'))
+    record_found(queue, seat, id, 'pollfor ' .. start .. ' ' .. timeout .. ' ' .. (id or 'none'))
     return item or 'NONE\n'
 end
 
@@ -378,7 +384,7 @@ function requests.DRAIN(queue, seat, most)
         if not id then break end
         act[#act + 1], items[#items + 1] = id, item
     end
-    record(queue, seat, table.concat(act, ' '))
+    record_found(queue, seat, items[2], table.concat(act, ' '))
     items[1] = 'DRAINED ' .. whole(#items - 1) .. '\n'
     return table.concat(items)
 end
@@ -483,7 +489,8 @@ local function join_gateway(keys, args)
     end
     make_queue(keys, pace, period, attempts)
     if is_new then
-        if mode == 'silent' then redis.call('HSET', keys[4], 'history', 'no') end
+        local history = ({ silent = 'no', brief = 'brief' })[mode]
+        if history then redis.call('HSET', keys[4], 'history', history) end
         if string.sub(mode, 1, 6) == 'limit ' then redis.call('HSET', keys[4], 'limit', string.sub(mode, 7)) end
     end
     local now = microseconds()

@@ -53,7 +53,11 @@ def add_to(commands: argparse._SubParsersAction[Parser]) -> None:
         help="a Redis that does not answer for so long is given up (default: 5s)")
     add("--replicas", metavar="N", type=whole(0, 100), default=0,
         help="replies are sent once N replicas have what was done (default: 0)")
-    add("--no-history", action="store_true", help="a queue that is made now keeps no events")
+    kept = parser.add_mutually_exclusive_group()
+    kept.add_argument("--no-history", dest="mode", action="store_const", const="silent", default="",
+                      help="a queue that is made now keeps no events")
+    kept.add_argument("--brief-history", dest="mode", action="store_const", const="brief",
+                      help="it keeps none of a POLL, POLLFOR or DRAIN that found nothing, which tools/verify then misses")
     add("--allow-eviction", action="store_true",
         help="serves from a Redis whose maxmemory-policy is not noeviction, which may throw the queue away")
     add("--cert", metavar="FILE", help="the certificate with which clients are served over TLS")
@@ -112,7 +116,7 @@ async def serve(asked: argparse.Namespace) -> int:
     tls = tls_of(asked)
     gateway = Gateway(
         shard_names(asked.queue, asked.shards), wait=asked.wait, patience=asked.timeout, replicas=asked.replicas)
-    mode = "change" if asked.change_policy else "silent" if asked.no_history else ""
+    mode = "change" if asked.change_policy else asked.mode
     policy = policy_in(asked) if names_policy(asked) else NO_POLICY
     await gateway.join(address_in(asked), asked.queue, asked.lease, policy, mode, asked.allow_eviction)
     try:
