@@ -77,10 +77,14 @@ class RedisTest(RoomTest):
 
     def ran(self, *words: object) -> tuple[int, list[str], str]:
         """The status of a command, the lines that it prints, and standard error. It runs within this process."""
+        return self.ran_alone(*self.words(*words))
+
+    def ran_alone(self, *words: object) -> tuple[int, list[str], str]:
+        """The same of a command that names no Redis and no queue."""
         said, errors = io.StringIO(), io.StringIO()
         with redirect_stdout(said), redirect_stderr(errors):
             try:
-                status = main(self.words(*words))
+                status = main([*map(str, words)])
             except SystemExit as end:
                 status = end.code
         return status, said.getvalue().splitlines(), errors.getvalue()

@@ -3,11 +3,11 @@ from __future__ import annotations
 
 import logging
 
-from . import archive_command, dead_command, load, script, serve, shards_command
+from . import archive_command, dead_command, judge_command, load, script, serve, shards_command
 from .ending import FAULTS, NAME, fail
 from .words import Parser
 
-COMMANDS = (serve, script, archive_command, load, dead_command, shards_command)
+COMMANDS = (serve, script, archive_command, judge_command, load, dead_command, shards_command)
 """Each is a module with `add_to`, which adds its words and says what runs them."""
 
 

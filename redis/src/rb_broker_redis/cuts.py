@@ -50,25 +50,26 @@ class Cuts:
         if len(queue.elements) > MOST_KEPT:
             self._too_large.add(event + 1)
 
-    def best(self, in_hand: Iterable[bytes], most: int, settled: int) -> Cut:
+    def best(self, in_hand: Iterable[bytes], most: int, settled: int, must_cut: bool = False) -> Cut:
         """The last good place behind at most so many events, and no more than are settled: the jobs of these origins were
         in hand behind those.
 
-        If there is none, but twice as many events, it is the last of the places that the fewest jobs cross.
+        If there is none, but twice as many events or `must_cut`, it is the last of the places that the fewest jobs cross.
         """
         for origin in in_hand:
             if origin in self._given:
                 self._crossings[self._given.pop(origin) + 1] += 1
-        last, too_large = min(most, settled), self._too_large
-        best = self._best(last, most, too_large)
-        return best if best.count or not too_large.issuperset(range(1, last + 1)) else self._best(last, most, set())
+        last, must_cut = min(most, settled), must_cut or len(self._crossings) > 2 * most
+        best = self._best(last, must_cut, self._too_large)
+        if best.count or not self._too_large.issuperset(range(1, last + 1)):
+            return best
+        return self._best(last, must_cut, set())
 
-    def _best(self, last: int, most: int, passed_over: set[int]) -> Cut:
+    def _best(self, last: int, must_cut: bool, passed_over: set[int]) -> Cut:
         """The same, with the last place that there may be, and without some."""
-        best, crossed = Cut(0, most), 0
+        best, crossed = Cut(0, len(self._crossings)), 0
         for count, more in enumerate(self._crossings[:last + 1]):
             crossed += more
             if count and crossed <= best.crossed and count not in passed_over:
                 best = Cut(count, crossed, count in self._too_large)
-        must_cut = len(self._crossings) > 2 * most
         return best if best.crossed == 0 or must_cut and best.count else Cut(0, 0)

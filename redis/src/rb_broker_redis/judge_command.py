@@ -1,0 +1,115 @@
+"""The command `judge`, which lets the proved checker judge the files of an archive as one history."""
+from __future__ import annotations
+
+import argparse
+import shutil
+import subprocess
+import tempfile
+from collections.abc import Iterator, Sequence
+from itertools import chain
+from pathlib import Path
+
+from .cuts import Cuts
+from .ending import Failed
+from .history import HEADER, MOST_EVENTS, FollowedQueue
+from .words import Parser, add_command, add_policy_words, policy_in, whole
+
+ABOUT = """lets `rb_broker replay --chains` judge the files of an archive as one history
+
+Put together, the files have the return of a job in one text with the event that gave it, however small each of them is.
+FILES are those of one queue, in any order; each has to begin with what the one before it left. There are as few pieces
+as `replay` can take, which is 1,000,000 events each, and a piece ends where no job crosses. If there is no such place,
+it ends where the fewest cross, a line says how many these are, and the next piece is judged by `replay` alone.
+
+Status: 0; 1 if a history is refused, or the files do not follow one another; 2 if a word is wrong or a file can't be
+read; 3 if there is no `rb_broker`.
+"""
+
+
+def add_to(commands: argparse._SubParsersAction[Parser]) -> None:
+    """Adds the command."""
+    parser = add_command(commands, "judge", ABOUT, run)
+    parser.add_argument("files", metavar="FILE", type=Path, nargs="+", help="a file of the archive")
+    add_policy_words(parser, "30s", 20)
+    parser.add_argument("--events", metavar="N", type=whole(1, MOST_EVENTS), default=MOST_EVENTS,
+                        help=f"of a piece at most (default: {MOST_EVENTS}, which is the most)")
+    parser.add_argument("--program", metavar="FILE", default="rb_broker", help="the program (default: that of the path)")
+
+
+def run(asked: argparse.Namespace) -> int:
+    """Judges piece by piece."""
+    program = shutil.which(asked.program)
+    if program is None:
+        raise Failed(f"{asked.program}: there is no such program", 3)
+    pace, period, attempts = policy_in(asked)
+    chains = ["--chains", f"--{pace}", str(int(period)), "--attempts", attempts]
+    paths: list[Path] = asked.files
+    files = sorted(paths, key=lambda it: it.name)
+    queue = _opening_of(files[0])
+    first, is_crossed = 0, False
+    for events, crossed in _pieces(queue.copy(), files, asked.events):
+        said = _judged([program, "replay"], [] if is_crossed else chains, queue, events)
+        print(f"events {first} to {first + len(events) - 1}: {said}" + (
+            f"; {crossed} jobs come back behind them, so the next piece is judged without --chains" if crossed else ""))
+        for it in events:
+            queue.follow(it)
+        first, is_crossed = first + len(events), bool(crossed)
+    return 0
+
+
+def _opening_of(path: Path) -> FollowedQueue:
+    with open(path, "rb") as file:
+        return FollowedQueue.of_opening(_opening_lines(path, file))
+
+
+def _opening_lines(path: Path, lines: Iterator[bytes]) -> list[bytes]:
+    """The lines with which a file begins, up to its first event."""
+    if next(lines, b"") != HEADER:
+        raise Failed(f"{path}: no file of an archive")
+    head = next(lines).rstrip(b"\n")
+    return [head, *(next(lines).rstrip(b"\n") for _ in range(int(head.split(b" ")[3])))]
+
+
+def _pieces(queue: FollowedQueue, files: Sequence[Path], most: int) -> Iterator[tuple[list[bytes], int]]:
+    """The events of each piece, and how many jobs come back behind it. `queue` is that in front of all."""
+    waiting: list[bytes] = []
+    at_cut = queue.copy()  # the queue in front of those that wait
+    for path in files:
+        with open(path, "rb") as file:
+            if _opening_lines(path, file) != [it[:-1] for it in queue.opening()]:
+                raise Failed(f"{path}: it does not begin with what the one before it left")
+            for line in file:
+                if line.startswith(b"end "):
+                    break
+                queue.follow(line[:-1])
+                waiting.append(line[:-1])
+        while len(waiting) > 2 * most:
+            yield _cut(at_cut, waiting, most)
+    while len(waiting) > most:
+        yield _cut(at_cut, waiting, most)
+    yield waiting, 0
+
+
+def _cut(queue: FollowedQueue, waiting: list[bytes], most: int) -> tuple[list[bytes], int]:
+    """Takes the next piece off the front."""
+    cuts = Cuts(queue.copy())
+    for it in waiting:
+        cuts.follow(it)
+    cut = cuts.best((), most, len(waiting), must_cut=True)
+    piece, waiting[:cut.count] = waiting[:cut.count], []
+    for it in piece:
+        queue.follow(it)
+    return piece, cut.crossed
+
+
+def _judged(command: list[str], chains: list[str], queue: FollowedQueue, events: list[bytes]) -> str:
+    """What the program says of these events behind this queue. Raises a `Failed` if it refuses them."""
+    with tempfile.NamedTemporaryFile(prefix="rb_judge-") as file:
+        lines = (it + b"\n" for it in events)
+        file.writelines(chain([HEADER], queue.opening(), lines, [b"end %d\n" % len(events)]))
+        file.flush()
+        ran = subprocess.run([*command, file.name, *chains], capture_output=True, text=True, check=False)
+    said = (ran.stdout or ran.stderr).strip()
+    if ran.returncode:
+        raise Failed(said.replace(file.name, "the files"))
+    return said
