@@ -13,7 +13,7 @@ class JudgeCommandTest(RedisTest):
         super().setUp()
         self.folder = self.room / "archive"
         queue = self.joined(attempts=3)
-        for number in range(40):  # in hand while the next one is fetched, so that each cut is crossed
+        for number in range(25):  # in hand while the next one is fetched, so that each cut is crossed
             queue.make([f"{SEAT} OFFER 0 a", f"{SEAT + number} POLL", *([f"{SEAT + number - 1} END"] if number else [])])
             self.ran("archive", self.folder, "--events", 1)
         self.files = sorted(self.folder.iterdir())
@@ -28,18 +28,21 @@ class JudgeCommandTest(RedisTest):
                    for it in self.files)
 
     def test_files_that_are_refused_alone_are_accepted_together(self) -> None:
-        self.assertGreater(self.refused_alone(), 10)
+        self.assertGreater(self.refused_alone(), 5)
         status, (line,), errors = self.judge()
         self.assertEqual((status, errors), (0, ""))
         self.assertRegex(line, r'^events 0 to \d+: {"calls":\d+,.*}$')
 
     def test_pieces(self) -> None:
-        status, lines, errors = self.judge("--events", 30)
-        self.assertEqual((status, errors), (0, ""))
-        self.assertGreater(len(lines), 2)
-        crossed = [it for it in lines if re.search("}; [12] jobs come back behind them, so the next piece is judged without "
-                                                   "--chains$", it)]
-        self.assertGreater(len(crossed), 0, lines)
+        file = self.room / "jobs-000000000000.txt"
+        file.write_text("history 3\nopen 0 0 0\n1 5 5 offer 0 5 0 5 1 a\n1 5 5 poll 0\n" + "1 6 6 size 0\n" * 4
+                        + "1 9 9 offer 1 9 0 5 2 a\n1 9 9 poll 1\nend 8\n")
+        self.files = [file]
+        status, lines, errors = self.judge("--events", 2)
+        self.assertEqual((status, errors, [it.partition(":")[0] for it in lines]), (0, "", [
+            f"events {it}" for it in ("0 to 0", "1 to 2", "3 to 4", "5 to 6", "7 to 7")]))
+        self.assertEqual([it.partition("}")[2] for it in lines], [
+            "", "", "", "; 1 jobs in them were given before, so their chains are not judged", ""])
 
     def test_what_is_not_legal_is_refused(self) -> None:
         second = re.compile(r"( offer .*) 2 a$", re.M)

@@ -19,7 +19,8 @@ ABOUT = """lets `rb_broker replay --chains` judge the files of an archive as one
 Put together, the files have the return of a job in one text with the event that gave it, however small each of them is.
 FILES are those of one queue, in any order; each has to begin with what the one before it left. There are as few pieces
 as `replay` can take, which is 1,000,000 events each, and a piece ends where no job crosses. If there is no such place,
-it ends where the fewest cross, a line says how many these are, and the next piece is judged by `replay` alone.
+it ends where the fewest cross. A piece to which jobs come back that were given before it is judged by `replay` without
+--chains, and a line says how many these are.
 
 Status: 0; 1 if a history is refused, or the files do not follow one another; 2 if a word is wrong or a file can't be
 read; 3 if there is no `rb_broker`.
@@ -45,16 +46,28 @@ def run(asked: argparse.Namespace) -> int:
     chains = ["--chains", f"--{pace}", str(int(period)), "--attempts", attempts]
     paths: list[Path] = asked.files
     files = sorted(paths, key=lambda it: it.name)
-    queue = _opening_of(files[0])
-    first, is_crossed = 0, False
-    for events, crossed in _pieces(queue.copy(), files, asked.events):
-        said = _judged([program, "replay"], [] if is_crossed else chains, queue, events)
+    queue, first = _opening_of(files[0]), 0
+    for events in _pieces(queue.copy(), files, asked.events):
+        opening = [*queue.opening()]
+        came_back = _given_before(queue, events)
+        said = _judged([program, "replay"], [] if came_back else chains, opening, events)
         print(f"events {first} to {first + len(events) - 1}: {said}" + (
-            f"; {crossed} jobs come back behind them, so the next piece is judged without --chains" if crossed else ""))
-        for it in events:
-            queue.follow(it)
-        first, is_crossed = first + len(events), bool(crossed)
+            f"; {came_back} jobs in them were given before, so their chains are not judged" if came_back else ""))
+        first += len(events)
     return 0
+
+
+def _given_before(queue: FollowedQueue, events: Sequence[bytes]) -> int:
+    """Follows these events. How many jobs come back in them that were given before the first."""
+    given: set[bytes] = set()
+    count = 0
+    for event in events:
+        queue.follow(event)
+        given.update(words.split(b" ", 3)[2] for words in queue.gave)
+        if queue.offered is not None:
+            _, _, origin, _, attempt, _ = queue.offered.split(b" ")
+            count += attempt != b"1" and origin not in given
+    return count
 
 
 def _opening_of(path: Path) -> FollowedQueue:
@@ -70,8 +83,8 @@ def _opening_lines(path: Path, lines: Iterator[bytes]) -> list[bytes]:
     return [head, *(next(lines).rstrip(b"\n") for _ in range(int(head.split(b" ")[3])))]
 
 
-def _pieces(queue: FollowedQueue, files: Sequence[Path], most: int) -> Iterator[tuple[list[bytes], int]]:
-    """The events of each piece, and how many jobs come back behind it. `queue` is that in front of all."""
+def _pieces(queue: FollowedQueue, files: Sequence[Path], most: int) -> Iterator[list[bytes]]:
+    """The events of each piece. `queue` is that in front of all."""
     waiting: list[bytes] = []
     at_cut = queue.copy()  # the queue in front of those that wait
     for path in files:
@@ -87,10 +100,10 @@ def _pieces(queue: FollowedQueue, files: Sequence[Path], most: int) -> Iterator[
             yield _cut(at_cut, waiting, most)
     while len(waiting) > most:
         yield _cut(at_cut, waiting, most)
-    yield waiting, 0
+    yield waiting
 
 
-def _cut(queue: FollowedQueue, waiting: list[bytes], most: int) -> tuple[list[bytes], int]:
+def _cut(queue: FollowedQueue, waiting: list[bytes], most: int) -> list[bytes]:
     """Takes the next piece off the front."""
     cuts = Cuts(queue.copy())
     for it in waiting:
@@ -99,14 +112,14 @@ def _cut(queue: FollowedQueue, waiting: list[bytes], most: int) -> tuple[list[by
     piece, waiting[:cut.count] = waiting[:cut.count], []
     for it in piece:
         queue.follow(it)
-    return piece, cut.crossed
+    return piece
 
 
-def _judged(command: list[str], chains: list[str], queue: FollowedQueue, events: list[bytes]) -> str:
-    """What the program says of these events behind this queue. Raises a `Failed` if it refuses them."""
+def _judged(command: list[str], chains: list[str], opening: list[bytes], events: list[bytes]) -> str:
+    """What the program says of these events behind this opening. Raises a `Failed` if it refuses them."""
     with tempfile.NamedTemporaryFile(prefix="rb_judge-") as file:
         lines = (it + b"\n" for it in events)
-        file.writelines(chain([HEADER], queue.opening(), lines, [b"end %d\n" % len(events)]))
+        file.writelines(chain([HEADER], opening, lines, [b"end %d\n" % len(events)]))
         file.flush()
         ran = subprocess.run([*command, file.name, *chains], capture_output=True, text=True, check=False)
     said = (ran.stdout or ran.stderr).strip()
