@@ -27,7 +27,8 @@ COMMANDS = ("redis-server", "redis-sentinel", "redis-cli")
 SYSTEM_PYTHON = "/usr/bin/python3"  # for which Debian has the package python3-redis
 USABLE = "import sys, redis.asyncio; sys.exit(sys.version_info < (3, 11))"
 AT_ONCE = int(os.environ.get("RB_BROKER_AT_ONCE", 4))
-LONGEST = [f"test_{it}" for it in ("hostile_day", "script", "lost", "cluster", "talks", "gateway", "load", "types")]
+LONGEST = [f"test_{it}" for it in (
+    "hostile_day", "script", "lost", "cluster", "talks", "shards_command", "clock", "gateway", "load", "types")]
 
 
 def take_other_python() -> None:
