@@ -147,8 +147,8 @@ class FilesTest(ArchiveTest):
         with mock.patch.object(cuts, "MOST_KEPT", 0):  # where no place is better, they leave the Redis all the same
             self.source = ListSource(EVENTS[:1], "full")
             file = self.folder / f"full-{0:012}.txt"
-            self.assertEqual(self.take(), [f"full: 1 events in {file}; more than 1,000,000 elements are left at its end, so"
-                                           " `replay --chains` refuses the next file"])
+            self.assertEqual(self.take(), [f"full: 1 events in {file}; more than 1,000,000 elements are left at its end,"
+                                           " so `replay --chains` refuses the next file"])
         self.assertEqual(self.source.list, [])
 
     def test_the_last_file_opens_the_next_run(self) -> None:

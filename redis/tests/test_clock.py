@@ -1,5 +1,5 @@
-"""A node whose clock is set, or that takes over with another clock than the one before: no job is early, no retry is hot,
-no poll ends at once, no lease is over before its time, and none lasts for ever."""
+"""A node whose clock is set, or that takes over with another clock than the one before: no job is early, no retry is
+hot, no poll ends at once, no lease is over before its time, and none lasts for ever."""
 from __future__ import annotations
 
 import os
@@ -83,7 +83,7 @@ class SetClockTest(GatewayTest):
             self.assert_talk(talkers[0], "SIZE = SIZE 0")
         for number, it in enumerate(talkers):
             self.assert_talk(it, f"DONE {number} = DONE {number}")
-        for way, what in (("forward", "jobs are due that much earlier"), ("back", "no time passes .* in the next 172.*")):
+        for way, what in (("forward", "jobs are due that much earlier"), ("back", "no time passes .* the next 172.*")):
             wait_until(lambda: f"set {way}" in served[0].said, f"it does not say that the clock was set {way}")
             self.assertRegex(served[0].said, f"the clock at queue .* was set {way} by .* s: {what}")
 

@@ -31,7 +31,7 @@ class CrowdTest(GatewayTest):
             self.assertEqual({it.read().split(" ")[0] for _ in range(REQUESTS)}, {"OFFERED"})
         self.assert_talk(innocent, f"SIZE = SIZE {CROWD * REQUESTS}")
         self.assertLess(there, CROWD * REQUESTS / 2, "the innocent one has waited for the crowd")
-        print(f"crowd: {CROWD} clients with {REQUESTS} requests each, and one with 5, which took {took:.2f} s", flush=True)
+        print(f"crowd: {CROWD} clients with {REQUESTS} requests each; one with 5 took {took:.2f} s", flush=True)
         for it in crowd:
             it.send(f"DRAIN {HELD}\n")
             self.assert_talk(it, f"= DRAINED {HELD}", *["= ITEM .*"] * HELD)

@@ -57,7 +57,7 @@ class JudgeCommandTest(RedisTest):
         gone = self.files.pop(5)
         status, _, errors = self.judge()
         self.assertEqual(status, 1)
-        self.assertEqual(errors, f"rb_broker_redis: {self.files[5]}: it does not begin with what the one before it left\n")
+        self.assertIn(f"{self.files[5]}: it does not begin with what the one before it left\n", errors)
         self.assertTrue(gone.exists())
 
     def test_a_program_that_is_not_there(self) -> None:

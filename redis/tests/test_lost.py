@@ -211,7 +211,8 @@ class TwoReplicasTest(LostTest):
             watched = Replicas(room / "nodes", 2, ALWAYS)
             sentinels = Sentinels(room / "sentinels", watched)
             try:
-                offers, struck = self.offered_until(room, sentinels.url, lambda: self.replace(sentinels, strike), *options)
+                offers, struck = self.offered_until(
+                    room, sentinels.url, lambda: self.replace(sentinels, strike), *options)
                 return self.missing(offers, struck, sentinels.primary())
             finally:
                 sentinels.kill()

@@ -53,8 +53,8 @@ class ShardedGatewayTest(GatewayTest):
     def test_another_number_of_shards_is_refused(self) -> None:
         self.talker()
         for count in (1, 2, 4):
-            self.assert_refused(3, f"queue {self.name} has 3 shards: say --shards 3, or move its jobs by the command shards",
-                                "serve", "--port", 0, "--shards", count)
+            self.assert_refused(3, f"queue {self.name} has 3 shards: say --shards 3, or move its jobs by the command"
+                                " shards", "serve", "--port", 0, "--shards", count)
             self.assert_refused(1, f"queue {self.name} has 3 shards: say --shards 3", "dead", "--shards", count)
         self.node.ask("UNLINK", self.queue().state)  # as an earlier version leaves it
         for count in (1, 2):

@@ -21,7 +21,7 @@ class VersionsTest(GatewayTest):
     def test_a_queue_of_a_later_format_is_refused(self) -> None:
         self.joined()
         self.node.ask("HSET", self.queue().state, "format", 2)
-        self.assert_refused(3, f"queue {self.name} has format 2, of a later version of this package, which knows format 1",
-                            "serve", "--port", 0)
+        self.assert_refused(3, f"queue {self.name} has format 2, of a later version of this package, which knows format"
+                            " 1", "serve", "--port", 0)
         with self.assertRaisesRegex(Exception, "^FORMAT 2 1$"):
             self.queue().request("SIZE")

@@ -57,7 +57,7 @@ class Archive:
             self._cut(file, self._source.position().first)
 
     def _has(self, file: ArchivedFile, position: Position) -> bool:
-        """Whether the Redis begins with the events of this file, or with the last of them: they are taken out in pieces."""
+        """Whether the Redis begins with the events of this file, or the last of them: they are taken out in pieces."""
         gone = position.first - file.first
         return (gone >= 0 and file.count - gone <= position.waiting and all(
             here == there for here, there in zip(islice(file.events(), gone, None), self._waiting(file.count - gone))))

@@ -30,9 +30,9 @@
 --   lease:GATEWAY  the microseconds of its lease, and the token with which it joined
 --
 -- A moment is a string of 20 digits, so it is exact up to 2^64 - 1 and ordered as text. Lua's numbers are exact up to
--- 2^53 only; sums are made of two halves of 10 digits. Moments are nanoseconds since 1970 by the node's TIME, and none is
--- before the last event's: a clock that is behind lets time stand still until it has caught up, also where a delay is
--- added to the moment or a deadline is made of it. What a LATER or a publish tells is read off the clock all the same,
+-- 2^53 only; sums are made of two halves of 10 digits. Moments are nanoseconds since 1970 by the node's TIME, and none
+-- is before the last event's: a clock that is behind lets time stand still until it has caught up, also where a delay
+-- is added to the moment or a deadline is made of it. What a LATER or a publish tells is read off the clock all the same,
 -- so that waits last until then.
 --
 -- A session is its seat, a number that is never used again: GATEWAY * 10^9 + N for the session N of a gateway, and 0
@@ -49,13 +49,13 @@
 --   rb_version                                    the version of this library; it needs no keys
 --   rb_join LEASE PACE PERIOD ATTEMPTS MODE TOKEN  a gateway joins, and the queue is made if there is none.
 --       LEASE is microseconds; PACE, PERIOD and ATTEMPTS are the policy, or '' for the queue's. MODE is '', 'change' to
---       change the policy of a queue that has another, 'silent' or 'brief' to keep no events, or fewer, of a queue that is made now, or
---       'limit N' for a queue that takes N calls. TOKEN tells it from a gateway that gets the same number after the Redis
---       has lost this call. -> [GATEWAY, PACE, PERIOD, ATTEMPTS], or the error POLICY
+--       change the policy of a queue that has another, 'silent' or 'brief' to keep no events, or fewer, of a queue that
+--       is made now, or 'limit N' for a queue that takes N calls. TOKEN tells it from a gateway that gets the same
+--       number after the Redis has lost this call. -> [GATEWAY, PACE, PERIOD, ATTEMPTS], or the error POLICY
 --   rb_calls MOMENT GATEWAY CALL ..               makes the calls, one after the other, in one step.
 --       MOMENT is '' for the node's TIME, or 20 digits. GATEWAY is '' for the commands. -> a reply for each, or the
---       error LEASE. A step that has taken its time makes no further call: then there are fewer replies, and those of the
---       first calls
+--       error LEASE. A step that has taken its time makes no further call: then there are fewer replies, and those of
+--       the first calls
 --   rb_spare MOMENT GATEWAY CALL ..               the same for a Redis that is full: offers are 'ERR 7 memory', and all
 --       that takes work out, or back, goes on
 --   rb_renew GATEWAY LEASE TOKEN [LATE SCORE]     renews the lease, and ends up to 200 jobs of the gateway LATE, if its

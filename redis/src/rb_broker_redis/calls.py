@@ -39,8 +39,8 @@ def needs_new_link(answer: Answer) -> bool:
 
 
 class Calls:
-    """While there is no link, calls are gathered. Whoever submits waits for the replies before it submits again, and only
-    some of its calls are under way, so a batch that the Redis refused can be sent again later than others."""
+    """While there is no link, calls are gathered. Whoever submits waits for the replies before it submits again, and
+    only some of its calls are under way, so a batch that the Redis refused can be sent again later than others."""
 
     def __init__(self, queue: str, *, replicas: int = 0, patience: float = 5.0) -> None:
         self._head = bulks(key.encode() for key in keys_of(queue))

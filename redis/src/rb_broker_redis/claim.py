@@ -32,7 +32,7 @@ async def _left_out(address: Address, queue: str, count: int, patience: float) -
     """The number of shards of which this one leaves some out, or 0 if it does not. Version 2 set no number."""
     first = 0 if count == 1 else count
     shards = first
-    while len(shard_name(queue, shards)) <= MOST_NAME_BYTES and await _exists(address, shard_name(queue, shards), patience):
+    while len(name := shard_name(queue, shards)) <= MOST_NAME_BYTES and await _exists(address, name, patience):
         shards += 1
     return shards if shards > first else 0
 

@@ -51,10 +51,11 @@ class Cuts:
             self._too_large.add(event + 1)
 
     def best(self, in_hand: Iterable[bytes], most: int, settled: int, must_cut: bool = False) -> Cut:
-        """The last good place behind at most so many events, and no more than are settled: the jobs of these origins were
-        in hand behind those.
+        """The last good place behind at most so many events, and no more than are settled: the jobs of these origins
+        were in hand behind those.
 
-        If there is none, but twice as many events or `must_cut`, it is the last of the places that the fewest jobs cross.
+        If there is none, but twice as many events or `must_cut`, it is the last of the places that the fewest jobs
+        cross.
         """
         for origin in in_hand:
             if origin in self._given:

@@ -44,8 +44,8 @@ class Gateway:
     async def join(
         self, address: Address, queue: str, lease: int, policy: tuple[str, str, str], mode: str, may_evict: bool
     ) -> None:
-        """Joins the queue of this name, or its shards. `policy` and `mode` are as `rb_join` of broker.lua takes them. Raises `OSError`,
-        `ErrorAnswer`."""
+        """Joins the queue of this name, or its shards. `policy` and `mode` are as `rb_join` of broker.lua takes them.
+        Raises `OSError`, `ErrorAnswer`."""
         await claim_shards(address, queue, len(self._queues), next(iter(self._queues.values())).patience)
         self._upkeeps = [
             Upkeep(self, shard, address, name, calls, lease=lease // 1_000, policy=policy, mode=mode,
@@ -66,9 +66,9 @@ class Gateway:
         return int(self._server.sockets[0].getsockname()[1])
 
     async def stop(self, grace: int) -> tuple[int, int]:
-        """Ends in good order: no further client is served, waits are answered STOPPED, and sessions end, as soon as they
-        hold nothing or when the time of grace is over. Returns how many sessions there were, and how many jobs were
-        lost."""
+        """Ends in good order: no further client is served, waits are answered STOPPED, and sessions end, as soon as
+        they hold nothing or when the time of grace is over. Returns how many sessions there were, and how many jobs
+        were lost."""
         self._server.close()
         self._all_ended.clear()
         if grace:

@@ -288,7 +288,7 @@ class _Reader:
 
 
 def read_judged(path: Path) -> LegalQueue:
-    """The same, once `rb_broker replay` has judged the text too, where that is on the path and the text not compressed."""
+    """The same, once `rb_broker replay` has judged the text too, if that is on the path and the text not compressed."""
     program = shutil.which("rb_broker")
     if program and path.suffix != ".gz":
         ran = subprocess.run([program, "replay", path], capture_output=True, text=True, check=False)

@@ -34,7 +34,7 @@ def add_to(commands: argparse._SubParsersAction[Parser]) -> None:
     add_policy_words(parser, "30s", 20)
     parser.add_argument("--events", metavar="N", type=whole(1, MOST_EVENTS), default=MOST_EVENTS,
                         help=f"of a piece at most (default: {MOST_EVENTS}, which is the most)")
-    parser.add_argument("--program", metavar="FILE", default="rb_broker", help="the program (default: that of the path)")
+    parser.add_argument("--program", metavar="FILE", default="rb_broker", help="default: rb_broker, of the path")
 
 
 def run(asked: argparse.Namespace) -> int:

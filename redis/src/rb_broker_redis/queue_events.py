@@ -47,8 +47,8 @@ class Position(NamedTuple):
 
 
 class ScannedQueue(FollowedQueue):
-    """Elements that were read in pieces while the queue was used. They are right once all events have been followed since
-    the first piece was read: what was read too early leaves, and what was read too late is offered."""
+    """Elements that were read in pieces while the queue was used. They are right once all events have been followed
+    since the first piece was read: what was read too early leaves, and what was read too late is offered."""
 
     def _clear(self) -> None:
         self.elements = {id: words for id, words in self.elements.items() if id >= self.next_id}

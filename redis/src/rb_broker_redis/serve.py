@@ -57,7 +57,7 @@ def add_to(commands: argparse._SubParsersAction[Parser]) -> None:
     kept.add_argument("--no-history", dest="mode", action="store_const", const="silent", default="",
                       help="a queue that is made now keeps no events")
     kept.add_argument("--brief-history", dest="mode", action="store_const", const="brief",
-                      help="it keeps none of a POLL, POLLFOR or DRAIN that found nothing, which tools/verify then misses")
+                      help="it keeps none of a POLL, POLLFOR or DRAIN that found nothing; tools/verify misses them")
     add("--allow-eviction", action="store_true",
         help="serves from a Redis whose maxmemory-policy is not noeviction, which may throw the queue away")
     add("--cert", metavar="FILE", help="the certificate with which clients are served over TLS")

@@ -1,4 +1,4 @@
-"""Whose calls a command of the Redis carries: a share for each of many sessions, and no more than it does in a while."""
+"""Whose calls a command of the Redis carries: a share for each session, and no more than it does in a while."""
 from __future__ import annotations
 
 from collections import deque

@@ -104,7 +104,7 @@ class Upkeep:
                 raise ErrorAnswer(f"EVICTS {found[1].decode()}")
 
     async def _warn_of_replicas(self, link: Link) -> None:
-        """Says it where replies wait for some of the replicas: another one that takes over may not have what was done."""
+        """Says it where replies wait for some of the replicas: another that takes over may not have what was done."""
         if self._calls.replicas:
             found = re.search(rb"^connected_slaves:(\d+)", await link.ask("INFO", "replication"), re.M)
             if found and int(found[1]) > self._calls.replicas:
