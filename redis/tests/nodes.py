@@ -153,12 +153,14 @@ class Node(Process):
             return client.execute_command(*words)
 
     def slow(self) -> list[tuple[int, str]]:
-        """The commands that took too long, with their microseconds. One processor has much other work on a busy machine,
-        so that may take several times as long."""
-        others = max(1.0, os.getloadavg()[0] / (os.cpu_count() or 1))
+        """The commands that took too long, with their microseconds. Where the node has had to wait for a processor, they
+        may have taken as many times longer, and some of them several times that."""
+        ran, waited = map(int, Path(f"/proc/{self.pid}/schedstat").read_text().split()[:2])
+        times = 1 + waited / max(ran, 1)
+        most = LONGEST * (times if times < 1.5 else 5 * times)
         with self.client() as client:
             return [(it["duration"], it["command"].decode()[:200]) for it in client.slowlog_get(10_000)
-                    if it["duration"] > LONGEST * others]
+                    if it["duration"] > most]
 
     def replication(self) -> dict[str, Any]:
         """What it says about its replicas, or as one."""

@@ -18,7 +18,7 @@ from .waits import Waits
 LOG = logging.getLogger(__name__)
 
 SECONDS_TO_END = 10.0
-"""How long sessions may take to end in good order. What is left then is closed, and ends with the gateway's lease."""
+"""If no session ends for so long, those that are left are closed, and end with the gateway's lease."""
 
 
 class Gateway:
@@ -77,10 +77,18 @@ class Gateway:
             if self._sessions:
                 await is_set_in_time(self._all_ended, grace / SECOND)
         self.stop_all()
-        if self._sessions and not await is_set_in_time(self._all_ended, SECONDS_TO_END):
+        await self._let_end()
+        if self._sessions:
             LOG.warning("%d sessions did not end, and will when the lease is over", len(self._sessions))
         await self.leave()
         return self._count, self._lost
+
+    async def _let_end(self) -> None:
+        """Waits until all sessions have ended, or none does any more."""
+        before = len(self._sessions) + 1
+        while self._sessions and len(self._sessions) < before:
+            before = len(self._sessions)
+            await is_set_in_time(self._all_ended, SECONDS_TO_END)
 
     async def leave(self) -> None:
         """Leaves the queues."""
