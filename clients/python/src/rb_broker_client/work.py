@@ -20,7 +20,6 @@ from .run import Run
 
 log = logging.getLogger("rb_broker_client.worker")
 
-AT_ONCE = 0.002  # seconds within which a wait that finds a job is answered, unless it has waited
 BESIDE = 5  # while jobs run a wait lasts this part: what ends meanwhile is told only behind it
 
 Asked = tuple[Request[Any], Callable[[Any], None]]  # a request, and what takes its answer
@@ -45,8 +44,9 @@ class Work:
         self._held: dict[int, Job] = {}  # what the server gave, and has not said to have ended
         self._refused: list[Job] = []  # what failed, and could not come back for want of memory
         self._fails = 0  # failures whose answer is due
-        self.fetching, self._fetched = 0, 0.0  # how many jobs are asked for, and since when
-        self._more_are_due = False  # whether more jobs than one are likely to be had at once
+        self.fetching = 0  # how many jobs are asked for
+        self._is_waiting = False  # whether a wait is to be answered, behind which the server reads nothing
+        self._found_one = self._more_are_due = False  # by the last wait, and by the last drain
         self._next_try = 0.0  # no job is fetched, and no failure told again, before this moment
         self._looked = 0.0  # when it was asked for the last time what is to be sent
         self.is_used_up = False  # whether nothing more comes of this session, or of this run
@@ -78,7 +78,7 @@ class Work:
             self._is_leaving = True
             asked.append((Request.quit(), self._left))
         elif free > 0 and not (is_stopping or self.is_used_up or self.is_old and not stays) and self._may_fetch():
-            asked.append(self._fetch(free, running))
+            asked += self._fetch(free, running)
         self._asked.extend([take for _, take in asked])
         return [request for request, _ in asked]
 
@@ -121,36 +121,58 @@ class Work:
 
     def _may_fetch(self) -> bool:
         # A failure comes first: if the run is full nothing more is to be fetched, and without memory nothing yet.
-        return not (self.fetching or self._fails or self._refused) and self._looked >= self._next_try
+        return not (self._is_waiting or self._fails or self._refused) and self._looked >= self._next_try
 
-    def _fetch(self, free: int, running: int) -> Asked:
-        # As many as can be started, if that many are likely to be due.
-        most, self._fetched = free if self._more_are_due else 1, monotonic()
-        self.fetching = most
-        take = partial(self._answered_fetch, most)
-        return Request.drain(most) if most > 1 else self._waits[running > 0], take
+    def _fetch(self, free: int, running: int) -> list[Asked]:
+        # As many as can be started. Where a drain found so many the next one follows, even if others are on their way.
+        # Where it did not, one job is waited for; and where a wait has found one, others may be due, which come first.
+        if self._more_are_due and (free > 1 or running or self.fetching):
+            return [self._drain(free)]
+        if self.fetching:
+            return []
+        if not self._found_one or free == 1:
+            return [self._await_job(running > 0)]
+        return [self._drain(free - 1), self._await_job(True)] if running else [self._drain(free)]
 
-    def _answered_fetch(self, most: int, answer: Any) -> None:
-        self.fetching = 0
+    def _await_job(self, is_brief: bool) -> Asked:
+        self._is_waiting = True
+        self.fetching += 1
+        return self._waits[is_brief], partial(self._waited, self._looked)
+
+    def _drain(self, most: int) -> Asked:
+        self.fetching += most
+        return Request.drain(most), partial(self._drained, most, self._looked)
+
+    def _waited(self, asked: float, answer: Any) -> None:
+        self._is_waiting, self._found_one = False, isinstance(answer, Job)
+        self._fetched([] if answer is None else [answer], 1, asked, answer)
+
+    def _drained(self, most: int, asked: float, answer: Any) -> None:
+        self._found_one, self._more_are_due = False, isinstance(answer, list) and len(answer) == most
+        self._fetched(answer, most, asked, answer)
+
+    def _fetched(self, jobs: list[Job], most: int, asked: float, answer: Any) -> None:
+        self.fetching -= most
         if isinstance(answer, BrokerError):
-            self._not_fetched(answer)
+            self._not_fetched(answer, asked)
             return
         self._pauses.reset()
-        jobs = answer if isinstance(answer, list) else [answer] if answer is not None else []
-        self._more_are_due = len(jobs) == most and (most > 1 or monotonic() - self._fetched < AT_ONCE)
         for job in jobs:
             self._run.given(job.id)
             self._held[job.id] = job
         self.given += jobs
 
-    def _not_fetched(self, refused: BrokerError) -> None:
+    def _not_fetched(self, refused: BrokerError, asked: float) -> None:
         if isinstance(refused, (StoppedError, OutOfMemoryError)):
+            if asked < self._next_try:
+                return  # one that was asked before it was refused, too
             # From one fetch to the next: a wait that was given up after a while needs no pause.
-            self._next_try = self._fetched + min(self._pauses.next(), self._wait)
+            self._next_try = asked + min(self._pauses.next(), self._wait)
             if monotonic() >= self._next_try:
                 self._pauses.reset()
         elif isinstance(refused, FullError):  # the server can end only when its clients have left
-            log.warning("left the session at %s: %s", self._run.place, refused)
+            if not self.is_used_up:
+                log.warning("left the session at %s: %s", self._run.place, refused)
             self.is_used_up = True
         else:
             raise refused

@@ -2,7 +2,6 @@
 import asyncio
 import contextvars
 import threading
-import unittest.mock
 
 from scripted import PATIENCE, ScriptedTest, free_port
 from worker_case import A, GIVES_A
@@ -103,8 +102,7 @@ class TaskTest(ScriptedTest):
         server = self.play(f"AT 0; {A}; DRAIN 2 > DRAINED 2, ITEM 1 0 1 b, ITEM 2 0 1 c; DONE 1; DONE 2; "
                            "DRAIN 2 > stops: DRAINED 0; QUIT")
         worker = AsyncWorker(handle, server.port, concurrency=2)
-        with unittest.mock.patch("rb_broker_client.work.AT_ONCE", PATIENCE):
-            self.assertEqual(asyncio.run(worker.run()), Report(done=3))
+        self.assertEqual(asyncio.run(worker.run()), Report(done=3))
         self.assertEqual(handled, ["a", "b", "c"])
 
 

@@ -9,10 +9,9 @@ import unittest.mock
 
 from from_threads import for_both_kinds
 from scripted import PATIENCE
-from worker_case import A, GIVES_B, LAST, ConcurrencyCase, WorkerCase
+from worker_case import A, GIVES_A, GIVES_B, LAST, ConcurrencyCase, WorkerCase
 from rb_broker_client import AsyncWorker, Job, Report
 
-LATE_A = "WAIT > late: ITEM 0 0 1 a"
 LIMIT = 0.5  # seconds of a handler
 
 
@@ -23,11 +22,10 @@ class OrderTest(ConcurrencyCase):
         self.assertEqual(self.jobs.running, 0)
 
     def test_where_many_are_due(self):
-        with unittest.mock.patch("rb_broker_client.work.AT_ONCE", PATIENCE):
-            self.assert_scripts("drains.txt")
+        self.assert_scripts("drains.txt")
 
     def test_jobs_of_a_lost_session_keep_their_places(self):
-        running, first = [], f"{LATE_A}; BRIEF > beside c a: ITEM 1 0 1 c; > hangs up"
+        running, first = [], f"{GIVES_A}; BRIEF > beside c a: ITEM 1 0 1 c; > hangs up"
         self.runs = lambda _: running.append(self.jobs.running)
         self.end_c = lambda _: self.jobs.end("c")
         self.assert_reports(Report(unheard=2), first, "AT 0 > runs: ERR 1 syntax; BRIEF > end_c: stops: NONE; QUIT")
@@ -41,7 +39,7 @@ class ThreadsTest(ConcurrencyCase):
             sys.exit(3)
 
         with self.assertRaises(SystemExit) as ended:
-            self.work(f"{LATE_A}; BRIEF > ends a: nothing", handler=leave).run()
+            self.work(f"{GIVES_A}; BRIEF > ends a: nothing", handler=leave).run()
         self.assertEqual(ended.exception.code, 3)
 
     def test_dead_jobs_are_told_in_the_threads(self):
@@ -52,13 +50,13 @@ class ThreadsTest(ConcurrencyCase):
             told.append((job, threading.current_thread() is not threading.main_thread()))
             is_over.wait(PATIENCE)
 
-        steps = "WAIT > late: ITEM 0 0 3 b; BRIEF > ends b: NONE; FAIL 0 > DEAD 0; BRIEF > goes_on: stops: NONE; QUIT"
+        steps = "WAIT > ITEM 0 0 3 b; BRIEF > ends b: NONE; FAIL 0 > DEAD 0; BRIEF > goes_on: stops: NONE; QUIT"
         self.assert_reports(Report(dead=1), steps, on_dead=keep)
         self.assertEqual(told, [(Job(0, 0, 3, "b"), True)])
 
     def test_no_thread_is_left(self):
         names = lambda: [it.name for it in threading.enumerate()]
-        self.assert_reports(Report(done=1), f"{LATE_A}; BRIEF > ends a: stops: NONE; DONE 0; QUIT")
+        self.assert_reports(Report(done=1), f"{GIVES_A}; BRIEF > ends a: stops: NONE; DONE 0; QUIT")
         deadline = time.monotonic() + PATIENCE
         while "rb_broker_client-1" in names() and time.monotonic() < deadline:
             time.sleep(0.01)
@@ -71,7 +69,7 @@ class TimeoutTest(ConcurrencyCase):
         self.soon = lambda _: threading.Timer(LIMIT, self.jobs.end, ["a"]).start()
         began = time.monotonic()
         with self.logged() as said:
-            self.assert_reports(Report(again=1), f"{LATE_A}; FAIL 0 > soon: AGAIN 1 5; {LAST}", concurrency=1,
+            self.assert_reports(Report(again=1), f"{GIVES_A}; FAIL 0 > soon: AGAIN 1 5; {LAST}", concurrency=1,
                                 timeout=LIMIT)
         self.assertGreater(time.monotonic() - began, 2 * LIMIT)
         told = "the handler of job a, attempt 1, takes longer than 0.5 seconds: the job fails"
@@ -79,7 +77,7 @@ class TimeoutTest(ConcurrencyCase):
 
     def test_a_stop_does_not_wait_for_it(self):
         self.addCleanup(lambda: self.jobs.end("a"))
-        self.assert_reports(Report(again=1), f"{LATE_A}; FAIL 0 > stops: AGAIN 1 5; QUIT", concurrency=1, timeout=LIMIT)
+        self.assert_reports(Report(again=1), f"{GIVES_A}; FAIL 0 > stops: AGAIN 1 5; QUIT", concurrency=1, timeout=LIMIT)
         self.assertEqual(self.jobs.running, 1)
 
 

@@ -41,7 +41,8 @@ class WorkTest(unittest.TestCase):
         self.is_stopping = False
 
     def asks(self, lines):
-        questions = self.work.ask(self.concurrency - self.running, self.running, self.is_stopping)
+        free = self.concurrency - self.running - self.work.fetching
+        questions = self.work.ask(free, self.running, self.is_stopping)
         self.assertEqual("; ".join(map(str, questions)), lines)
         self.due.extend(questions)
 
