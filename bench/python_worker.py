@@ -5,8 +5,10 @@ For Worker and AsyncWorker, with 1, 8 and 64 jobs at the same time: how many job
 before the worker begins, jobs of nothing and jobs that sleep for 50 ms. Then, with 8 at a time, 10 jobs a second of
 50 ms that are offered one by one, at random: how long after its offer a job begins, and how long after the end of its
 handler the server has told that the job is done. Server, worker and producer share the machine; medians of N runs (3 by
-default). Last, with --crowd alone: a server of four workers, and 1 to 4 times as many clients, of which one is a
-producer that connects for each offer and the others are idle workers: how long an offer takes.
+default). With --crowd alone: a server of four workers, and 1 to 4 times as many clients, of which one is a producer that
+connects for each offer and the others are idle workers: how long an offer takes. With --far alone, through a proxy that
+delays: jobs a second of workers with 64 jobs at the same time, and the offers of 50 threads or tasks that share one
+producer.
 """
 import argparse
 import asyncio
@@ -15,16 +17,18 @@ import logging
 import os
 import random
 import statistics
+import subprocess
 import sys
 import tempfile
 import threading
 import time
+from contextlib import contextmanager
 
 TOP = os.path.dirname(os.path.dirname(os.path.realpath(__file__)))
 sys.path[:0] = [f"{TOP}/dev/lib", f"{TOP}/tools", f"{TOP}/clients/python/src"]
 
 from common.program import add_program_option, built_program  # noqa: E402
-from rb_broker_client import AsyncWorker, Broker, Producer, Request, Worker  # noqa: E402
+from rb_broker_client import AsyncProducer, AsyncWorker, Broker, Producer, Request, Worker  # noqa: E402
 from serving.server import Server  # noqa: E402
 
 OPTIONS = ("--workers", 2, "--sessions", 100, "--calls", 1_000_000)
@@ -33,6 +37,9 @@ NAP = 0.05  # seconds that a job sleeps
 SPARSE = 200  # jobs that are offered one by one
 PAUSE = 0.1  # seconds between two of these, in the mean
 SEATS, MINUTE = 4, 60  # workers of a server with more clients, and seconds for which it is watched
+ROUND_TRIPS, FAR_NAPS = (0.0005, 0.0025, 0.0055), (0, 0.01)  # seconds, to workers that are far, and of their jobs
+FAR_PLACES, FAR_JOBS = 64, 10_000
+OFFERERS, OFFERS, OFFERS_TRIP = 50, 5_000, 0.05  # who share a producer, their offers, and the seconds of a round trip
 
 
 class Run:
@@ -69,19 +76,69 @@ class Run:
         self.ended[job.id] = time.monotonic_ns()
 
 
+@contextmanager
+def far(port, round_trip):
+    """A port that leads to this one, to which a round trip takes so many seconds more."""
+    words = [sys.executable, f"{TOP}/clients/python/tests/served/delaying.py", str(port), str(1e3 * round_trip)]
+    with subprocess.Popen(words, stdout=subprocess.PIPE, encoding="ascii") as proxy:
+        try:
+            yield int(proxy.stdout.readline())
+        finally:
+            proxy.kill()
+
+
+def far_rate(program, is_async, nap, round_trip):
+    """Jobs a second, when all are due, of a worker that is so far away."""
+    with Server(OPTIONS, program) as server, far(server.port, round_trip) as port:
+        return rate_at(server.port, port, FAR_JOBS, is_async, nap, FAR_PLACES)
+
+
+def far_offers(program, is_async):
+    """Offers a second of threads or tasks that share a producer, and the seconds that each took."""
+    took = []
+
+    async def offer(number):
+        for _ in range(OFFERS // OFFERERS):
+            began = time.monotonic()
+            offered = producer.offer(str(number))
+            if is_async:
+                await offered
+            took.append(time.monotonic() - began)
+
+    async def offer_all():
+        await asyncio.gather(*map(offer, range(OFFERERS)))
+
+    with Server(OPTIONS, program) as server, far(server.port, OFFERS_TRIP) as port:
+        producer = (AsyncProducer if is_async else Producer)(port, session=None)
+        began = time.monotonic()
+        if is_async:
+            asyncio.run(offer_all())
+        else:
+            threads = [threading.Thread(target=asyncio.run, args=[offer(number)]) for number in range(OFFERERS)]
+            for it in threads:
+                it.start()
+            for it in threads:
+                it.join()
+        return OFFERS / (time.monotonic() - began), took
+
+
 def rate(program, is_async, nap, concurrency):
     """Jobs a second, when all are due."""
-    count = int(100 * concurrency) if nap else 20_000
     with Server(OPTIONS, program) as server:
-        with Broker(server.port) as broker:
-            for first in range(0, count, PIECE):
-                broker.ask_all([Request.offer(str(it)) for it in range(first, min(first + PIECE, count))])
-            broker.quit()
-        began = time.monotonic()
-        run = Run(is_async, server.port, nap, concurrency)
-        run.await_done(count)
-        took = time.monotonic() - began
-        run.stop()
+        return rate_at(server.port, server.port, int(100 * concurrency) if nap else 20_000, is_async, nap, concurrency)
+
+
+def rate_at(near, port, count, is_async, nap, concurrency):
+    """Jobs a second of a worker at a port, when so many are due that were offered at another port of the server."""
+    with Broker(near) as broker:
+        for first in range(0, count, PIECE):
+            broker.ask_all([Request.offer(str(it)) for it in range(first, min(first + PIECE, count))])
+        broker.quit()
+    began = time.monotonic()
+    run = Run(is_async, port, nap, concurrency)
+    run.await_done(count)
+    took = time.monotonic() - began
+    run.stop()
     return count / took
 
 
@@ -133,11 +190,27 @@ def percentile(values, percent):
     return sorted(values)[min(len(values) * percent // 100, len(values) - 1)]
 
 
+def measure_far(program, kinds, runs):
+    """Measures the clients that are far away."""
+    for name, is_async in kinds:
+        for round_trip in ROUND_TRIPS:
+            for nap in FAR_NAPS:
+                rates = [far_rate(program, is_async, nap, round_trip) for _ in range(runs)]
+                print(f"{name}, {FAR_PLACES} at a time, jobs of {1e3 * nap:.0f} ms, {1e3 * round_trip:.1f} ms away: "
+                      f"{statistics.median(rates):.0f} a second ({min(rates):.0f} to {max(rates):.0f})", flush=True)
+    for name, is_async in (("threads of a Producer", False), ("tasks of an AsyncProducer", True)):
+        told = [far_offers(program, is_async) for _ in range(runs)]
+        rates, took = [it for it, _ in told], [seconds for _, it in told for seconds in it]
+        print(f"{OFFERERS} {name}, {1e3 * OFFERS_TRIP:.0f} ms away: {statistics.median(rates):.0f} offers a second "
+              f"({min(rates):.0f} to {max(rates):.0f}), 99th percentile {1e3 * percentile(took, 99):.0f} ms", flush=True)
+
+
 def main():
     asked = argparse.ArgumentParser(description=__doc__, formatter_class=argparse.RawDescriptionHelpFormatter)
     add_program_option(asked, "the program to measure")
     asked.add_argument("--runs", type=int, default=3, metavar="N", help="how often each is measured (default: 3)")
     asked.add_argument("--crowd", action="store_true", help="only the server with more clients than workers")
+    asked.add_argument("--far", action="store_true", help="only clients that are far away")
     options = asked.parse_args()
     program = built_program(options.program)
     for times in range(1, 5) if options.crowd else ():
@@ -147,6 +220,9 @@ def main():
     if options.crowd:
         return
     kinds = (("Worker", False), ("AsyncWorker", True))
+    if options.far:
+        measure_far(program, kinds, options.runs)
+        return
     for name, is_async in kinds:
         for nap in (0, NAP):
             for concurrency in (1, 8, 64):

@@ -10,7 +10,7 @@ import time
 import uuid
 from collections import deque
 from collections.abc import Callable, Coroutine, Iterable
-from contextlib import ExitStack
+from contextlib import ExitStack, suppress
 from functools import wraps
 from operator import length_hint
 from selectors import EVENT_READ, EVENT_WRITE
@@ -74,7 +74,23 @@ class Session:
         return self._socket.fileno()
 
     def is_lost(self) -> bool:
-        """Whether the server is known to have ended the session. If not, it may have ended it all the same."""
+        """Whether the server has ended the session, as far as that is known: it may have ended it all the same. This
+        looks at what has come, and takes nothing of it."""
+        if self._fault is None:
+            with suppress(*_NOT_NOW):
+                try:
+                    return not socket.socket.recv(self._socket, 1, socket.MSG_PEEK)
+                except ConnectionError:
+                    return True
+        return self._fault is not None
+
+    @property
+    def has_answer(self) -> bool:
+        """Whether an answer has come that was not taken."""
+        return bool(self._answers)
+
+    def receive(self) -> None:
+        """Reads what has come."""
         try:
             while self._fault is None:
                 piece = self._socket.recv(65_536)
@@ -92,7 +108,6 @@ class Session:
             pass
         except OSError as fault:
             self._fault = fault
-        return self._fault is not None
 
     def close(self) -> None:
         """Hangs up. After that the session is of no more use."""
@@ -103,6 +118,12 @@ class Session:
             self._lines.clear()
         self._due.clear()
         self._answers.clear()
+
+    def forget(self) -> None:
+        """Closes the descriptor alone. The session may be that of the process from which this one was forked."""
+        self._record = None
+        self._due.clear()
+        self.close()
 
     def post(self, *requests: Request[Any]) -> None:
         """Sends requests in one piece, as far as the connection takes it now. The rest is sent with what follows."""
@@ -121,7 +142,7 @@ class Session:
         """The answers to what has come, each refusal in its place."""
         if not self._answers:
             self._demand()
-        return [self._take() for _ in range(len(self._answers))]
+        return [self.take_answer() for _ in range(len(self._answers))]
 
     async def _connect(self) -> None:
         if isinstance(self._fault, RuntimeError):
@@ -158,9 +179,10 @@ class Session:
         self.post(*requests)
         answers = []
         while self.unanswered:
+            deadline = math.inf if self.patience is None else time.monotonic() + self.patience
             while not self._answers:
-                await self._wait()
-            answer = self._take()
+                await self._wait(deadline)
+            answer = self.take_answer()
             for it in answer if isinstance(answer, list) else [answer]:
                 if isinstance(it, Job):
                     vars(it)["_session"] = self  # past the lock of a frozen class
@@ -206,7 +228,8 @@ class Session:
             log.error("the record can't be written, and ends here: %s", fault)
             self._record = None
 
-    def _take(self) -> Any:
+    def take_answer(self) -> Any:
+        """The first answer that was not taken, which there is. A reply that is none is raised."""
         answer = self._answers.popleft()
         if isinstance(answer, UnknownReplyError):
             self.close()  # which line answers which request is no longer known
@@ -217,13 +240,14 @@ class Session:
         if self._fault is not None:
             raise self._fault
 
-    async def _wait(self) -> None:
+    async def _wait(self, deadline: float) -> None:
         # A server reads no further while its replies are not read, so they are read while there is more to send.
         self._demand()
         events = EVENT_READ if self.is_sent else EVENT_READ | EVENT_WRITE
-        if not await self._kind.ready(self._socket, events, self.patience):
+        left = None if deadline == math.inf else max(deadline - time.monotonic(), 0)
+        if not await self._kind.ready(self._socket, events, left):
             raise TimeoutError(f"the server did not answer within {self.patience} seconds")
-        self.is_lost()
+        self.receive()
         if not self.is_sent:
             self.post()
 

@@ -12,11 +12,13 @@ from collections.abc import AsyncIterator, Callable
 from contextlib import ExitStack, asynccontextmanager, suppress
 from functools import partial
 from typing import Any, ClassVar, Self, TextIO
+from weakref import WeakSet
 
 from .broker import AsyncBroker, Broker, Session
 from .durations import FOR_EVER, Ages, Duration, Pauses, nanoseconds, seconds
 from .errors import BrokerError, FullError, InDoubtError, NotOfferedError, OutOfMemoryError
 from .job import Offered
+from .pipeline import LeftError, Pipeline
 from .request import Request
 from .run import Run
 from .waiting import blocking
@@ -24,6 +26,7 @@ from .waiting import blocking
 log = logging.getLogger(__name__)
 
 LONG = 1.0  # seconds of a wait for one of the server's workers from which it is logged
+LEAST = 1e-3  # seconds of a try whose time is over
 
 
 class BaseProducer:
@@ -34,32 +37,35 @@ class BaseProducer:
     def __init__(self, port: int, host: str = "127.0.0.1", *, may_double: bool = False, patience: Duration = 30.0,
                  session: Duration | None = 30.0, tls: ssl.SSLContext | None = None, pauses: Pauses | None = None,
                  record: TextIO | None = None) -> None:
-        """Connects to nothing yet. An offer is tried for up to `patience`, and so long is each reply waited for. With
-        None for `session` each is kept as long as it can be had. `tls` and `record` are those of a `Broker`."""
+        """Connects to nothing yet. An offer takes no longer than `patience`, whatever it waits for. With None for
+        `session` each is kept as long as it can be had. `tls` and `record` are those of a `Broker`."""
         self._session_at = partial(self._session_of, port, host, tls=tls, record=record)
         self._may_double, self._patience = may_double, seconds(patience)
         self._pauses, self._ages = pauses or Pauses(longest=2.0), Ages(session, first_is_brief=False)
         self._run, self._kind = Run(log, f"{host}:{port}"), self._session_of._kind
         self.waited = 0.0
         """For how many seconds the last session waited until the server had a worker for it."""
-        # What follows is changed in turn alone: what leaves an old session changes it too.
-        self._turn: Any = asyncio.Lock() if self._kind.is_async else threading.Lock()
-        self._session: Session | None = None
-        self._process = 0  # the one whose session it is
+        self._is_closed = False
+        # What follows is changed in turn alone: by who looks for a server, and by what leaves an old session.
+        self._turn: Any = self._kind.lock()
+        self._pipeline: Pipeline | None = None
         self._end = math.inf  # when it is old
         self._stop_leaving: Callable[[], object] = lambda: None
+        _PRODUCERS.add(self)
 
     async def _offer(self, payload: str, *, delay: Duration = 0) -> Offered:
-        """Offers a job that expires this delay after the server has accepted it, in seconds or as a `timedelta`."""
+        """Offers a job that expires this delay after the server has accepted it, in seconds or as a `timedelta`. Raises
+        `RuntimeError` once the producer is closed."""
         request, delay_ns = Request.offer(payload, delay=delay), nanoseconds(delay)
         deadline, doubt, pauses = time.monotonic() + self._patience, None, copy.copy(self._pauses)
         pauses.reset()  # of other offers, which may be tried at the same time
+
+        def see(offered: Offered) -> None:
+            self._run.offered(offered.id, offered.expires_at_ns - delay_ns)
+
         while True:
             try:
-                async with self._in_turn(max(deadline - time.monotonic(), 0), request):
-                    offered = await self._try(request)
-                    self._run.offered(offered.id, offered.expires_at_ns - delay_ns)
-                    return offered
+                return await self._try(request, deadline, see)
             except (InDoubtError, NotOfferedError, FullError, OutOfMemoryError) as fault:
                 if isinstance(fault, InDoubtError):
                     doubt = doubt or fault
@@ -69,48 +75,64 @@ class BaseProducer:
             await self._kind.sleep(pause)
 
     async def _close(self) -> None:
-        """Ends the session, if there is one, once the offer of another is answered."""
+        """Ends the session, if there is one, once the offers of others are answered."""
+        self._is_closed = True
         async with self._in_turn():
-            self._hang_up()
+            pipeline, self._pipeline = self._pipeline, None
+            self._stop_leaving()
+        if pipeline is not None:
+            pipeline.leave()
+            await pipeline.end()
 
     @asynccontextmanager
-    async def _in_turn(self, seconds: float = FOR_EVER, what: object = "") -> AsyncIterator[None]:
-        if not await self._kind.acquire(self._turn, seconds):
-            raise NotOfferedError(f"{what}: other offers took too long")
+    async def _in_turn(self, deadline: float = math.inf, what: object = "") -> AsyncIterator[None]:
+        began = time.monotonic()
+        if not await self._kind.acquire(self._turn, min(max(deadline - began, 0), FOR_EVER)):
+            raise NotOfferedError(f"{what} was not offered: another offer has been looking for the server at "
+                                  f"{self._run.place} for {time.monotonic() - began:.1f} seconds")
         try:
             yield
         finally:
             self._turn.release()
 
-    async def _try(self, request: Request[Offered]) -> Offered:
-        try:
-            session = await self._served()
-        except OSError as fault:
-            raise NotOfferedError(f"{request} was not accepted: {fault}") from fault
-        try:
-            return await session._ask(request)
-        except FullError:
-            self._hang_up()  # nothing more comes of this run, which ends when its clients have left
-            raise
-        except OSError as fault:
-            self._hang_up()
-            raise InDoubtError(f"{request} was accepted or not: {fault}") from fault
+    async def _try(self, request: Request[Offered], deadline: float, see: Callable[[Offered], None]) -> Offered:
+        while True:
+            pipeline = await self._served(request, deadline)
+            try:
+                return await pipeline.ask(request, deadline, see)
+            except LeftError:
+                pass  # it was left, or lost, since it was had
+            except FullError:
+                pipeline.leave()  # nothing more comes of this run, which ends when its clients have left
+                raise
+            except OSError as fault:
+                raise InDoubtError(f"{request} was accepted or not: {fault}") from fault
 
-    async def _served(self) -> Session:
+    async def _served(self, request: Request[Offered], deadline: float) -> Pipeline:
         # One that is served already, so that an offer is in doubt only while it is answered.
-        if self._session is not None:
-            if self._process != os.getpid() or self._session.unanswered or self._session.is_lost():
-                self._hang_up()  # this process may have been forked, and the session is that of the other one then
-            elif time.monotonic() >= self._end:
-                await self._leave(self._session)
-        return self._session or await self._next_session()
+        pipeline = self._pipeline
+        if pipeline is not None and not pipeline.is_left and time.monotonic() < self._end:
+            return pipeline
+        async with self._in_turn(deadline, request):
+            if self._is_closed:
+                raise RuntimeError("the producer is closed")
+            pipeline = self._pipeline
+            if pipeline is not None and not pipeline.is_left:
+                if time.monotonic() < self._end:
+                    return pipeline
+                await self._leave(pipeline, deadline)
+            try:
+                return await self._next_pipeline(deadline)
+            except OSError as fault:
+                raise NotOfferedError(f"{request} was not accepted: {fault}") from fault
 
-    async def _next_session(self) -> Session:
-        session = self._session_at(self._patience)
+    async def _next_pipeline(self, deadline: float) -> Pipeline:
+        session = self._session_at(max(deadline - time.monotonic(), LEAST))
         with ExitStack() as undo:
             undo.callback(session.close)
             await session._connect()
             began = time.monotonic()
+            session.patience = max(deadline - began, LEAST)
             try:
                 await session._await_service()
             except TimeoutError:
@@ -120,29 +142,39 @@ class BaseProducer:
         self.waited = time.monotonic() - began
         if self.waited >= LONG:
             log.warning("waited %.1f seconds until the server at %s had a worker", self.waited, self._run.place)
-        self._session, self._process = session, os.getpid()
+        self._stop_leaving()
+        self._pipeline = pipeline = Pipeline(session)
         age = self._ages.next(self.waited)
         self._end = time.monotonic() + age
         if age < math.inf:
-            self._stop_leaving = self._kind.later(age, partial(self._leave_alone, session))
-        return session
+            self._stop_leaving = self._kind.later(age, partial(self._leave_alone, pipeline))
+        return pipeline
 
-    async def _leave_alone(self, session: Session) -> None:
+    async def _leave_alone(self, pipeline: Pipeline) -> None:
         async with self._in_turn():
-            if self._session is session:
-                await self._leave(session)
+            if self._pipeline is pipeline:
+                await self._leave(pipeline, time.monotonic() + self._patience)
 
-    async def _leave(self, session: Session) -> None:
-        with suppress(OSError, BrokerError):  # each offer has had its answer all the same
-            if not session.unanswered:
-                await session._quit()
-        self._hang_up()
+    async def _leave(self, pipeline: Pipeline, deadline: float) -> None:
+        with suppress(LeftError, OSError, BrokerError):  # each offer has had its answer all the same
+            await pipeline.ask(Request.quit(), deadline, is_last=True)
 
-    def _hang_up(self) -> None:
-        self._stop_leaving()
-        if self._session is not None:
-            self._session.close()
-        self._session = None
+    def _begin_anew(self) -> None:
+        # In a forked process, whose other threads are gone, whatever they were at. The session is the other process's.
+        self._turn, self._stop_leaving = self._kind.lock(), lambda: None
+        if self._pipeline is not None:
+            self._pipeline.forget()
+        self._pipeline = None
+
+
+def _begin_all_anew() -> None:
+    for it in _PRODUCERS:
+        it._begin_anew()
+
+
+_PRODUCERS: WeakSet[BaseProducer] = WeakSet()  # of this process
+if hasattr(os, "register_at_fork"):
+    os.register_at_fork(after_in_child=_begin_all_anew)
 
 
 class AsyncProducer(BaseProducer):
@@ -159,8 +191,8 @@ class AsyncProducer(BaseProducer):
 
 
 class Producer(BaseProducer):
-    """Offers jobs, and connects again when its connection is lost. Threads may share it: their offers take turns. A
-    process that was forked begins a session of its own.
+    """Offers jobs, and connects again when its connection is lost. Threads may share it: their offers go out as they
+    come, over one session. A process that was forked begins a session of its own.
 
     An offer is tried again, for up to `patience`, when the job was surely not accepted: no server was there, or none of
     its workers was free, or it refused the offer because its run is full or it has no memory. Other refusals are raised

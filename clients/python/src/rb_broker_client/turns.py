@@ -59,7 +59,7 @@ class ThreadTurns:
 
     def watch(self, session: Any) -> None:
         """Takes a turn when something comes in this session too, and reads it."""
-        self._selector.register(session, selectors.EVENT_READ, session.is_lost)
+        self._selector.register(session, selectors.EVENT_READ, session.receive)
         session.at_end.callback(self._selector.unregister, session)
 
     def begin(self, task: Task) -> None:
@@ -163,7 +163,7 @@ class LoopTurns:
         session.at_end.callback(loop.remove_reader, session.fileno())
 
     def _feed(self, session: Any) -> None:
-        session.is_lost()
+        session.receive()
         self._take()
 
     def begin(self, task: Task) -> None:

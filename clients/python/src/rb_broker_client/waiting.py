@@ -41,7 +41,14 @@ def blocking(coroutine: Callable[Words, Coroutine[Any, Any, Result]]) -> Callabl
 class Blocking:
     """How a client waits that blocks its thread."""
 
-    is_async = False
+    is_async, lock = False, threading.Lock
+
+    @staticmethod
+    def bell() -> Any:
+        """What is acquired once it has been released."""
+        bell = threading.Lock()
+        bell.acquire()
+        return bell
 
     @staticmethod
     async def apart(function: Callable[[], Result]) -> Result:
@@ -73,7 +80,11 @@ class Blocking:
 class Looping:
     """How a client of asyncio waits."""
 
-    is_async, sleep = True, staticmethod(asyncio.sleep)
+    is_async, lock, sleep = True, asyncio.Lock, staticmethod(asyncio.sleep)
+
+    @staticmethod
+    def bell() -> Any:
+        return asyncio.Semaphore(0)
 
     @staticmethod
     async def apart(function: Callable[[], Result]) -> Result:

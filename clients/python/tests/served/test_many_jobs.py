@@ -1,9 +1,11 @@
 """Thousands of jobs, of which some fail, and several workers; and workers that run many jobs over one session."""
 import asyncio
+import json
 import threading
 import time
 
-from rb_broker_client import AsyncWorker, Broker, Report, Worker
+from delaying import DelayingProxy
+from rb_broker_client import AsyncWorker, Broker, Producer, Report, Worker
 from rb_broker_client.job import MOST_HELD
 from server import LONGEST, PATIENCE, ServedTest
 
@@ -48,6 +50,57 @@ class ManyJobsTest(ServedTest):
         self.assert_cut(server, 300)
         self.assertEqual([sum(it[name] for it in counts) for name in vars(Report())], [jobs, jobs // 5, 0, 0, 0])
         self.assert_verified("--all", history, self.path("record"))  # the record has each call
+
+
+class FarTest(ServedTest):
+    """Workers through a proxy that delays."""
+
+    PLACES, JOBS, ROUND_TRIP = 16, 1_600, 0.04  # seconds
+
+    def far(self, *options):
+        """A server, and a port that leads to it from far away."""
+        server = self.serve(*options)
+        proxy = DelayingProxy(server.port, self.ROUND_TRIP)
+        self.addCleanup(proxy.close)
+        return server, proxy
+
+    def test_as_many_jobs_are_fetched_in_a_round_trip_as_can_be_started_and_no_more(self):
+        async def handle(job):
+            pass
+
+        for kind, handler in ((Worker, lambda job: None), (AsyncWorker, handle)):
+            server, proxy = self.far("--sessions", 2)
+            self.offer(server, *range(self.JOBS))
+            with open(self.path(kind.__name__), "a", encoding="ascii") as record:
+                options, began = {"concurrency": self.PLACES, "session": None, "record": record}, time.monotonic()
+                worker = kind(handler, proxy.port, **options)
+                thread = self.begin_worker(worker)
+                self.wait_until(lambda: worker.report.done == self.JOBS)
+                self.assertLess(time.monotonic() - began, self.JOBS * self.ROUND_TRIP / 4)
+                self.assert_stops(worker, thread, Report(done=self.JOBS))
+            self.assertEqual(self.most_held(self.path(kind.__name__)), self.PLACES)
+
+    def test_offers_of_threads_that_share_a_producer_go_out_together(self):
+        threads, each = 20, 5
+        server, proxy = self.far("--sessions", 2)
+        with Producer(proxy.port) as producer:
+            producer.offer("first")
+            began = time.monotonic()
+            all_of = [self.begin(lambda: [producer.offer("a") for _ in range(each)]) for _ in range(threads)]
+            for it in all_of:
+                it.join(PATIENCE)
+            self.assertLess(time.monotonic() - began, threads * each * self.ROUND_TRIP / 4)
+        with Broker(server.port, patience=PATIENCE) as broker:
+            self.assertEqual(broker.size(), 1 + threads * each)
+
+    def most_held(self, path):
+        """How many jobs a session held at most, as its requests were carried out one after the other."""
+        held = most = 0
+        with open(path, encoding="ascii") as file:
+            for line in map(json.loads, file):
+                held += sum(it.startswith("ITEM ") for it in line["reply"]) - line["request"].startswith("DONE ")
+                most = max(most, held)
+        return most
 
 
 class ConcurrentJobsTest(ServedTest):

@@ -112,12 +112,11 @@ class CrowdTest(ServedTest):
         server = self.serve("--workers", 4, "--sessions", 2_000, "--turns", 50)
         crew = self.gather(server, 8, lambda job: True)
         time.sleep(0.5)  # all of the server's workers have one of them
-        with Producer(server.port) as producer:
-            for payload in ("first", "second"):
+        for payload in ("first", "second"):
+            with Producer(server.port) as producer:
                 began = time.monotonic()
                 producer.offer(payload)
                 self.assertLess(time.monotonic() - began, 15)
-                producer.close()
             self.assertGreater(producer.waited, 0)
         self.wait_until(lambda: len(crew.done()) == 2)
         self.assertEqual(crew.stop(), Report(done=2))

@@ -1,4 +1,5 @@
 """A producer whose servers go away, are full, or have no memory."""
+import functools
 import os
 import threading
 import time
@@ -64,6 +65,22 @@ class ProducerTest(ProducerCase):
             self.assertRaises(fault, offer, producer)
         with self.kind(free_port(), patience=0.2) as producer:
             self.assertRaises(NotOfferedError, offer, producer)
+
+    def test_patience_is_that_of_all_that_an_offer_waits_for(self):
+        self.late = lambda _: time.sleep(0.7 * patience)
+        patience, began = 1.0, time.monotonic()
+        producer = self.produce(f"AT 0 > late: ERR 1 syntax; {OFFER} > nothing", patience=patience)
+        with self.assertRaisesRegex(InDoubtError, r"no reply came within 0\.[23] seconds$"):
+            offer(producer)
+        self.assertLess(time.monotonic() - began, 1.3 * patience)
+
+    def test_after_its_end_a_producer_offers_nothing(self):
+        for sessions in ((), (FIRST,)):
+            producer = self.produce(*sessions)
+            for _ in sessions:
+                offer(producer)
+            producer.close()
+            self.assertRaisesRegex(RuntimeError, "^the producer is closed$", offer, producer)
 
     def test_offers_that_are_tried_again(self):
         for why, *sessions in (
@@ -157,27 +174,91 @@ class LeavingThreadTest(ProducerCase):
         self.assertEqual(offer(producer), Offered(1, 5))
 
 
+    def test_a_process_that_is_forked_while_another_thread_offers(self):
+        is_asked, may_answer, told = threading.Event(), threading.Event(), []
+        self.goes_on = lambda _: is_asked.set() or may_answer.wait(PATIENCE)
+        for steps in (f"AT 0 > goes_on: ERR 1 syntax; {FIRST}", f"{OFFER} > goes_on: OFFERED 0 5"):
+            producer, other = self.produce(steps), self.play(f"AT 0; {OFFER} > OFFERED 7 5")
+            thread = threading.Thread(target=lambda: told.append(offer(producer)), daemon=True)
+            thread.start()
+            self.assertTrue(is_asked.wait(PATIENCE))
+            child = os.fork()
+            if child == 0:
+                try:
+                    producer._session_at = lambda _: Broker(other.port)
+                    id = offer(producer).id
+                    producer.close()
+                    os._exit(id)
+                finally:
+                    os._exit(99)
+            self.assertEqual(os.waitstatus_to_exitcode(os.waitpid(child, 0)[1]), 7)
+            may_answer.set()
+            thread.join(PATIENCE)
+            self.assertEqual(told.pop(), Offered(0, 5))
+            is_asked.clear()
+            may_answer.clear()
+
+
 @for_both_kinds
 class ThreadsTest(ProducerCase):
     """Threads, or tasks, that share a producer."""
 
-    def test_their_offers_take_turns(self):
+    def test_their_offers_go_out_together_and_each_is_handed_its_reply(self):
+        told, seen = {}, {it: threading.Event() for it in "abcd"}
+        self.sees = lambda _, payload: seen[payload].set()
+
+        def offer_behind(payload, other):
+            self.assertTrue(other is None or seen[other].wait(PATIENCE))
+            told[payload] = offer(producer, payload).id
+
+        sent = "; ".join(f"OFFER 5 {it} > sees {it}: nothing" for it in "abc")
+        producer = self.produce(f"{sent}; OFFER 5 d > OFFERED 0 5, OFFERED 1 5, OFFERED 2 5, OFFERED 3 5; {OFFER} > "
+                                "OFFERED 4 5")
+        self.in_threads(*[functools.partial(offer_behind, *it) for it in zip("abcd", (None, *"abc"))])
+        self.assertEqual((told, offer(producer)), ({"a": 0, "b": 1, "c": 2, "d": 3}, Offered(4, 5)))
+
+    def test_many_offers_at_the_same_time(self):
         count, told = 40, []
         producer = self.produce("; ".join(f"{OFFER} > OFFERED {id} 5" for id in range(count)))
         self.in_threads(*[lambda: [told.append(offer(producer).id) for _ in range(count // 4)]] * 4)
         self.assertEqual(sorted(told), list(range(count)))
 
-    def test_one_that_waits_for_another_too_long_has_not_offered(self):
+    def offer_beside(self, steps, fault, text):
+        """An offer, and another one that has less patience and fails, while the server lets the first wait."""
         is_asked, is_over, told = threading.Event(), threading.Event(), []
         self.goes_on = lambda _: is_asked.set() or is_over.wait(PATIENCE)
 
         def offer_meanwhile():
             self.assertTrue(is_asked.wait(PATIENCE))
             with unittest.mock.patch.object(getattr(producer, "thing", producer), "_patience", 0.2):
-                self.assertRaises(NotOfferedError, offer, producer, "b")
-            told.append("no turn")
+                self.assertRaisesRegex(fault, text, offer, producer, "b")
+            told.append("given up")
             is_over.set()
 
-        producer = self.produce(f"{OFFER} > goes_on: OFFERED 0 5")
+        producer = self.produce(*steps)
         self.in_threads(lambda: told.append(offer(producer)), offer_meanwhile)
-        self.assertEqual(told, ["no turn", Offered(0, 5)])
+        self.assertEqual(told, ["given up", Offered(0, 5)])
+        return producer
+
+    def test_one_that_waits_for_another_too_long_has_not_offered(self):
+        self.offer_beside([f"AT 0 > goes_on: ERR 1 syntax; {FIRST}"], NotOfferedError,
+                          r"^OFFER 5 b was not offered: another offer has been looking for the server at "
+                          r"127.0.0.1:\d+ for 0\.\d seconds$")
+
+    def test_a_reply_that_one_does_not_wait_for_is_not_anothers(self):
+        producer = self.offer_beside([f"{OFFER} > goes_on: nothing; OFFER 5 b > OFFERED 0 5; > hangs up",
+                                      "OFFER 5 c > OFFERED 2 5"], InDoubtError,
+                                     r"^OFFER 5 b was accepted or not: no reply came within 0\.\d seconds$")
+        self.assertEqual(offer(producer, "c"), Offered(2, 5))
+
+    def test_all_that_wait_are_in_doubt_once_the_session_is_lost(self):
+        doubts = []
+
+        def be_in_doubt():
+            with self.assertRaisesRegex(InDoubtError, f"^{OFFER} was accepted or not: "):
+                offer(producer)
+            doubts.append(OFFER)
+
+        producer = self.produce("; ".join([f"{OFFER} > nothing"] * 3 + [f"{OFFER} > hangs up"]), SECOND)
+        self.in_threads(*[be_in_doubt] * 4)
+        self.assertEqual((len(doubts), offer(producer)), (4, Offered(1, 5)))

@@ -1,0 +1,176 @@
+"""A session that threads or tasks share: their requests go out as they come, and each is handed its reply."""
+
+import threading
+import time
+from collections import deque
+from collections.abc import Callable
+from selectors import EVENT_READ, EVENT_WRITE
+from typing import Any
+
+from .broker import Session
+from .durations import FOR_EVER
+from .errors import DisconnectedError, UnknownReplyError
+from .request import Answer, Request
+
+
+class LeftError(Exception):
+    """The session takes no request any more. The one that it was given was not sent."""
+
+
+class _Call:
+    """A request that was sent, and who waits for its reply."""
+
+    def __init__(self, take: Callable[[Any], object]) -> None:
+        self.take, self.answer = take, None  # what is called with the answer; and that, or an exception
+        self.is_answered = self.is_given_up = False
+        self._bell: Any = None  # where it sleeps while another reads
+
+    def sleep_at(self, bell: Any) -> None:
+        self._bell = bell
+
+    def wake(self) -> bool:
+        """Wakes who sleeps. Gives whether somebody does."""
+        bell, self._bell = self._bell, None
+        if bell is not None:
+            bell.release()
+        return bell is not None
+
+
+class Pipeline:
+    """The requests of several callers in one session, which is served already. One of those that wait reads for all, as
+    long as the reply to its own request has not come; then another goes on.
+
+    A session in which nobody waits for the replies that are due is closed.
+    """
+
+    def __init__(self, session: Session) -> None:
+        self._session, self._kind = session, session._kind
+        self._lock = threading.Lock()  # in which nobody waits
+        self._calls: deque[_Call] = deque()  # whose replies have not come
+        self._waiting = 0  # of these, that are not given up
+        self._is_read = self._is_ended = False
+        self._is_left = False  # whether no request is to be added
+        self._at_end: list[Any] = []  # where those sleep that wait for the end
+
+    @property
+    def is_left(self) -> bool:
+        """Whether it takes no request any more."""
+        return self._is_left
+
+    async def ask(self, request: Request[Answer], deadline: float, take: Callable[[Answer], object] = lambda _: None,
+                  is_last: bool = False) -> Answer:
+        """Sends a request, and gives its answer. `take` is called with each answer that is no exception, in the order
+        of the requests. Raises `LeftError` if it was not sent, and `TimeoutError` at the deadline. If the session is
+        lost the exception is another `OSError`."""
+        call, sent = _Call(take), time.monotonic()
+        with self._lock:
+            if not self._is_read:
+                self._hear()  # who reads knows first if the session is lost
+            if self._is_left:
+                raise LeftError
+            self._is_left = is_last
+            self._calls.append(call)
+            self._waiting += 1
+            self._send(request)
+        try:
+            while not call.is_answered:
+                if not await self._wait(call, deadline):
+                    raise TimeoutError(f"no reply came within {time.monotonic() - sent:.1f} seconds")
+        finally:
+            with self._lock:
+                if not call.is_answered:
+                    call.is_given_up = True
+                    self._waiting -= 1
+                self._pass_on()
+        if isinstance(call.answer, Exception):
+            raise call.answer
+        answer: Any = call.answer
+        return answer  # type: ignore[no-any-return]
+
+    def leave(self) -> None:
+        """Takes no request any more, and hangs up once nobody waits."""
+        with self._lock:
+            self._is_left = True
+            self._pass_on()
+
+    async def end(self) -> None:
+        """Waits until it has hung up."""
+        with self._lock:
+            if self._is_ended:
+                return
+            self._at_end.append(bell := self._kind.bell())
+        await self._kind.acquire(bell, FOR_EVER)
+
+    def forget(self) -> None:
+        """Closes the descriptor of a session that is another process's."""
+        self._session.forget()
+
+    async def _wait(self, call: _Call, deadline: float) -> bool:
+        with self._lock:
+            if call.is_answered:
+                return True
+            reads, self._is_read = not self._is_read, True
+            if not reads:
+                call.sleep_at(bell := self._kind.bell())
+        if not reads:
+            return await self._kind.acquire(bell, max(deadline - time.monotonic(), 0))
+        try:
+            return await self._read(call, deadline)
+        finally:
+            self._is_read = False  # whereupon `ask` wakes another
+
+    async def _read(self, call: _Call, deadline: float) -> bool:
+        while not call.is_answered:
+            events = EVENT_READ if self._session.is_sent else EVENT_READ | EVENT_WRITE
+            if not await self._kind.ready(self._session._socket, events, max(deadline - time.monotonic(), 0)):
+                return False
+            with self._lock:
+                self._hear()
+        return True
+
+    def _send(self, *requests: Request[Any]) -> None:
+        try:
+            self._session.post(*requests)
+            self._hand_out()
+        except (OSError, UnknownReplyError) as fault:
+            self._lose(fault)
+
+    def _hear(self) -> None:
+        self._session.receive()
+        try:
+            self._hand_out()  # what came before the session was lost
+        except UnknownReplyError as fault:
+            self._lose(fault)
+        self._send()
+
+    def _hand_out(self) -> None:
+        while self._calls and self._session.has_answer:
+            answer = self._session.take_answer()
+            if not isinstance(answer, Exception):
+                self._calls[0].take(answer)
+            self._settle(answer)
+
+    def _settle(self, answer: Any) -> None:
+        call = self._calls.popleft()
+        call.answer, call.is_answered = answer, True
+        self._waiting -= not call.is_given_up
+        call.wake()
+
+    def _lose(self, fault: Exception) -> None:
+        self._is_left = True
+        while self._calls:
+            self._settle(fault)
+            if isinstance(fault, UnknownReplyError):  # which answers the first
+                fault = DisconnectedError(f"the server sent a line that answers no request: {fault}")
+
+    def _pass_on(self) -> None:
+        # Somebody is to read for those that wait, or, if nobody does, the session is to end in which something is due.
+        if self._is_read or self._is_ended:
+            return
+        if self._waiting:
+            any(it.wake() for it in self._calls)
+        elif self._is_left or self._calls:
+            self._is_left = self._is_ended = True
+            self._session.close()
+            for it in self._at_end:
+                it.release()
