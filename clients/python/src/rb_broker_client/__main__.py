@@ -91,7 +91,9 @@ def _parser() -> argparse.ArgumentParser:
         help="leaves a session that is so old, and begins the next (default: 30)")
     add("--timeout", type=_seconds, metavar="SECONDS", help="fails a job that takes longer")
     add("--on-dead", type=_function, metavar="MODULE:FUNCTION",
-        help="what is called with each job whose last attempt failed")
+        help="what is called with each job that failed and won't come back")
+    add("--attempts", type=_whole(1, 1_000), metavar="N",
+        help="those of the server, so that --on-dead is told of a last one that ended with its session")
     add = command("offer", "offers jobs that expire after this delay", _offer, "2s letter-17 letter-18 ")
     add("delay", type=_delay, metavar="DELAY", help="5s, 2m, 1.5h, or a number of seconds (units: ns us ms s m h d)")
     add("payloads", nargs="*", metavar="PAYLOAD",
@@ -129,7 +131,7 @@ def _work(asked: Asked) -> Iterator[str]:
     if inspect.iscoroutinefunction(asked.on_dead) and not is_async:
         raise ValueError("--on-dead can be a coroutine function only if the handler is one")
     worker = _client(AsyncWorker if is_async else Worker, asked, asked.handler, concurrency=asked.concurrency,
-                     session=asked.session, timeout=asked.timeout, on_dead=asked.on_dead)
+                     session=asked.session, timeout=asked.timeout, on_dead=asked.on_dead, attempts=asked.attempts)
 
     def stop(number: int, _: Any) -> None:
         signal.signal(number, signal.SIG_DFL)  # whoever asks twice does not want to wait

@@ -28,6 +28,15 @@ _NOT_NOW = (BlockingIOError, ssl.SSLWantReadError, ssl.SSLWantWriteError)
 _RECORDING = threading.Lock()  # clients of several threads may write to one file
 
 
+def checked_port(port: int) -> int:
+    """A port at which a server can be. Raises `ValueError`, or `TypeError` for what is no whole number."""
+    if not isinstance(port, int):
+        raise TypeError(f"a port is a whole number, not {port!r}")
+    if not 1 <= port <= 65_535:
+        raise ValueError(f"a port is from 1 to 65535, not {port}")
+    return port
+
+
 class Session:
     """What `Broker` and `AsyncBroker` have in common."""
 
@@ -40,7 +49,7 @@ class Session:
         and the certificates are those of this context. To `record`, a text file, a line is added for each request once
         it has its answer, or at the end: when it was sent, when its reply had come (null if that never came), its line,
         and the reply's lines."""
-        self._port, self._host, self._tls = port, host, tls
+        self._port, self._host, self._tls = checked_port(port), host, tls
         self.patience = None if patience is None else seconds(patience)
         self._fault: Exception | None = RuntimeError("the broker is not connected")
         self._record, self._name = record, uuid.uuid4().hex
@@ -48,6 +57,7 @@ class Session:
         self._due: deque[tuple[Request[Any], int]] = deque()  # requests without an answer, with when each was sent
         self._lines: deque[bytes] = deque()  # that came, and are not taken for a reply
         self._rest, self._came = b"", 0  # of a line of which more is to come, and when that came
+        self._is_asking = False  # whether a thread or task waits for answers
         self._is_unclear = False  # which line answers which request, after an unknown reply
         self._answers: deque[Any] = deque()  # that nobody has taken yet, each refusal in its place
         self.at_end = ExitStack()
@@ -174,8 +184,17 @@ class Session:
         """Sends any number of requests in one piece, and gives the answer to each. For a request that was refused, or
         whose wait was given up, the answer is that exception."""
         self._demand()
+        if self._is_asking:
+            raise RuntimeError("another thread or task waits for a reply in this session, which is for one at a time")
         if self.unanswered:
             raise RuntimeError("the wait for a reply was broken off, so that the session can only be closed")
+        self._is_asking = True
+        try:
+            return await self._exchange(requests)
+        finally:
+            self._is_asking = False
+
+    async def _exchange(self, requests: Iterable[Request[Any]]) -> list[Any]:
         self.post(*requests)
         answers = []
         while self.unanswered:

@@ -5,10 +5,12 @@ import os
 from collections.abc import Callable, Iterator
 from contextlib import contextmanager
 from datetime import datetime, timezone
-from typing import IO
+from functools import partial
+from typing import IO, Any
 
 from .job import Job
 from .producer import AsyncProducer, Producer
+from .waiting import Looping
 
 _LONGEST = 4_096  # bytes of no line are more
 
@@ -17,7 +19,8 @@ class DeadLetters:
     """Keeps dead jobs: `Worker(.., on_dead=DeadLetters("dead.jsonl"))`.
 
     A file has a line of JSON for each, which is on the disk when the call returns. Several workers may have one file. A
-    producer, of a server that is the queue for such jobs, offers each to it: an `AsyncProducer` in an `AsyncWorker`.
+    producer, of a server that is the queue for such jobs, offers each to it: an `AsyncProducer` in an `AsyncWorker`,
+    which waits for a file or another producer in a thread.
     """
 
     def __init__(self, target: str | os.PathLike[str] | Producer | AsyncProducer) -> None:
@@ -26,7 +29,17 @@ class DeadLetters:
         if not isinstance(target, (Producer, AsyncProducer)):
             open(target, "ab").close()
 
-    def __call__(self, job: Job) -> object:
+    @property
+    def is_async(self) -> bool:
+        """Whether what a call gives is to be awaited."""
+        return isinstance(self._target, AsyncProducer)
+
+    async def keep(self, job: Job) -> None:
+        """Keeps a job, and holds up no event loop."""
+        kept = self(job) if self.is_async else Looping.apart(partial(self, job))
+        await kept
+
+    def __call__(self, job: Job) -> Any:
         """Keeps a job. What is given for an `AsyncProducer` is to be awaited."""
         if isinstance(self._target, (Producer, AsyncProducer)):
             return self._target.offer(job.payload)

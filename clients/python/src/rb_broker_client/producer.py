@@ -14,7 +14,7 @@ from functools import partial
 from typing import Any, ClassVar, Self, TextIO
 from weakref import WeakSet
 
-from .broker import AsyncBroker, Broker, Session
+from .broker import AsyncBroker, Broker, Session, checked_port
 from .durations import FOR_EVER, Ages, Duration, Pauses, nanoseconds, seconds
 from .errors import BrokerError, FullError, InDoubtError, NotOfferedError, OutOfMemoryError
 from .job import Offered
@@ -39,7 +39,7 @@ class BaseProducer:
                  record: TextIO | None = None) -> None:
         """Connects to nothing yet. An offer takes no longer than `patience`, whatever it waits for. With None for
         `session` each is kept as long as it can be had. `tls` and `record` are those of a `Broker`."""
-        self._session_at = partial(self._session_of, port, host, tls=tls, record=record)
+        self._session_at = partial(self._session_of, checked_port(port), host, tls=tls, record=record)
         self._may_double, self._patience = may_double, seconds(patience)
         self._pauses, self._ages = pauses or Pauses(longest=2.0), Ages(session, first_is_brief=False)
         self._run, self._kind = Run(log, f"{host}:{port}"), self._session_of._kind

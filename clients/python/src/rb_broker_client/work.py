@@ -33,8 +33,10 @@ class Work:
     with each job whose handler has ended.
     """
 
-    def __init__(self, wait: float, report: Report, pauses: Pauses, run: Run, ages: Ages) -> None:
-        """A wait for a job lasts so many seconds while none runs."""
+    def __init__(self, wait: float, report: Report, pauses: Pauses, run: Run, ages: Ages,
+                 attempts: float = math.inf) -> None:
+        """A wait for a job lasts so many seconds while none runs. Each job has so many attempts."""
+        self._attempts, self._is_lost = attempts, False
         self._wait, self._report, self._pauses, self._run, self._ages = wait, report, pauses, run, ages
         self._waits: list[Request[Any]] = [Request.poll_for(it) for it in (wait, wait / BESIDE)]  # one beside jobs
         self.is_served, self._end = False, math.inf  # when the session is old
@@ -43,7 +45,7 @@ class Work:
         self._ended: list[Asked] = [(Request.greeting(), self._served)]  # what is to be sent
         self._held: dict[int, Job] = {}  # what the server gave, and has not said to have ended
         self._refused: list[Job] = []  # what failed, and could not come back for want of memory
-        self._fails = 0  # failures whose answer is due
+        self._fails: dict[int, Job] = {}  # failures whose answer is due
         self.fetching = 0  # how many jobs are asked for
         self._is_waiting = False  # whether a wait is to be answered, behind which the server reads nothing
         self._found_one = self._more_are_due = False  # by the last wait, and by the last drain
@@ -86,14 +88,24 @@ class Work:
         """Takes the answer to the first request that has none: a value, a refusal, or a wait that was given up."""
         self._asked.popleft()(answer)
 
+    @property
+    def is_holding(self) -> bool:
+        """Whether there is a job of which the server is to be told, or has not said what came of it."""
+        return bool(self._held)
+
+    def broke_off(self, job: Job) -> None:
+        """The handler of a job broke off, and the worker ends. The end of the session fails the job."""
+        self._report.unheard += self._held.pop(job.id, None) is not None
+
     def ended(self, job: Job, is_done: bool) -> None:
-        """The handler of a job has ended, or took too long. If the session was lost meanwhile this changes nothing, as
-        nothing more is asked."""
+        """The handler of a job has ended, or took too long. If the session was lost meanwhile nothing more is asked."""
         if is_done:
             self._ended.append((Request.done(job.id), partial(self._done, job)))
         else:
-            self._fails += 1
+            self._fails[job.id] = job
             self._ended.append((Request.fail(job.id), partial(self._failed, job)))
+            if self._is_lost:
+                self._fail_unheard([job])
 
     def wait_anew(self) -> None:
         """The server had no worker that is free for this session, other than one that the same client has left now."""
@@ -101,8 +113,17 @@ class Work:
 
     def lost(self) -> None:
         """The session was lost. What the server made of the jobs that it gave is not known."""
+        self._is_lost = True
         self._report.unheard += len(self._held)
         self._held.clear()
+        self._fail_unheard([*self._fails.values(), *self._refused])
+
+    def _fail_unheard(self, failed: list[Job]) -> None:
+        # The end of the session has failed these, or will, of which no reply tells.
+        for job in failed:
+            if job.attempt >= self._attempts:
+                self.dead.append(job)
+                log.error("job %s failed in its last attempt, %d, and its session was lost", job.payload, job.attempt)
 
     def pause(self) -> float:
         """Within how many seconds something is to be done though nothing happens, which was not to be done when it was
@@ -116,6 +137,7 @@ class Work:
             if is_stopping:  # the end of the session fails it
                 self._report.unheard += 1
                 del self._held[job.id]
+                self._fail_unheard([job])
             else:
                 self.ended(job, False)
 
@@ -193,7 +215,7 @@ class Work:
         self._report.done += 1
 
     def _failed(self, job: Job, answer: Any) -> None:
-        self._fails -= 1
+        del self._fails[job.id]
         if isinstance(answer, OutOfMemoryError):
             self._refused.append(job)
             self._next_try = monotonic() + self._pauses.next()
@@ -207,6 +229,7 @@ class Work:
         elif isinstance(answer, FullError):
             self._report.lost += 1
             self.is_used_up = True
+            self.dead.append(job)
             log.error("job %s is lost: it failed in a full run", job.payload)
         else:
             self._report.dead += 1

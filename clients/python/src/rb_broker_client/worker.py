@@ -14,7 +14,8 @@ from dataclasses import dataclass
 from functools import partial
 from typing import Any, ClassVar, TextIO
 
-from .broker import AsyncBroker, Broker, Session
+from .broker import AsyncBroker, Broker, Session, checked_port
+from .dead_letters import DeadLetters
 from .durations import FOR_EVER, Ages, Duration, Pauses, seconds
 from .job import MOST_HELD, Job, Report
 from .run import Run
@@ -52,7 +53,7 @@ class BaseWorker:
 
     def __init__(self, handler: Function, port: int, host: str = "127.0.0.1", *, concurrency: int = 1,
                  wait: Duration = 1.0, patience: Duration = 10.0, session: Duration | None = 30.0,
-                 timeout: Duration | None = None, on_dead: Function | None = None,
+                 timeout: Duration | None = None, on_dead: Function | None = None, attempts: int | None = None,
                  tls: ssl.SSLContext | None = None, pauses: Pauses | None = None,
                  record: TextIO | None = None) -> None:
         """Connects to nothing yet.
@@ -63,27 +64,30 @@ class BaseWorker:
         `session` is the age beyond which a session is left; None keeps each as long as it can be had. A job whose
         handler takes longer than `timeout` fails; its place is free once the handler returns.
 
-        `on_dead` is called with each job whose failure the server answered with `DEAD`, and is the place to keep it. It
-        isn't called for a job whose last attempt ended with its session, of which no reply tells. An `Exception` that
-        it raises is logged. `tls` and `record` are those of a `Broker`.
+        `on_dead` is called with each job that failed and won't come back, and is the place to keep it: the server said
+        so, or its run is full. That the last attempt ended with a lost session no reply tells: `attempts` is how many a
+        job has at this server, and with it `on_dead` is called for such a job too. An `Exception` that it raises is
+        logged. `tls` and `record` are those of a `Broker`.
         """
         if not 1 <= concurrency <= MOST_HELD:
             raise ValueError(f"from 1 to {MOST_HELD} jobs can run at the same time")
-        for it in (handler, on_dead):
-            if inspect.iscoroutinefunction(it) and not self._session_of._kind.is_async:
-                raise TypeError(f"only an AsyncWorker awaits a coroutine function: {it!r}")
         self._handler, self._on_dead, self._concurrency = handler, on_dead, concurrency
-        self._session_at = partial(self._session_of, port, host, tls=tls, record=record)
+        for it in (handler, on_dead or handler):
+            self._check(it)
+        if isinstance(on_dead, DeadLetters) and self._session_of._kind.is_async:
+            self._on_dead = on_dead.keep
+        self._session_at = partial(self._session_of, checked_port(port), host, tls=tls, record=record)
         self._wait, self._patience = seconds(wait), seconds(patience)
         self._timeout = math.inf if timeout is None else seconds(timeout)
+        self._attempts = math.inf if attempts is None else attempts
         self._ages, self._pauses = Ages(session, first_is_brief=True), pauses or Pauses()
         self._run_known = Run(log, f"{host}:{port}")
         self._turns = self._turns_of(concurrency > 1 or timeout is not None)
-        self._is_stopping = self._is_connecting = False
+        self._has_run = self._is_stopping = self._is_connecting = False
         self._visits: dict[Work, Session] = {}  # two at most, the older one first
         self._next_visit = 0.0  # when the next may begin
         self._calls: set[_Call] = set()  # that run
-        self._ends: deque[tuple[_Call, bool]] = deque()  # of those that have ended: whether the job is done
+        self._ends: deque[tuple[_Call, bool | None]] = deque()  # whether the job is done, or None if it ends the worker
         self._fault: BaseException | None = None  # of a handler or of the host, for the caller of `run`
         self.report = Report()
 
@@ -93,8 +97,22 @@ class BaseWorker:
         self._is_stopping = True
         self._turns.wake()
 
+    def _check(self, function: object) -> None:
+        if not callable(function):
+            raise TypeError(f"a function is to be called with each job, not {function!r}")
+        if inspect.isgeneratorfunction(function) or inspect.isasyncgenfunction(function):
+            raise TypeError(f"nothing runs a generator: {function!r}")
+        if not self._session_of._kind.is_async and (
+                inspect.iscoroutinefunction(function) or isinstance(function, DeadLetters) and function.is_async):
+            raise TypeError(f"only an AsyncWorker awaits a coroutine function: {function!r}")
+
     async def _work(self) -> Report:
-        """Works until `stop`, once for each worker. At the end no job is held, and the session has ended."""
+        """Works until `stop`, once for each worker. At the end no job is held, and the session has ended. Something
+        that a handler raised and that is no `Exception`, such as `SystemExit`, is raised once the other jobs in hand
+        have ended and were told."""
+        if self._has_run:
+            raise RuntimeError("a worker runs once: make another one")
+        self._has_run = True
         is_over = threading.Event()
         watch = threading.Thread(target=self._watch, args=[is_over], name="rb_broker_client-watches", daemon=True)
         try:
@@ -105,6 +123,8 @@ class BaseWorker:
             for work in [*self._visits]:
                 self._end(work)
             await self._turns.close()
+        if self._fault is not None:
+            raise self._fault
         return self.report
 
     def _watch(self, is_over: threading.Event) -> None:
@@ -148,7 +168,7 @@ class BaseWorker:
             with ExitStack() as undo:
                 undo.callback(session.close)
                 await session._connect()
-                work = Work(self._wait, self.report, self._pauses, self._run_known, self._ages)
+                work = Work(self._wait, self.report, self._pauses, self._run_known, self._ages, self._attempts)
                 session.post(*work.ask(0, 0, False))
                 undo.pop_all()
             self._turns.watch(session)
@@ -157,7 +177,7 @@ class BaseWorker:
             self._run_known.away("no server at %s: %s", fault)
             self._next_visit = time.monotonic() + self._pauses.next()
         except Exception as fault:  # as of a host that is none
-            self._fault = fault
+            self._break_off(fault)
         self._is_connecting = False
         self._turns.ended()
 
@@ -184,11 +204,15 @@ class BaseWorker:
             raise TimeoutError(f"the server did not answer within {self._patience} seconds")
         for job in work.given:
             self._start(self._handler, job, work)
-        if self._on_dead is not None:
-            for job in work.dead:
-                self._start(self._on_dead, job, None)
-        work.given, work.dead = [], []
+        work.given = []
+        self._bury(work)
         self._settle()
+
+    def _bury(self, work: Work) -> None:
+        dead, work.dead = work.dead, []
+        if self._on_dead is not None:
+            for job in dead:
+                self._start(self._on_dead, job, None)
 
     def _attend(self, work: Work, session: Session) -> None:
         running = len(self._calls)
@@ -211,6 +235,7 @@ class BaseWorker:
 
     def _end(self, work: Work, pause: float = 0) -> None:
         work.lost()
+        self._bury(work)
         session = self._visits.pop(work)
         for it in self._visits:
             it.wait_anew()
@@ -223,13 +248,16 @@ class BaseWorker:
         call.cancel = self._turns.start(self._run(call), len(self._calls) - 1)
 
     async def _run(self, call: _Call) -> None:
-        job, is_done = call.job, False
+        job = call.job
+        is_done: bool | None = False
         try:
             called = call.function(job)
             if inspect.isawaitable(called):
                 if not self._session_of._kind.is_async:
                     raise TypeError("only an AsyncWorker awaits what a handler gives")
                 await called
+            elif inspect.isgenerator(called) or inspect.isasyncgen(called):
+                raise TypeError("nothing runs the generator that a handler gives")
             is_done = True
         except Exception:
             if call.work is None:
@@ -240,24 +268,33 @@ class BaseWorker:
             if call.work is not None and not call.is_told:
                 log.warning("attempt %d of job %s was cancelled", job.attempt, job.payload)
         except BaseException as fault:
-            self._fault = fault
+            is_done = None
+            self._break_off(fault)
         self._ends.append((call, is_done))
         self._turns.ended()
 
+    def _break_off(self, fault: BaseException) -> None:
+        self._fault, self._is_stopping = self._fault or fault, True
+
     def _settle(self) -> None:
-        if self._fault is not None:
-            raise self._fault
         while self._ends:
             call, is_done = self._ends.popleft()
             self._calls.discard(call)
             if call.work is not None and not call.is_told:
-                call.work.ended(call.job, is_done)
+                if is_done is None:
+                    call.work.broke_off(call.job)
+                else:
+                    call.work.ended(call.job, is_done)
+                    self._bury(call.work)
+        if self._fault is not None and not (self._calls or any(it.is_holding for it in self._visits)):
+            raise self._fault
         for it in self._limited():
             if it.work and it.began <= time.monotonic() - self._timeout:
                 log.error("the handler of job %s, attempt %d, takes longer than %g seconds: the job fails",
                           it.job.payload, it.job.attempt, self._timeout)
                 it.is_told = True
                 it.work.ended(it.job, False)
+                self._bury(it.work)
                 it.cancel()
 
     def _limited(self) -> list[_Call]:

@@ -11,7 +11,8 @@ import unittest.mock
 from from_threads import for_both_kinds, settle
 from scripted import PATIENCE, ScriptedTest, free_port
 from rb_broker_client import (
-    Again, Broker, DisconnectedError, FullError, Job, NotHeldError, Offered, Request, StoppedError, UnknownReplyError,
+    Again, AsyncBroker, AsyncProducer, Broker, DisconnectedError, FullError, Job, NotHeldError, Offered, Producer, Request,
+    StoppedError, UnknownReplyError, Worker,
 )
 
 DRAINED_LATE = "DRAIN 2 > DRAINED 2, ITEM 0 0 1 a; SIZE > late: ITEM 1 0 1 b, SIZE 0"
@@ -46,6 +47,33 @@ class BrokerTest(BrokerCase):
         self.assertRaises(TimeoutError, broker.size)
         self.assertRaises(RuntimeError, broker.size)
         self.assertRaises(RuntimeError, broker.ask_all, [Request.size()])
+
+    def test_two_threads_at_a_time(self):
+        self.asks = lambda _: refused.append(self.asked_beside(broker))
+        refused, broker = [], self.connect("SIZE > asks: SIZE 3")
+        self.assertEqual((broker.size(), len(refused)), (3, 1))
+        self.assertRegex(refused[0], "^another thread or task waits for a reply in this session, ")
+
+    def asked_beside(self, broker):
+        try:
+            return broker.size()
+        except RuntimeError as fault:
+            return str(fault)
+
+    def test_a_look_whether_it_is_lost_takes_nothing(self):
+        broker = self.connect("SIZE > SIZE 3; > hangs up")
+        broker.post(Request.size())
+        deadline = time.monotonic() + PATIENCE
+        while not broker.has_answer and time.monotonic() < deadline:
+            self.assertFalse(broker.is_lost())
+            self.assertFalse(broker.has_answer)
+            broker.receive()
+        self.assertEqual(broker.received(), [3])
+
+    def test_ports_at_which_no_server_can_be(self):
+        for kind in (Broker, AsyncBroker, Producer, AsyncProducer, functools.partial(Worker, print)):
+            for fault, port in ((ValueError, 0), (ValueError, 70_000), (ValueError, -1), (TypeError, "7011")):
+                self.assertRaisesRegex(fault, "^a port is ", kind, port)
 
     def test_a_server_that_hangs_up_or_cuts_a_line_off(self):
         for steps in (["SIZE > hangs up"], [("SIZE", b"SIZ"), "QUIT > hangs up"]):

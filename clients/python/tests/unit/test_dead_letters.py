@@ -1,13 +1,15 @@
 """Dead letters: kept in a file or in a queue of their own, shown, and offered again."""
 import asyncio
+import fcntl
 import functools
 import json
+import threading
 
 from from_threads import for_both_kinds
 from scripted import PATIENCE, ScriptedTest, free_port
 from test_command import run
 from worker_case import LAST, WorkerCase
-from rb_broker_client import AsyncProducer, DeadLetters, Job, Producer, Report
+from rb_broker_client import AsyncProducer, AsyncWorker, DeadLetters, Job, Producer, Report, Worker
 
 BAD, KEEPS_B = "WAIT > ITEM 2 1000 3 b; FAIL 2 > DEAD 2", "AT 0; OFFER 0 b > OFFERED 0 5"
 
@@ -53,6 +55,29 @@ class KeptTest(FileCase, WorkerCase):
 
     def test_a_file_that_can_not_be_written(self):
         self.assertRaises(FileNotFoundError, DeadLetters, "/no/such/folder/dead.jsonl")
+
+
+class LoopTest(FileCase):
+    """Dead letters of a worker of asyncio."""
+
+    def test_a_file_that_another_has_holds_up_no_other_job(self):
+        async def handle(job):
+            if job.payload == "a":
+                fcntl.flock(held, fcntl.LOCK_UN)
+                worker.stop()
+            else:
+                raise ValueError
+
+        with open(self.path, "ab") as held:
+            fcntl.flock(held, fcntl.LOCK_EX)
+            server = self.play("AT 0; WAIT > ITEM 2 1000 3 b; FAIL 2 > DEAD 2; BRIEF > ITEM 0 0 1 a; DONE 0; QUIT")
+            worker = AsyncWorker(handle, server.port, concurrency=2, on_dead=DeadLetters(self.path))
+            threading.Timer(PATIENCE, worker.stop).start()
+            self.assertEqual(asyncio.run(asyncio.wait_for(worker.run(), PATIENCE)), Report(done=1, dead=1))
+        self.assertEqual(self.payloads(), ["b"])
+
+    def test_a_worker_without_a_loop_offers_by_no_producer_of_one(self):
+        self.assertRaises(TypeError, Worker, print, 7011, on_dead=DeadLetters(AsyncProducer(7012)))
 
 
 class CommandTest(FileCase):

@@ -178,7 +178,7 @@ class LeavingThreadTest(ProducerCase):
         is_asked, may_answer, told = threading.Event(), threading.Event(), []
         self.goes_on = lambda _: is_asked.set() or may_answer.wait(PATIENCE)
         for steps in (f"AT 0 > goes_on: ERR 1 syntax; {FIRST}", f"{OFFER} > goes_on: OFFERED 0 5"):
-            producer, other = self.produce(steps), self.play(f"AT 0; {OFFER} > OFFERED 7 5")
+            producer, other = self.produce(steps, session=None), self.play(f"AT 0; {OFFER} > OFFERED 7 5")
             thread = threading.Thread(target=lambda: told.append(offer(producer)), daemon=True)
             thread.start()
             self.assertTrue(is_asked.wait(PATIENCE))

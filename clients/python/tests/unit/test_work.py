@@ -1,6 +1,7 @@
 """What a worker asks in one session, by a clock that the tests move on. No socket and no thread is here."""
 import functools
 import logging
+import math
 import unittest
 import unittest.mock
 from collections import deque
@@ -29,11 +30,11 @@ class WorkTest(unittest.TestCase):
                     step, _, words = line.partition(" ")
                     getattr(self, step)(words)
 
-    def begin(self, concurrency=1, age=None, first=0.4, longest=0.4):
+    def begin(self, concurrency=1, age=None, first=0.4, longest=0.4, attempts=math.inf):
         """Begins a session, which is served at once."""
         run = Run(logging.getLogger("rb_broker_client.worker"), "a place")
         self.report, self.concurrency, self.running, self.is_stopping = Report(), concurrency, 0, True
-        self.work = Work(1.0, self.report, Pauses(first, longest), run, Ages(age, first_is_brief=False))
+        self.work = Work(1.0, self.report, Pauses(first, longest), run, Ages(age, first_is_brief=False), attempts)
         self.due, self.jobs = deque(), {}
         self.asks("AT 0")
         self.asks("")
@@ -65,8 +66,8 @@ class WorkTest(unittest.TestCase):
         self.assertEqual(" ".join(it.payload for it in self.work.given), payloads)
         self.work.given.clear()
 
-    def buries(self, payload):
-        self.assertEqual(self.work.dead, [self.jobs[payload]])
+    def buries(self, payloads):
+        self.assertEqual(self.work.dead, [self.jobs[it] for it in payloads.split()])
 
     def runs(self, count):
         self.running = int(count)

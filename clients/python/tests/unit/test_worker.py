@@ -1,13 +1,15 @@
 """A worker whose servers stop waits, refuse, go away and come back; and the ways to stop it."""
+import asyncio
 import errno
 import logging
+import os
 import signal
 import time
 
 from from_threads import for_both_kinds
 from scripted import PATIENCE, free_port
 from worker_case import A, AGE, GIVES_A, GIVES_B, LAST, WorkerCase, clock, pass_on
-from rb_broker_client import Job, Pauses, Report, UnknownReplyError, Worker
+from rb_broker_client import AsyncWorker, Job, Pauses, Report, UnknownReplyError, Worker
 
 FULL = "WAIT > ERR 6 full; QUIT"
 ENDS = f"{A}; {GIVES_B}; FAIL 1 > AGAIN 2 1000; WAIT > NONE; WAIT > ITEM 2 1000 3 b; FAIL 2 > DEAD 2; {LAST}"
@@ -34,9 +36,19 @@ class JobTest(WorkerCase):
         self.assertRaises(UnknownReplyError, self.work("WAIT > HELLO").run)
 
     def test_a_job_that_fails_in_a_full_run_is_told_as_lost(self):
+        dead = []
         with self.logged() as said:
-            self.assert_reports(Report(lost=1), f"{GIVES_B}; FAIL 1 > ERR 6 full; QUIT", LAST)
+            self.assert_reports(Report(lost=1), f"{GIVES_B}; FAIL 1 > ERR 6 full; QUIT", LAST, on_dead=dead.append)
         self.assertEqual(said[-1], "ERROR:rb_broker_client.worker:job b is lost: it failed in a full run")
+        self.assertEqual(dead, [Job(1, 0, 1, "b")])
+
+    def test_a_job_that_fails_for_the_last_time_in_a_session_that_is_lost_is_dead(self):
+        dead = []
+        fails = "WAIT > ITEM {0} 0 {0} b; FAIL {0} > hangs up"
+        with self.logged() as said:
+            self.assert_reports(Report(unheard=2), fails.format(1), fails.format(2), LAST, on_dead=dead.append, attempts=2)
+        self.assertEqual(dead, [Job(2, 0, 2, "b")])
+        self.assertEqual(said, ["ERROR:rb_broker_client.worker:job b failed in its last attempt, 2, and its session was lost"])
 
     def test_a_fault_of_what_is_told_of_dead_jobs_is_logged_and_the_worker_goes_on(self):
         def refuse(job):
@@ -53,6 +65,9 @@ class JobTest(WorkerCase):
         for option, wrong in {"concurrency": (0, -1, 65), "session": no_duration, "timeout": no_duration}.items():
             for it in wrong:
                 self.assertRaises(ValueError, self.kind, self.handle, 7011, **{option: it})
+        for handler in ("handle", None, 5):
+            for kind in (Worker, AsyncWorker):
+                self.assertRaisesRegex(TypeError, "a function is to be called", kind, handler, 7011)
         for concurrency in (1, 2):
             self.assertRaises(UnicodeError, self.kind(self.handle, 7011, "a..b", concurrency=concurrency).run)
 
@@ -88,6 +103,23 @@ class AwaitableTest(WorkerCase):
 
         self.assertRaisesRegex(TypeError, "deliver", Worker, deliver, 7011)
         self.assertRaisesRegex(TypeError, "deliver", Worker, self.handle, 7011, on_dead=deliver)
+
+    def test_a_generator_is_refused(self):
+        def yields(job):
+            yield
+
+        async def yields_async(job):
+            yield
+
+        for kind in (Worker, AsyncWorker):
+            for it in (yields, yields_async):
+                self.assertRaisesRegex(TypeError, "nothing runs a generator: .*yields", kind, it, 7011)
+                self.assertRaisesRegex(TypeError, "nothing runs a generator", kind, self.handle, 7011, on_dead=it)
+            for it in (lambda job: yields(job), lambda job: yields_async(job)):
+                port = self.play(f"AT 0; {GIVES_A}; FAIL 0 > stops: DEAD 0; QUIT").port
+                self.worker = kind(it, port)
+                report = self.worker.run() if kind is Worker else asyncio.run(self.worker.run())
+                self.assertEqual(report, Report(dead=1))
 
     def test_a_job_fails_whose_handler_gives_an_awaitable(self):
         class Awaitable:
@@ -139,6 +171,11 @@ class StopTest(WorkerCase):
         self.assertEqual(worker.run(), Report())
         worker.stop()
 
+    def test_a_worker_runs_once(self):
+        worker = self.work(f"{A}; {LAST}")
+        self.assertEqual(worker.run(), Report(done=1))
+        self.assertRaisesRegex(RuntimeError, "^a worker runs once", worker.run)
+
     def test_by_another_thread_in_a_pause(self):
         wait = "POLLFOR 60000000000"
         self.soon = lambda _: self.stop_later(0.3)
@@ -156,3 +193,35 @@ class StopTest(WorkerCase):
         self.addCleanup(signal.signal, signal.SIGALRM, signal.signal(signal.SIGALRM, worker.stop))
         signal.setitimer(signal.ITIMER_REAL, 0.2)
         self.assertEqual(worker.run(), Report())
+
+
+class ForkTest(WorkerCase):
+    """Workers that were made before their processes were forked."""
+
+    def test_a_worker_has_no_descriptor_before_it_runs(self):
+        count = lambda: len(os.listdir("/proc/self/fd"))
+        before = count()
+        workers = [Worker(self.handle, 7011) for _ in range(5)]
+        self.assertEqual((count(), len(workers)), (before, 5))
+
+    def test_each_process_hears_its_own_stop(self):
+        worker = Worker(self.handle, free_port(), pauses=Pauses(60.0, 60.0))
+        children = [self.fork(worker) for _ in range(4)]
+        time.sleep(0.5)
+        for child in children:
+            os.kill(child, signal.SIGTERM)
+        ended = [os.waitstatus_to_exitcode(os.waitpid(child, 0)[1]) for child in children]
+        self.assertEqual(ended, [7] * 4)
+
+    def fork(self, worker):
+        """A process that runs this worker until a signal stops it. If none does, another signal ends it."""
+        child = os.fork()
+        if child:
+            return child
+        try:
+            signal.signal(signal.SIGTERM, worker.stop)
+            signal.alarm(PATIENCE)
+            worker.run()
+            os._exit(7)
+        finally:
+            os._exit(99)
