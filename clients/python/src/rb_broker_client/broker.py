@@ -14,11 +14,11 @@ from contextlib import ExitStack, suppress
 from functools import wraps
 from operator import length_hint
 from selectors import EVENT_READ, EVENT_WRITE
-from typing import Any, ClassVar, Concatenate, Self, TextIO
+from typing import Any, ClassVar, Concatenate, Generic, Self, TextIO
 
 from .durations import Duration, seconds
 from .errors import BrokerError, DisconnectedError, UnknownReplyError
-from .job import LONGEST_REPLY, Job
+from .job import LONGEST_REPLY, AsyncHeldJob, HeldJob, Job
 from .request import Answer, Request
 from .waiting import Blocking, Kind, Looping, Words, blocking, run
 
@@ -41,6 +41,7 @@ class Session:
     """What `Broker` and `AsyncBroker` have in common."""
 
     _kind: ClassVar[Kind]
+    _job: ClassVar[type[Job]]
     _socket: socket.socket  # once it is connected
 
     def __init__(self, port: int, host: str = "127.0.0.1", patience: Duration | None = None, *,
@@ -202,11 +203,11 @@ class Session:
             while not self._answers:
                 await self._wait(deadline)
             answer = self.take_answer()
-            for it in answer if isinstance(answer, list) else [answer]:
-                if isinstance(it, Job):
-                    vars(it)["_session"] = self  # past the lock of a frozen class
-            answers.append(answer)
+            answers.append([*map(self._own, answer)] if isinstance(answer, list) else self._own(answer))
         return answers
+
+    def _own(self, answer: Any) -> Any:
+        return self._job.of(self, answer) if isinstance(answer, Job) else answer
 
     async def _quit(self) -> None:
         """Ends the session, waits until the server has read so, and hangs up."""
@@ -281,18 +282,27 @@ def _asks(make: Callable[Words, Request[Answer]]) -> Callable[
     return ask
 
 
+class _Gives(Generic[Answer]):
+    """What a method gives whose request gives jobs: those of its broker."""
+
+    def by(self, make: Callable[Words, Request[Any]]) -> Callable[Concatenate[Session, Words],
+                                                                  Coroutine[Any, Any, Answer]]:
+        """The method that asks what this one makes."""
+        return _asks(make)
+
+
 class AsyncBroker(Session):
     """A `Broker` for asyncio: `async with AsyncBroker(7011) as broker`. Its methods are coroutine functions."""
 
-    _kind = Looping
+    _kind, _job = Looping, AsyncHeldJob
 
     offer = _asks(Request.offer)
     offer_at = _asks(Request.offer_at)
-    poll = _asks(Request.poll)
-    poll_for = _asks(Request.poll_for)
-    take = _asks(Request.take)
+    poll = _Gives[AsyncHeldJob | None]().by(Request.poll)
+    poll_for = _Gives[AsyncHeldJob | None]().by(Request.poll_for)
+    take = _Gives[AsyncHeldJob]().by(Request.take)
     peek = _asks(Request.peek)
-    drain = _asks(Request.drain)
+    drain = _Gives[list[AsyncHeldJob]]().by(Request.drain)
     done = _asks(Request.done)
     fail = _asks(Request.fail)
     remove = _asks(Request.remove)
@@ -321,15 +331,15 @@ class Broker(Session):
     exception of a signal handler, the session can only be closed.
     """
 
-    _kind = Blocking
+    _kind, _job = Blocking, HeldJob
 
     offer = blocking(AsyncBroker.offer)
     offer_at = blocking(AsyncBroker.offer_at)
-    poll = blocking(AsyncBroker.poll)
-    poll_for = blocking(AsyncBroker.poll_for)
-    take = blocking(AsyncBroker.take)
+    poll = blocking(_Gives[HeldJob | None]().by(Request.poll))
+    poll_for = blocking(_Gives[HeldJob | None]().by(Request.poll_for))
+    take = blocking(_Gives[HeldJob]().by(Request.take))
     peek = blocking(AsyncBroker.peek)
-    drain = blocking(AsyncBroker.drain)
+    drain = blocking(_Gives[list[HeldJob]]().by(Request.drain))
     done = blocking(AsyncBroker.done)
     fail = blocking(AsyncBroker.fail)
     remove = blocking(AsyncBroker.remove)

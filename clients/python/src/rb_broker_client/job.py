@@ -1,7 +1,7 @@
 """The values of requests and replies: their limits, jobs, and what became of jobs."""
 
-from dataclasses import dataclass
-from typing import Any, ClassVar
+from dataclasses import astuple, dataclass, fields
+from typing import Any, ClassVar, Self
 
 from .errors import NotHeldError
 
@@ -19,19 +19,28 @@ class Offered:
     expires_at_ns: int
 
 
-@dataclass(frozen=True)
+@dataclass(frozen=True, eq=False, repr=False)
 class Job:
     """An element of the queue: one that was given, or one that `peek` shows. Its `attempt` is 1 for the first one.
 
-    What `done` and `fail` give is to be awaited if an `AsyncBroker` took the job. They raise `NotHeldError` if the job
-    isn't held any more, also if its session has ended, and for the jobs of a worker, which tells the server itself.
+    `done` and `fail` raise `NotHeldError` if the job isn't held any more, also if its session has ended, and for the
+    jobs of a worker, which tells the server itself. Jobs are equal whose fields are.
     """
 
     id: int
     expires_at_ns: int
     attempt: int
     payload: str
-    _session: ClassVar[Any] = None  # a broker sets its own in each job that it took
+    _session: ClassVar[Any] = None  # of one that a broker took
+
+    def __eq__(self, other: object) -> bool:
+        return isinstance(other, Job) and astuple(self) == astuple(other)
+
+    def __hash__(self) -> int:
+        return hash(astuple(self))
+
+    def __repr__(self) -> str:
+        return f"Job({', '.join(f'{it.name}={getattr(self, it.name)!r}' for it in fields(self))})"
 
     def done(self) -> Any:
         """The job is finished."""
@@ -45,6 +54,39 @@ class Job:
         if self._session is None or self._session.is_lost():
             raise NotHeldError(f"job {self.payload} is not held: no broker took it, or its session has ended")
         return self._session
+
+    @classmethod
+    def of(cls, session: object, job: "Job") -> Self:
+        """The job, which this session was shown."""
+        made = cls(job.id, job.expires_at_ns, job.attempt, job.payload)
+        vars(made)["_session"] = session  # past the lock of a frozen class
+        return made
+
+
+class HeldJob(Job):
+    """A job that a `Broker` took."""
+
+    def done(self) -> None:
+        """The job is finished."""
+        self._holder().done(self.id)
+
+    def fail(self) -> "Verdict":
+        """The job failed now. Gives `Again` or `Dead`."""
+        verdict: Verdict = self._holder().fail(self.id)
+        return verdict
+
+
+class AsyncHeldJob(Job):
+    """A job that an `AsyncBroker` took. What its methods give is to be awaited."""
+
+    async def done(self) -> None:
+        """The job is finished."""
+        await self._holder().done(self.id)
+
+    async def fail(self) -> "Verdict":
+        """The job failed now. Gives `Again` or `Dead`."""
+        verdict: Verdict = await self._holder().fail(self.id)
+        return verdict
 
 
 @dataclass(frozen=True)

@@ -8,11 +8,11 @@ import ssl
 import threading
 import time
 from collections import deque
-from collections.abc import Callable
+from collections.abc import Awaitable, Callable
 from contextlib import ExitStack
 from dataclasses import dataclass
 from functools import partial
-from typing import Any, ClassVar, TextIO
+from typing import Any, ClassVar, Generic, TextIO, TypeVar
 
 from .broker import AsyncBroker, Broker, Session, checked_port
 from .dead_letters import DeadLetters
@@ -29,7 +29,9 @@ BESIDE = 1.0  # seconds within which a session is to be connected beside another
 LONG = 60.0  # seconds after which a handler that runs is logged, and may hang
 SOON = 0.01  # seconds after which what the connection did not take is tried again
 
-Function = Callable[[Job], object]  # or a coroutine function, for asyncio
+Function = Callable[[Job], object]
+Handler = TypeVar("Handler", bound=Function)  # as callers give it: one that returns nothing, or is to be awaited
+OnDead = TypeVar("OnDead", bound=Function)
 
 
 @dataclass(eq=False)
@@ -45,15 +47,15 @@ class _Call:
     cancel: Callable[[], object] = lambda: None
 
 
-class BaseWorker:
+class BaseWorker(Generic[Handler, OnDead]):
     """What `Worker` and `AsyncWorker` have in common."""
 
     _session_of: ClassVar[type[Session]]
     _turns_of: ClassVar[Any]
 
-    def __init__(self, handler: Function, port: int, host: str = "127.0.0.1", *, concurrency: int = 1,
+    def __init__(self, handler: Handler, port: int, host: str = "127.0.0.1", *, concurrency: int = 1,
                  wait: Duration = 1.0, patience: Duration = 10.0, session: Duration | None = 30.0,
-                 timeout: Duration | None = None, on_dead: Function | None = None, attempts: int | None = None,
+                 timeout: Duration | None = None, on_dead: OnDead | None = None, attempts: int | None = None,
                  tls: ssl.SSLContext | None = None, pauses: Pauses | None = None,
                  record: TextIO | None = None) -> None:
         """Connects to nothing yet.
@@ -71,7 +73,8 @@ class BaseWorker:
         """
         if not 1 <= concurrency <= MOST_HELD:
             raise ValueError(f"from 1 to {MOST_HELD} jobs can run at the same time")
-        self._handler, self._on_dead, self._concurrency = handler, on_dead, concurrency
+        self._handler, self._concurrency = handler, concurrency
+        self._on_dead: Function | None = on_dead
         for it in (handler, on_dead or handler):
             self._check(it)
         if isinstance(on_dead, DeadLetters) and self._session_of._kind.is_async:
@@ -302,7 +305,7 @@ class BaseWorker:
         return [it for it in self._calls if it.work and not it.is_told] if self._timeout < math.inf else []
 
 
-class AsyncWorker(BaseWorker):
+class AsyncWorker(BaseWorker[Callable[[Job], Awaitable[object]], Function]):
     """A `Worker` for asyncio, whose handler is a coroutine function.
 
     Each job is a task of the loop, which is cancelled after `timeout`. If `run` is cancelled so are these tasks, and
@@ -313,7 +316,7 @@ class AsyncWorker(BaseWorker):
     run = BaseWorker._work
 
 
-class Worker(BaseWorker):
+class Worker(BaseWorker[Callable[[Job], None], Callable[[Job], None]]):
     """Takes jobs and runs the handler on each, up to `concurrency` of them at the same time. A job is done when the
     handler returns, and fails when it raises an `Exception`.
 

@@ -72,6 +72,32 @@ class PackageTest(unittest.TestCase):
             self.skipTest("there is no mypy")
         run([mypy, "--strict", "--python-version", "3.11", "--cache-dir", os.devnull, "src"], TOP)
 
+    def test_a_forgotten_await_or_a_handler_of_the_other_kind_has_a_wrong_type(self):
+        """The program is right as it stands, and each of these changes makes it wrong."""
+        mypy = shutil.which("mypy")
+        if mypy is None:
+            self.skipTest("there is no mypy")
+        with open(os.path.join(TOP, "tests", "unit", "typed_program.py"), encoding="ascii") as file:
+            right = file.read()
+        with tempfile.TemporaryDirectory() as room:
+            path, sources = os.path.join(room, "program.py"), os.path.join(TOP, "src")
+            words = ["/usr/bin/env", f"MYPYPATH={sources}", mypy, "--strict", "--cache-dir", os.devnull, path]
+            for before, after, says in (
+                ("", "", "Success"),
+                ("await (await broker.take()).done()", "(await broker.take()).done()", "missing an await"),
+                ("await producer.offer(", "producer.offer(", "missing an await"),
+                ("Worker(deliver, 7011, on_dead=DeadLetters", "Worker(deliver_async, 7011, on_dead=DeadLetters",
+                 '"Worker" has incompatible type'),
+                ("Worker(deliver, 7011, on_dead=deliver)", "Worker(deliver, 7011, on_dead=deliver_async)",
+                 '"on_dead" to "Worker" has incompatible type'),
+                ("AsyncWorker(deliver_async, 7011, on_dead=deliver)", "AsyncWorker(deliver, 7011, on_dead=deliver)",
+                 '"AsyncWorker" has incompatible type'),
+            ):
+                with self.subTest(after):
+                    with open(path, "w", encoding="ascii") as file:
+                        file.write(right.replace(before, after, 1) if before else right)
+                    self.assertIn(says, run(words, room, status=1 if before else 0))
+
     def test_both_kinds_of_a_client_have_the_same_methods(self):
         for one, other in (("Broker", "AsyncBroker"), ("Producer", "AsyncProducer"), ("Worker", "AsyncWorker")):
             kinds = [getattr(rb_broker_client, it) for it in (one, other)]
