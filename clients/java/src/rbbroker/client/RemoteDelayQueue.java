@@ -70,6 +70,7 @@ public final class RemoteDelayQueue extends AbstractQueue<Job> implements Blocki
         private Duration longestWait = Duration.ofMillis(250);
         private Duration longestSession = Duration.ofSeconds(30);
         private Duration patience = Duration.ofSeconds(30);
+        private Duration overdue = Duration.ofMillis(100);
 
         /**
          * Begins with the server at this port.
@@ -78,6 +79,9 @@ public final class RemoteDelayQueue extends AbstractQueue<Job> implements Blocki
          * @param acknowledge when the server is told that a job is finished
          */
         public Builder(int port, Acknowledge acknowledge) {
+            if (port < 1 || port > 65_535) {
+                throw new IllegalArgumentException("a port is 1 to 65535, not " + port);
+            }
             this.port = port;
             this.acknowledge = Objects.requireNonNull(acknowledge);
         }
@@ -141,6 +145,12 @@ public final class RemoteDelayQueue extends AbstractQueue<Job> implements Blocki
             return this;
         }
 
+        /** From which delay on a job is overdue for which the server's clock is asked, which tests make long. */
+        Builder overdue(Duration time) {
+            overdue = time;
+            return this;
+        }
+
         /**
          * How long a call tries to find a server that carries it out, and how long the reply may take.
          *
@@ -155,7 +165,7 @@ public final class RemoteDelayQueue extends AbstractQueue<Job> implements Blocki
         /** {@return a queue, which does not connect yet} */
         public RemoteDelayQueue build() {
             return new RemoteDelayQueue(new Options(host, port, tls, acknowledge, waiters, nanos(longestWait),
-                nanos(longestSession), nanos(patience)));
+                nanos(longestSession), nanos(patience), nanos(overdue)));
         }
 
         private static long nanos(Duration time) {
@@ -171,8 +181,9 @@ public final class RemoteDelayQueue extends AbstractQueue<Job> implements Blocki
      * Offers a job, which may be taken once its delay has passed. The job then has the id and the expiry that the
      * server gave it. A job that is offered again, even while the queue has it, is a new element with an id of its own.
      *
-     * <p>A job that is overdue comes before those that are less so, as far as the server's clock goes back, except the
-     * first that is offered in a session: the reply to it tells of that clock.
+     * <p>A job that is overdue comes before those that are less so, as far as the server's clock goes back. If it is the
+     * first that is offered in a session, and overdue by a tenth of a second, another is offered before it and removed:
+     * the reply to that tells of the clock.
      */
     @Override
     public boolean offer(Job job) {
@@ -182,6 +193,9 @@ public final class RemoteDelayQueue extends AbstractQueue<Job> implements Blocki
             long delay = deadline - System.nanoTime();
             // A job that is overdue keeps its place before those that are less so. That takes the server's clock, as
             // this session told it: by another server's clock the job might come late.
+            if (delay <= -options.overdue()) {
+                learnMoment(session);
+            }
             boolean isPlaced = delay < 0 && session.contact.isTold;
             job.place = new Job.Place(session.contact, isPlaced
                 ? session.ask(Request.offerAt(runs.momentOf(deadline), job.payload()))
@@ -377,10 +391,15 @@ public final class RemoteDelayQueue extends AbstractQueue<Job> implements Blocki
         if (session.contact == contact) {
             return true;
         }
+        learnMoment(session);
+        return runs.isKnownToContinue(session.contact, contact);
+    }
+
+    /** Asks for the server's moment, if it has not told it in this session. */
+    private void learnMoment(Session session) {
         if (!session.contact.isTold) {
             session.ask(Request.remove(offerIn(session, Long.MAX_VALUE / 2, PROBE).id()));
         }
-        return runs.isKnownToContinue(session.contact, contact);
     }
 
     /** Makes an offer, whose reply tells the server's moment. */

@@ -10,8 +10,10 @@ import java.net.SocketTimeoutException;
 import java.nio.charset.StandardCharsets;
 import java.util.List;
 import java.util.Set;
+import java.util.concurrent.CompletableFuture;
 import java.util.concurrent.ConcurrentHashMap;
 import java.util.concurrent.TimeUnit;
+import java.util.concurrent.atomic.AtomicLong;
 import java.util.function.BooleanSupplier;
 import java.util.stream.Collectors;
 import javax.net.ssl.SSLParameters;
@@ -46,20 +48,23 @@ final class Session {
     /** How long a session that has lasted long enough takes no jobs, so that it ends with those that it holds. */
     private static final long LAST_JOBS = TimeUnit.SECONDS.toNanos(5);
 
+    /** What it is lent for, or null. It is set under the pool's lock, and the borrower reads it too. */
+    volatile Use use;
+
     // The pool's, under its lock.
-    /** What it is lent for, or null. */
-    Use use;
     /** How many threads wait for this very session, to answer a job that it holds. */
     int answering;
     /** The thread that last took jobs on it, or 0. */
     long taker;
+    /** Completed once the session is as old as it may become, and cancelled if it has ended before. */
+    CompletableFuture<Void> age = CompletableFuture.completedFuture(null);
 
     /** The ids of the jobs that it holds. */
     final Set<Long> held = ConcurrentHashMap.newKeySet();
     /** What it shows of its server, once a worker of the server serves it. */
     volatile Contact contact;
-    /** How long it is to last. */
-    volatile long longest;
+    /** How long it is to last, which becomes shorter alone. */
+    private final AtomicLong longest;
     /** Whether it has ended. If not, it may be lost all the same. */
     volatile boolean isClosed;
 
@@ -68,11 +73,21 @@ final class Session {
     /** The channel, or TLS over it. */
     private Socket socket = channel;
     private InputStream input = channel.getInputStream();
-    private long begun;
+    private volatile long begun;
 
     Session(Options options) {
         this.options = options;
-        longest = options.longestSession();
+        longest = new AtomicLong(options.longestSession());
+    }
+
+    /** How long it is to last. */
+    long longest() {
+        return longest.get();
+    }
+
+    /** It lasts no longer than this from now on, whatever other threads make of that. Gives whether that is shorter. */
+    boolean shorten(long most) {
+        return longest.getAndAccumulate(most, Math::min) > most;
     }
 
     /** Connects, and waits until the session is served, or is no longer wanted. Before that nothing is asked. */
@@ -91,7 +106,7 @@ final class Session {
             Request.GREETING.receive(input);
             begun = System.nanoTime();
             if (begun - sent >= WAIT) {
-                longest = Math.min(longest, LONGEST_TURN);
+                shorten(LONGEST_TURN);
             }
             contact = runs.begin();
         } catch (IOException fault) {
@@ -151,7 +166,9 @@ final class Session {
             throw new ServerLostException(what, use != Use.LOOK, fault);
         }
         if (refusal != null) {
-            longest = refusal.reason() == Reason.FULL ? 0 : longest;
+            if (refusal.reason() == Reason.FULL) {
+                shorten(0);
+            }
             throw refusal;
         }
         return answer;
@@ -184,7 +201,7 @@ final class Session {
 
     /** Whether it is to be left as soon as it holds no job. */
     boolean isToBeLeft() {
-        return System.nanoTime() - begun >= longest;
+        return System.nanoTime() - begun >= longest();
     }
 
     /**
@@ -192,7 +209,7 @@ final class Session {
      * and then none again.
      */
     boolean isLeaving() {
-        long over = System.nanoTime() - begun - longest;
+        long over = System.nanoTime() - begun - longest();
         return over >= 0 && !held.isEmpty() && over / LAST_JOBS % 2 == 0;
     }
 

@@ -95,7 +95,7 @@ final class SessionPool {
             if (isLost) {
                 forgetIfLost(session);
             } else if (session.isClosed) {
-                sessions.remove(session);
+                remove(session);
                 hasMadeWay |= session.taker != 0;
             }
             notifyAll();
@@ -108,7 +108,7 @@ final class SessionPool {
         notifyAll();
         for (Session it : sessions.stream().filter(it -> it.use == null).toList()) {
             it.leave();
-            sessions.remove(it);
+            remove(it);
         }
         long deadline = System.nanoTime() + options.patience() + options.longestWait();
         while (!sessions.isEmpty() && deadline - System.nanoTime() > 0 && !Thread.currentThread().isInterrupted()) {
@@ -184,8 +184,7 @@ final class SessionPool {
 
     /** A session lasts no longer than a turn, since others may wait for a worker of the server. */
     private void makeWay(Session session) {
-        if (session.longest > Session.LONGEST_TURN) {
-            session.longest = Session.LONGEST_TURN;
+        if (session.shorten(Session.LONGEST_TURN)) {
             watch(session);
         }
     }
@@ -268,7 +267,7 @@ final class SessionPool {
         if (session.isServed()) {
             watch(session);
         } else {
-            sessions.remove(session);
+            remove(session);
             if (!hasServed()) {
                 runs.forgetClock();
             }
@@ -276,10 +275,17 @@ final class SessionPool {
         notifyAll();
     }
 
-    /** Has a thread look after a session when it has lasted long enough. */
+    /** Has a thread look after a session when it has lasted long enough, unless it has ended before. */
     private void watch(Session session) {
-        CompletableFuture.delayedExecutor(session.longest, NANOSECONDS, work -> new Thread(work).start())
-            .execute(() -> leaveIfIdle(session));
+        session.age.cancel(false);
+        session.age = new CompletableFuture<Void>().completeOnTimeout(null, session.longest(), NANOSECONDS);
+        session.age.thenRunAsync(() -> leaveIfIdle(session), work -> new Thread(work).start());
+    }
+
+    /** Forgets a session that has ended. */
+    private void remove(Session session) {
+        sessions.remove(session);
+        session.age.cancel(false);
     }
 
     private void leaveIfIdle(Session session) {
@@ -298,7 +304,7 @@ final class SessionPool {
      */
     private boolean forgetIfLost(Session session) {
         if (session.isLost()) {
-            sessions.remove(session);
+            remove(session);
             runs.forgetClock();
             notifyAll();
         }

@@ -5,6 +5,7 @@ import static java.util.concurrent.TimeUnit.MINUTES;
 import static java.util.concurrent.TimeUnit.SECONDS;
 
 import java.nio.file.Path;
+import java.time.Duration;
 import java.util.ArrayDeque;
 import java.util.ArrayList;
 import java.util.Deque;
@@ -51,6 +52,11 @@ public abstract class QueueTest extends Assert {
 
     static Job in(long millis, String payload) {
         return new Job(payload, millis, MILLISECONDS);
+    }
+
+    /** Of a queue that asks for no server's clock, however long a busy machine takes to offer a job. */
+    static RemoteDelayQueue.Builder untimed(RemoteDelayQueue.Builder builder) {
+        return builder.overdue(Duration.ofHours(1));
     }
 
     static void assertRefused(RefusedException.Reason reason, ThrowingRunnable call) {

@@ -1,8 +1,10 @@
 package rbbroker.client;
 
+import static java.util.concurrent.TimeUnit.HOURS;
 import static java.util.concurrent.TimeUnit.NANOSECONDS;
 import static java.util.concurrent.TimeUnit.SECONDS;
 
+import java.lang.ref.WeakReference;
 import java.time.Duration;
 import java.util.List;
 import java.util.function.IntFunction;
@@ -26,7 +28,7 @@ public class ScriptedTest extends QueueTest {
     }
 
     private static IntFunction<RemoteDelayQueue.Builder> byCall(Duration patience) {
-        return port -> new RemoteDelayQueue.Builder(port, Acknowledge.BY_CALL).patience(patience);
+        return port -> untimed(new RemoteDelayQueue.Builder(port, Acknowledge.BY_CALL).patience(patience));
     }
 
     private static RemoteDelayQueue.Builder onTake(int port) {
@@ -93,6 +95,56 @@ public class ScriptedTest extends QueueTest {
             case "silence" -> talk.hearNothing();
             default -> talk.sayBytes(reply.endsWith("..") ? reply.substring(0, reply.length() - 2)
                 : reply.translateEscapes() + "\n");
+        }
+    }
+
+    @Test
+    public void anOverdueJobIsPlacedAlsoIfItIsTheFirstOfItsSession() throws Exception {
+        playTo(port -> new RemoteDelayQueue.Builder(port, Acknowledge.BY_CALL), it -> {
+            it.offer(in(-50_000, "a"));
+            it.offer(in(-40_000, "b"));
+        }, talk -> {
+            talk.greet().accept(7, HOURS.toNanos(1) - System.nanoTime()).hear("REMOVE 7").say("REMOVED yes");
+            long first = Long.parseLong(talk.heard("OFFERAT ").split(" ")[0]);
+            long second = Long.parseLong(talk.say("OFFERED 8 5").heard("OFFERAT ").split(" ")[0]);
+            talk.say("OFFERED 9 6");
+            assertEquals(10, NANOSECONDS.toSeconds(second - first + 500_000_000));
+        });
+    }
+
+    @Test
+    public void theTimeOfASessionBecomesShorterAlone() {
+        var options = new Options("127.0.0.1", 7011, null, Acknowledge.BY_CALL, 4, 1, 9, 1, 1);
+        var session = new Session(options);
+        assertTrue(session.shorten(0));
+        assertFalse(session.shorten(3));
+        assertEquals(0, session.longest());
+    }
+
+    @Test
+    public void nothingIsLeftOfAClosedQueue() throws Exception {
+        WeakReference<String> host = hostOfAClosedQueue();
+        long deadline = System.nanoTime() + SECONDS.toNanos(10);
+        while (host.get() != null && System.nanoTime() < deadline) {
+            System.gc();
+            Thread.sleep(50);
+        }
+        assertNull("a timer keeps it", host.get());
+    }
+
+    private static WeakReference<String> hostOfAClosedQueue() throws Exception {
+        var host = new String("127.0.0.1".toCharArray());
+        try (FakeServer server = new FakeServer(talk -> talk.greet().hear("PEEK").say("NONE").hearAll());
+                RemoteDelayQueue it = byCall(PATIENCE).apply(server.port()).host(host).build()) {
+            assertNull(it.peek());
+        }
+        return new WeakReference<>(host);
+    }
+
+    @Test
+    public void portsAtWhichNoServerCanBe() {
+        for (int port : new int[] {0, -1, 70_000}) {
+            assertThrows(IllegalArgumentException.class, () -> onTake(port));
         }
     }
 

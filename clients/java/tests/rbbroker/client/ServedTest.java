@@ -46,7 +46,7 @@ public class ServedTest extends QueueTest {
     }
 
     private RemoteDelayQueue.Builder builder() {
-        return new RemoteDelayQueue.Builder(server.port(), Acknowledge.BY_CALL);
+        return untimed(new RemoteDelayQueue.Builder(server.port(), Acknowledge.BY_CALL));
     }
 
     private RemoteDelayQueue byCall() {
