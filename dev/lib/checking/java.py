@@ -27,7 +27,7 @@ CLIENT = Path(TOP, "clients", "java")
 JARS = ("/usr/share/java/junit4.jar", "/usr/share/java/hamcrest.jar")
 COMMANDS = ("javac", "java", "javadoc")
 RELEASE = "17"
-VERSION = "2.0"
+VERSION = "2.0.0"
 TESTS = {
     # jobs by themselves, and servers that are lost, full, silent or wrong as scripts of the protocol
     "unit": ("JobTest", "ScriptedTest", "LostRunTest"),
@@ -40,7 +40,7 @@ DAY = CLIENT / "tests" / "day"
 PYTHON = Path(TOP, "clients", "python")
 DELIVERED = ["deliver letter-17, attempt 1", "deliver letter-17, attempt 2"]  # by the README's program
 REPOSITORY = "/usr/share/maven-repo"
-PLUGINS = ("resources", "compiler", "surefire", "jar")
+PLUGINS = ("resources", "compiler", "surefire", "jar", "source", "javadoc")
 JOBS = "2000"  # of a day
 LONGEST = 5_000  # seconds after which a command is ended
 
@@ -139,6 +139,9 @@ def run_maven(room: str, tally: Tally) -> None:
     words = ("mvn", "-o", "-B", "-q", f"-Dmaven.repo.local={room}/repository", "package")
     expect(tally, "mvn", *words, says=".*", cwd=f"{room}/maven")
     jar = f"{room}/maven/target/rbbroker-client-{VERSION}.jar"
+    for kind in ("sources", "javadoc"):
+        found = os.path.isfile(jar.replace(".jar", f"-{kind}.jar"))
+        tally.count(f"the {kind} of mvn", None if found else "there is no such jar")
     describe = ("jar", "--describe-module", "--file", jar)
     expect(tally, "the jar of mvn", *describe, says=rf"rbbroker\.client@{re.escape(VERSION)} .*")
 

@@ -1,4 +1,4 @@
-"""The package as a command: python3 -m rb_broker_client COMMAND .. --port P
+"""The package as a command: rb-broker COMMAND .. --port P, or python3 -m rb_broker_client
 
 A worker calls the function with each job, until SIGTERM or Ctrl-C; a second signal ends it at
 once. It logs to standard error, looks for a server until it is stopped, and at the end prints what
@@ -14,6 +14,7 @@ import argparse
 import asyncio
 import inspect
 import logging
+import os
 import pkgutil
 import re
 import signal
@@ -34,7 +35,7 @@ from .producer import Producer
 from .request import Request
 from .worker import AsyncWorker, Function, Worker
 
-NAME = "rb_broker_client"
+NAME, SCRIPT = "rb_broker_client", "rb-broker"  # the module, and the command that pip installs
 FORM = argparse.RawDescriptionHelpFormatter
 UNITS = {"ns": 1e-9, "us": 1e-6, "ms": 1e-3, "": 1, "s": 1, "m": 60, "h": 3_600, "d": 86_400}  # in seconds
 Asked = argparse.Namespace
@@ -71,14 +72,15 @@ def _add_words_of_each(add: Callable[..., Any], is_port_needed: bool) -> None:
 
 def _parser() -> argparse.ArgumentParser:
     about, _, rest = (__doc__ or "").partition("\n\n")
-    parser = argparse.ArgumentParser(f"python3 -m {NAME}", description=about, epilog=rest, allow_abbrev=False,
+    command_name = SCRIPT if os.path.basename(sys.argv[0]) == SCRIPT else f"python3 -m {NAME}"
+    parser = argparse.ArgumentParser(command_name, description=about, epilog=rest, allow_abbrev=False,
                                      formatter_class=FORM)
     parser.add_argument("--version", action="version", version=f"{NAME} {__version__}")
     commands = parser.add_subparsers(metavar="COMMAND", required=True)
 
     def command(name: str, help: str, run: Callable[..., Iterator[str]], example: str = "") -> Callable[..., Any]:
         added = commands.add_parser(name, help=help, description=help, allow_abbrev=False, formatter_class=FORM,
-                                    epilog=f"example: python3 -m {NAME} {name} {example}--port 7011")
+                                    epilog=f"example: {command_name} {name} {example}--port 7011")
         added.set_defaults(run=run)
         _add_words_of_each(added.add_argument, name != "dead")
         return added.add_argument

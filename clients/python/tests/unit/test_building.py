@@ -4,6 +4,7 @@ import re
 import shutil
 import subprocess
 import sys
+import tarfile
 import tempfile
 import unittest
 
@@ -18,7 +19,9 @@ import importlib.metadata, os, rb_broker_client
 print(os.path.dirname(rb_broker_client.__file__))
 print(rb_broker_client.__version__, importlib.metadata.version("rb-broker-client"))
 print(importlib.metadata.metadata("rb-broker-client")["Requires-Python"])
+print(importlib.metadata.metadata("rb-broker-client")["Author-email"])
 """
+PACKS = "import sys, setuptools.build_meta as build; print(build.build_sdist(sys.argv[1]))"
 
 
 def run(words, cwd, status=0):
@@ -56,13 +59,22 @@ class PackageTest(unittest.TestCase):
             run([*pip, "install", "--no-index", "--no-build-isolation", sources], room)
             self.assertEqual(run(["git", "status", "--porcelain", "--untracked-files"], sources), "".join(
                 f"A  {it}\n" for it in run(["git", "ls-files"], sources).splitlines()))
-            folder, versions, needs = run([python, "-c", SAYS], room).splitlines()
+            folder, versions, needs, author = run([python, "-c", SAYS], room).splitlines()
             self.assertEqual((versions, needs), (" ".join([rb_broker_client.__version__] * 2), ">=3.11"))
+            self.assertRegex(author, "^Nixerba maintainers <.+@.+>$")
             self.assertTrue(folder.startswith(place), folder)
             files = lambda folder: {it for it in os.listdir(folder) if it.endswith((".py", ".typed"))}
             self.assertEqual(files(folder), files(os.path.dirname(rb_broker_client.__file__)))
             told = run([python, "-m", "rb_broker_client", "--help"], room)
             self.assertIn("usage: python3 -m rb_broker_client", told)
+            script = os.path.join(place, "bin", "rb-broker")
+            self.assertIn(f"rb_broker_client {rb_broker_client.__version__}", run([script, "--version"], room))
+            self.assertIn("usage: rb-broker", run([script, "--help"], room))
+            archive = os.path.join(room, run([python, "-c", PACKS, room], sources).splitlines()[-1])
+            with tarfile.open(archive) as packed:
+                names = {it.partition("/")[2] for it in packed.getnames()}
+            tests = run(["git", "ls-files", "tests", "src"], sources).splitlines()
+            self.assertEqual({*tests} - names, set())
             run([*pip, "uninstall", "--yes", "rb-broker-client"], room)
             self.assertIn("ModuleNotFoundError", run([python, "-c", "import rb_broker_client"], room, status=1))
 
@@ -106,9 +118,12 @@ class PackageTest(unittest.TestCase):
             for name in methods[0]:
                 self.assertTrue(all(getattr(it, name).__doc__ for it in kinds), name)
 
-    def test_package_project_and_changelog_agree_on_the_version(self):
-        with open(os.path.join(TOP, "pyproject.toml"), encoding="utf-8") as file:
-            project = re.search('^version = "(.*)"$', file.read(), re.MULTILINE)[1]
-        with open(os.path.join(TOP, os.pardir, os.pardir, "CHANGELOG.md"), encoding="utf-8") as file:
-            changes = re.search(r"\bPython package,? version ([0-9.]+[0-9])", file.read())[1]
-        self.assertEqual((rb_broker_client.__version__, changes), (project, project))
+    def test_both_packages_and_what_is_said_of_them_have_one_version(self):
+        for path, told in (
+            ("pyproject.toml", '^version = "(.*)"$'), ("../java/pom.xml", "^  <version>(.*)</version>$"),
+            ("../java/README.md", "^A client of .* version ([0-9.]+[0-9])"),
+            ("../../CHANGELOG.md", r"\bPython package,? version ([0-9.]+[0-9])"),
+            ("../../CHANGELOG.md", r"\bJava package,? version ([0-9.]+[0-9])"),
+        ):
+            with self.subTest(told), open(os.path.join(TOP, path), encoding="utf-8") as file:
+                self.assertEqual(re.search(told, file.read(), re.MULTILINE)[1], rb_broker_client.__version__)
