@@ -79,7 +79,7 @@ class Run:
 @contextmanager
 def far(port, round_trip):
     """A port that leads to this one, to which a round trip takes so many seconds more."""
-    words = [sys.executable, f"{TOP}/clients/python/tests/served/delaying.py", str(port), str(1e3 * round_trip)]
+    words = [sys.executable, f"{TOP}/dev/lib/serving/delaying.py", str(port), str(1e3 * round_trip)]
     with subprocess.Popen(words, stdout=subprocess.PIPE, encoding="ascii") as proxy:
         try:
             yield int(proxy.stdout.readline())

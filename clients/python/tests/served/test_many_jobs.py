@@ -4,10 +4,10 @@ import json
 import threading
 import time
 
-from delaying import DelayingProxy
 from rb_broker_client import AsyncWorker, Broker, Producer, Report, Worker
 from rb_broker_client.job import MOST_HELD
 from server import LONGEST, PATIENCE, ServedTest
+from serving.delaying import DelayingProxy
 
 ATTEMPTS = 3
 POLICY = ("--delay", 1_000_000, "--attempts", ATTEMPTS)

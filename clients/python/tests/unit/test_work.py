@@ -26,8 +26,8 @@ class WorkTest(unittest.TestCase):
         for name, options, lines in paragraphs("work.txt"):
             with self.subTest(name):
                 self.begin(**options)
-                for line in lines:
-                    step, _, words = line.partition(" ")
+                for it in (step for line in lines for step in line.split(" | ")):
+                    step, _, words = it.partition(" ")
                     getattr(self, step)(words)
 
     def begin(self, concurrency=1, age=None, first=0.4, longest=0.4, attempts=math.inf):
