@@ -16,7 +16,6 @@ import inspect
 import logging
 import os
 import pkgutil
-import re
 import signal
 import ssl
 import sys
@@ -28,16 +27,16 @@ from typing import Any
 from . import __version__
 from .broker import Broker
 from .dead_letters import read_letters, take_letters
-from .durations import seconds
+from .durations import from_text, seconds
 from .errors import BrokerError
-from .job import MOST_HELD
+from .job import MOST_HELD, Report
 from .producer import Producer
 from .request import Request
-from .worker import AsyncWorker, Function, Worker
+from .tasks import Tasks
+from .worker import AsyncWorker, Worker
 
 NAME, SCRIPT = "rb_broker_client", "rb-broker"  # the module, and the command that pip installs
 FORM = argparse.RawDescriptionHelpFormatter
-UNITS = {"ns": 1e-9, "us": 1e-6, "ms": 1e-3, "": 1, "s": 1, "m": 60, "h": 3_600, "d": 86_400}  # in seconds
 Asked = argparse.Namespace
 
 
@@ -111,6 +110,12 @@ def _parser() -> argparse.ArgumentParser:
     add = command("dead", "shows dead letters, or offers them again", _dead, "dead.jsonl --offer ")
     add("file", metavar="FILE", help="what DeadLetters wrote")
     add("--offer", action="store_true", help="offers each, which needs --port, and takes it out of the file")
+    added = commands.add_parser("tasks", help="runs the tasks of an app, shows its dead ones, or offers these again")
+    added.set_defaults(run=_tasks, host=None, port=None)
+    added.add_argument("action", choices=["run", "dead", "again"])
+    added.add_argument("app", type=partial(_named, Tasks), metavar="MODULE:APP", help="an object of the class Tasks")
+    added.add_argument("ids", nargs="*", metavar="ID", help="which to offer again, as `dead` shows them (default: all)")
+    added.add_argument("--threads", type=_whole(1, MOST_HELD), default=4, metavar="N", help="of `run` (default: 4)")
     return parser
 
 
@@ -134,15 +139,34 @@ def _work(asked: Asked) -> Iterator[str]:
         raise ValueError("--on-dead can be a coroutine function only if the handler is one")
     worker = _client(AsyncWorker if is_async else Worker, asked, asked.handler, concurrency=asked.concurrency,
                      session=asked.session, timeout=asked.timeout, on_dead=asked.on_dead, attempts=asked.attempts)
+    _stop_by_signals(worker.stop)
+    yield _told(asyncio.run(worker.run()) if is_async else worker.run())
 
-    def stop(number: int, _: Any) -> None:
+
+def _stop_by_signals(stop: Callable[[], object]) -> None:
+    def hear(number: int, _: Any) -> None:
         signal.signal(number, signal.SIG_DFL)  # whoever asks twice does not want to wait
-        worker.stop()
+        stop()
 
     for number in (signal.SIGINT, signal.SIGTERM):
-        signal.signal(number, stop)
-    report = asyncio.run(worker.run()) if is_async else worker.run()
-    yield ", ".join(f"{name} {count}" for name, count in vars(report).items())
+        signal.signal(number, hear)
+
+
+def _told(report: Report) -> str:
+    return ", ".join(f"{name} {count}" for name, count in vars(report).items())
+
+
+def _tasks(asked: Asked) -> Iterator[str]:
+    app: Tasks = asked.app
+    if asked.action == "run":
+        logging.basicConfig(level=logging.INFO, format="%(asctime)s %(levelname)s %(message)s")
+        _stop_by_signals(app.stop)
+        yield _told(app.run(asked.threads))
+    elif asked.action == "again":
+        yield f"offered {app.again(*(asked.ids or [it.id for it in app.dead()]))}"
+    else:
+        for it in app.dead():
+            yield f"{it.id} {it.name} {it.arguments} {it.failures} {it.error.strip().splitlines()[-1]}"
 
 
 def _offer(asked: Asked) -> Iterator[str]:
@@ -206,24 +230,27 @@ def _whole(least: int, most: int) -> Callable[[str], int]:
 
 
 def _delay(word: str) -> float:
-    found = re.fullmatch(r"([0-9]+(?:\.[0-9]+)?)(|ns|us|ms|s|m|h|d)", word, re.ASCII)
-    if found is None:
-        raise argparse.ArgumentTypeError(f"{word} is no delay, such as 5s, 2m, 1.5h or 250")
-    return float(found[1]) * UNITS[found[2]]
+    try:
+        return from_text(word)
+    except ValueError as fault:
+        raise argparse.ArgumentTypeError(str(fault)) from None
 
 
 def _seconds(word: str) -> float:
     return seconds(float(word))
 
 
-def _function(word: str) -> Function:
+def _named(kind: Any, word: str) -> Any:
     try:
-        found: Function = pkgutil.resolve_name(word)
+        found = pkgutil.resolve_name(word)
     except Exception as fault:  # whatever goes wrong in a module of the caller
         raise argparse.ArgumentTypeError(f"{word} can't be had: {type(fault).__name__}: {fault}") from None
-    if not callable(found):
+    if not isinstance(found, kind):
         raise argparse.ArgumentTypeError(f"{word} is not of the form MODULE:FUNCTION")
     return found
+
+
+_function = partial(_named, Callable)
 
 
 if __name__ == "__main__":

@@ -2,6 +2,7 @@
 
 import math
 import random
+import re
 from datetime import timedelta
 from fractions import Fraction
 
@@ -14,6 +15,7 @@ WAITED = 0.1  # seconds after which a session was served late: others may be wai
 BRIEF = 3.0  # seconds of a session while others may be waiting
 FOR_EVER = 1e6  # seconds of a wait that only what happens ends
 SECOND = 1_000_000_000  # nanoseconds
+UNITS = {"ns": 1e-9, "us": 1e-6, "ms": 1e-3, "": 1, "s": 1, "m": 60, "h": 3_600, "d": 86_400}  # in seconds
 
 
 def nanoseconds(duration: Duration | Fraction) -> int:
@@ -27,6 +29,16 @@ def nanoseconds(duration: Duration | Fraction) -> int:
     if not 0 <= whole <= GREATEST_NUMBER:
         raise ValueError(f"a duration is from 0 to 2^64 - 1 nanoseconds, not {duration}")
     return whole
+
+
+def from_text(duration: Duration | str) -> float:
+    """A duration in seconds, 0 or more, which may be a text: `"5s"`, `"2m"`, `"1.5h"`, or a number of seconds."""
+    if not isinstance(duration, str):
+        return nanoseconds(duration) / SECOND
+    found = re.fullmatch(r"([0-9]+(?:\.[0-9]+)?)(|ns|us|ms|s|m|h|d)", duration, re.ASCII)
+    if found is None:
+        raise ValueError(f"{duration} is no delay, such as 5s, 2m, 1.5h or 250")
+    return float(found[1]) * UNITS[found[2]]
 
 
 def seconds(duration: Duration) -> float:

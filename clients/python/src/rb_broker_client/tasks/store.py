@@ -1,0 +1,167 @@
+"""Tasks in a file of SQLite: what is left of them whatever is killed."""
+
+import os
+import sqlite3
+import threading
+import uuid
+from collections.abc import Iterator
+from contextlib import contextmanager
+from dataclasses import dataclass, replace
+
+STALE = 10.0  # seconds after which who runs a task is dead, if nothing was heard of it
+UNSENT = 5.0  # seconds after which a task that was not offered is offered by another
+
+_TABLES = """
+    CREATE TABLE IF NOT EXISTS tasks (
+        id TEXT PRIMARY KEY, name TEXT NOT NULL, arguments TEXT NOT NULL, key TEXT, due REAL NOT NULL,
+        turn INTEGER NOT NULL DEFAULT 1, failures INTEGER NOT NULL DEFAULT 0, error TEXT NOT NULL DEFAULT '',
+        state TEXT NOT NULL DEFAULT 'new', touched REAL NOT NULL, offers INTEGER NOT NULL DEFAULT 0, owner TEXT);
+    CREATE UNIQUE INDEX IF NOT EXISTS keys ON tasks (key) WHERE state != 'dead';
+    CREATE INDEX IF NOT EXISTS states ON tasks (state, touched);
+    CREATE TABLE IF NOT EXISTS file (id TEXT NOT NULL);
+"""
+_COLUMNS = "id, name, arguments, key, due, turn, failures, error, state"
+_OVERDUE = f"""
+    UPDATE tasks SET touched = :now, state = 'new', offers = offers + (state = 'waiting')
+    WHERE state = 'new' AND touched < :now - :unsent OR state = 'running' AND touched < :now - :stale
+    OR state = 'waiting' AND max(due, touched) < :now - :overdue * (1 << min(offers, 20)) RETURNING {_COLUMNS}
+"""
+_REVIVED = f"""
+    UPDATE tasks SET state = 'new', turn = turn + 1, failures = 0, due = :now, touched = :now
+    WHERE id = :id AND state = 'dead' RETURNING {_COLUMNS}
+"""
+
+
+@dataclass(frozen=True)
+class StoredTask:
+    """A task in the file. Its `state` is `new` until it is known to be offered, and then `waiting`, `running` or
+    `dead`. Each failure begins the next `turn`. Moments are seconds since 1970."""
+
+    id: str
+    name: str
+    arguments: str
+    key: str | None
+    due: float
+    turn: int
+    failures: int
+    error: str
+    state: str
+
+
+class Store:
+    """The tasks of one file, which threads and processes of one machine may use. Each method is a transaction, which is
+    on the disk when it returns."""
+
+    def __init__(self, path: str | os.PathLike[str]) -> None:
+        """Raises `sqlite3.Error` if the file can't be used."""
+        self._path, self._process = path, 0
+        with self._transaction() as db:
+            db.execute("INSERT INTO file SELECT ? WHERE NOT EXISTS (SELECT 1 FROM file)", [uuid.uuid4().hex[:8]])
+            (self.file,) = db.execute("SELECT id FROM file").fetchone()
+
+    def close(self) -> None:
+        """Closes the file."""
+        self._db.close()
+
+    def add(self, name: str, arguments: str, key: str | None, due: float, now: float) -> StoredTask | None:
+        """Adds a task, unless there is one of this key that is not dead."""
+        task = StoredTask(uuid.uuid4().hex[:16], name, arguments, key, due, 1, 0, "", "new")
+        try:
+            with self._transaction() as db:
+                db.execute("INSERT INTO tasks (id, name, arguments, key, due, touched) VALUES (?, ?, ?, ?, ?, ?)",
+                           [task.id, name, arguments, key, due, now])
+        except sqlite3.IntegrityError:
+            return None
+        return task
+
+    def sent(self, task: StoredTask, now: float) -> None:
+        """The turn of a task was offered."""
+        self._change(task, "state = 'waiting', touched = ?", [now], "state = 'new'")
+
+    def claim(self, id: str, turn: int, owner: str, now: float) -> StoredTask | None:
+        """The task of a turn that is delivered, from now on run by this owner; or, if it is `running`, by another one.
+        None if it is done, cancelled or dead, or has another turn."""
+        with self._transaction() as db:
+            row = db.execute(f"SELECT {_COLUMNS}, touched FROM tasks WHERE id = ? AND turn = ? AND state != 'dead'",
+                             [id, turn]).fetchone()
+            if row is None:
+                return None
+            *columns, touched = row
+            task = StoredTask(*columns)
+            if task.state == "running" and touched > now - STALE:
+                return task
+            db.execute("UPDATE tasks SET state = 'running', offers = 0, owner = ?, touched = ? WHERE id = ?",
+                       [owner, now, id])
+        return replace(task, state="claimed")
+
+    def done(self, task: StoredTask) -> None:
+        """The task was done, and is forgotten."""
+        with self._transaction() as db:
+            db.execute("DELETE FROM tasks WHERE id = ? AND turn = ?", [task.id, task.turn])
+
+    def retry(self, task: StoredTask, due: float, error: str, now: float) -> StoredTask:
+        """The task failed, and is due again at this moment."""
+        self._change(task, "state = 'new', turn = turn + 1, failures = failures + 1, due = ?, error = ?, touched = ?",
+                     [due, error, now])
+        return replace(task, turn=task.turn + 1, due=due)
+
+    def bury(self, task: StoredTask, error: str, now: float) -> None:
+        """The task failed for the last time."""
+        self._change(task, "state = 'dead', failures = failures + 1, error = ?, touched = ?", [error, now])
+
+    def release(self, task: StoredTask, now: float) -> None:
+        """The task was not run to its end, and is offered again soon, unless it was already."""
+        self._change(task, "state = 'new', touched = ?", [now])
+
+    def cancel(self, key: str) -> bool:
+        """Takes out the task of this key, if it waits. Gives whether it did."""
+        with self._transaction() as db:
+            return db.execute("DELETE FROM tasks WHERE key = ? AND state IN ('new', 'waiting')", [key]).rowcount > 0
+
+    def dead(self) -> list[StoredTask]:
+        """The tasks that failed for the last time, in the order in which they did."""
+        with self._transaction() as db:
+            rows = db.execute(f"SELECT {_COLUMNS} FROM tasks WHERE state = 'dead' ORDER BY touched, id").fetchall()
+        return [StoredTask(*it) for it in rows]
+
+    def revive(self, id: str, now: float) -> StoredTask | None:
+        """A dead task is due now, as if it had never failed. None if it is not dead, or another has its key."""
+        try:
+            with self._transaction() as db:
+                row = db.execute(_REVIVED, {"id": id, "now": now}).fetchone()
+        except sqlite3.IntegrityError:
+            return None
+        return row and StoredTask(*row)
+
+    def beat(self, owner: str, now: float) -> None:
+        """This owner is alive, and so are the tasks that it runs."""
+        with self._transaction() as db:
+            db.execute("UPDATE tasks SET touched = ? WHERE owner = ? AND state = 'running'", [now, owner])
+
+    def overdue(self, overdue: float, now: float) -> list[StoredTask]:
+        """The tasks that are to be offered again: those that were not offered, those whose owner is dead, and those
+        that are so many seconds overdue, or twice as many, and so on, after each time."""
+        words = {"now": now, "overdue": overdue, "unsent": UNSENT, "stale": STALE}
+        with self._transaction() as db:
+            rows = db.execute(_OVERDUE, words).fetchall()
+        return [StoredTask(*it) for it in rows]
+
+    def _change(self, task: StoredTask, change: str, words: list[object], condition: str = "state = 'running'") -> None:
+        with self._transaction() as db:
+            db.execute(f"UPDATE tasks SET {change} WHERE id = ? AND turn = ? AND {condition}",
+                       [*words, task.id, task.turn])
+
+    @contextmanager
+    def _transaction(self) -> Iterator[sqlite3.Connection]:
+        if self._process != os.getpid():  # a connection is that of one process
+            self._lock, self._process = threading.Lock(), os.getpid()
+            self._db = sqlite3.connect(self._path, timeout=30, isolation_level=None, check_same_thread=False)
+            self._db.executescript("PRAGMA journal_mode = WAL; PRAGMA synchronous = FULL;" + _TABLES)
+        with self._lock:
+            self._db.execute("BEGIN IMMEDIATE")
+            try:
+                yield self._db
+            except BaseException:
+                self._db.execute("ROLLBACK")
+                raise
+            self._db.execute("COMMIT")

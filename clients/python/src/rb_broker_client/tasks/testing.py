@@ -1,0 +1,46 @@
+"""Tasks of a test, which run in its process, at moments that it sets."""
+
+import heapq
+import time
+from typing import TYPE_CHECKING, Self
+
+from ..durations import Duration, from_text
+from ..job import Job
+from .store import Store
+
+if TYPE_CHECKING:
+    from .app import Tasks
+
+
+class Testing:
+    """Tasks that are offered while it is entered are kept in memory, and run by `pass_by` alone:
+
+        with app.testing() as moments:
+            remind.later("2h", 17)
+            moments.pass_by("3h")
+    """
+
+    def __init__(self, app: "Tasks") -> None:
+        self._app, self._due, self._now = app, list[tuple[float, str]](), time.time()
+
+    def __enter__(self) -> Self:
+        app = self._app
+        self._kept = app._store, app._now, app._send
+        app._store, app._now, app._send = Store(":memory:"), lambda: self._now, self._keep
+        return self
+
+    def __exit__(self, *fault: object) -> None:
+        self._app._store.close()
+        self._app._store, self._app._now, self._app._send = self._kept
+
+    def pass_by(self, delay: Duration | str = 0) -> None:
+        """Lets this time pass, and runs what falls due, in order."""
+        until = self._now + from_text(delay)
+        while self._due and self._due[0][0] <= until:
+            due, payload = heapq.heappop(self._due)
+            self._now = max(due, self._now)
+            self._app._handle(Job(0, 0, 1, payload))
+        self._now = until
+
+    def _keep(self, payload: str, delay: float) -> None:
+        heapq.heappush(self._due, (self._now + delay, payload))
