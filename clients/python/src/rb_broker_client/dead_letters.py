@@ -25,14 +25,9 @@ class DeadLetters:
 
     def __init__(self, target: str | os.PathLike[str] | Producer | AsyncProducer) -> None:
         """Raises `OSError` if the file can't be written."""
-        self._target = target
+        self._target, self.is_async = target, isinstance(target, AsyncProducer)  # what a call gives is to be awaited
         if not isinstance(target, (Producer, AsyncProducer)):
             open(target, "ab").close()
-
-    @property
-    def is_async(self) -> bool:
-        """Whether what a call gives is to be awaited."""
-        return isinstance(self._target, AsyncProducer)
 
     async def keep(self, job: Job) -> None:
         """Keeps a job, and holds up no event loop."""

@@ -67,11 +67,9 @@ class HeldJob(Job):
     """A job that a `Broker` took."""
 
     def done(self) -> None:
-        """The job is finished."""
         self._holder().done(self.id)
 
     def fail(self) -> "Verdict":
-        """The job failed now. Gives `Again` or `Dead`."""
         verdict: Verdict = self._holder().fail(self.id)
         return verdict
 
@@ -80,11 +78,9 @@ class AsyncHeldJob(Job):
     """A job that an `AsyncBroker` took. What its methods give is to be awaited."""
 
     async def done(self) -> None:
-        """The job is finished."""
         await self._holder().done(self.id)
 
     async def fail(self) -> "Verdict":
-        """The job failed now. Gives `Again` or `Dead`."""
         verdict: Verdict = await self._holder().fail(self.id)
         return verdict
 

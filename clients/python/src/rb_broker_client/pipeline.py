@@ -23,14 +23,11 @@ class _Call:
     def __init__(self, take: Callable[[Any], object]) -> None:
         self.take, self.answer = take, None  # what is called with the answer; and that, or an exception
         self.is_answered = self.is_given_up = False
-        self._bell: Any = None  # where it sleeps while another reads
-
-    def sleep_at(self, bell: Any) -> None:
-        self._bell = bell
+        self.bell: Any = None  # where it sleeps while another reads
 
     def wake(self) -> bool:
         """Wakes who sleeps. Gives whether somebody does."""
-        bell, self._bell = self._bell, None
+        bell, self.bell = self.bell, None
         if bell is not None:
             bell.release()
         return bell is not None
@@ -44,18 +41,14 @@ class Pipeline:
     """
 
     def __init__(self, session: Session) -> None:
-        self._session, self._kind = session, session._kind
+        self.session, self._kind = session, session._kind
         self._lock = threading.Lock()  # in which nobody waits
         self._calls: deque[_Call] = deque()  # whose replies have not come
         self._waiting = 0  # of these, that are not given up
         self._is_read = self._is_ended = False
-        self._is_left = False  # whether no request is to be added
-        self._at_end: list[Any] = []  # where those sleep that wait for the end
-
-    @property
-    def is_left(self) -> bool:
+        self.is_left = False
         """Whether it takes no request any more."""
-        return self._is_left
+        self._at_end: list[Any] = []  # where those sleep that wait for the end
 
     async def ask(self, request: Request[Answer], deadline: float, take: Callable[[Answer], object] = lambda _: None,
                   is_last: bool = False) -> Answer:
@@ -66,9 +59,9 @@ class Pipeline:
         with self._lock:
             if not self._is_read:
                 self._hear()  # who reads knows first if the session is lost
-            if self._is_left:
+            if self.is_left:
                 raise LeftError
-            self._is_left = is_last
+            self.is_left = is_last
             self._calls.append(call)
             self._waiting += 1
             self._send(request)
@@ -90,7 +83,7 @@ class Pipeline:
     def leave(self) -> None:
         """Takes no request any more, and hangs up once nobody waits."""
         with self._lock:
-            self._is_left = True
+            self.is_left = True
             self._pass_on()
 
     async def end(self) -> None:
@@ -101,17 +94,13 @@ class Pipeline:
             self._at_end.append(bell := self._kind.bell())
         await self._kind.acquire(bell, FOR_EVER)
 
-    def forget(self) -> None:
-        """Closes the descriptor of a session that is another process's."""
-        self._session.forget()
-
     async def _wait(self, call: _Call, deadline: float) -> bool:
         with self._lock:
             if call.is_answered:
                 return True
             reads, self._is_read = not self._is_read, True
             if not reads:
-                call.sleep_at(bell := self._kind.bell())
+                call.bell = bell = self._kind.bell()
         if not reads:
             return await self._kind.acquire(bell, max(deadline - time.monotonic(), 0))
         try:
@@ -121,8 +110,8 @@ class Pipeline:
 
     async def _read(self, call: _Call, deadline: float) -> bool:
         while not call.is_answered:
-            events = EVENT_READ if self._session.is_sent else EVENT_READ | EVENT_WRITE
-            if not await self._kind.ready(self._session._socket, events, max(deadline - time.monotonic(), 0)):
+            events = EVENT_READ if self.session.is_sent else EVENT_READ | EVENT_WRITE
+            if not await self._kind.ready(self.session._socket, events, max(deadline - time.monotonic(), 0)):
                 return False
             with self._lock:
                 self._hear()
@@ -130,13 +119,13 @@ class Pipeline:
 
     def _send(self, *requests: Request[Any]) -> None:
         try:
-            self._session.post(*requests)
+            self.session.post(*requests)
             self._hand_out()
         except (OSError, UnknownReplyError) as fault:
             self._lose(fault)
 
     def _hear(self) -> None:
-        self._session.receive()
+        self.session.receive()
         try:
             self._hand_out()  # what came before the session was lost
         except UnknownReplyError as fault:
@@ -144,8 +133,8 @@ class Pipeline:
         self._send()
 
     def _hand_out(self) -> None:
-        while self._calls and self._session.has_answer:
-            answer = self._session.take_answer()
+        while self._calls and self.session.has_answer:
+            answer = self.session.take_answer()
             if not isinstance(answer, Exception):
                 self._calls[0].take(answer)
             self._settle(answer)
@@ -157,7 +146,7 @@ class Pipeline:
         call.wake()
 
     def _lose(self, fault: Exception) -> None:
-        self._is_left = True
+        self.is_left = True
         while self._calls:
             self._settle(fault)
             if isinstance(fault, UnknownReplyError):  # which answers the first
@@ -169,8 +158,8 @@ class Pipeline:
             return
         if self._waiting:
             any(it.wake() for it in self._calls)
-        elif self._is_left or self._calls:
-            self._is_left = self._is_ended = True
-            self._session.close()
+        elif self.is_left or self._calls:
+            self.is_left = self._is_ended = True
+            self.session.close()
             for it in self._at_end:
                 it.release()

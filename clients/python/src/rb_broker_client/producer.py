@@ -163,18 +163,13 @@ class BaseProducer:
         # In a forked process, whose other threads are gone, whatever they were at. The session is the other process's.
         self._turn, self._stop_leaving = self._kind.lock(), lambda: None
         if self._pipeline is not None:
-            self._pipeline.forget()
+            self._pipeline.session.forget()
         self._pipeline = None
-
-
-def _begin_all_anew() -> None:
-    for it in _PRODUCERS:
-        it._begin_anew()
 
 
 _PRODUCERS: WeakSet[BaseProducer] = WeakSet()  # of this process
 if hasattr(os, "register_at_fork"):
-    os.register_at_fork(after_in_child=_begin_all_anew)
+    os.register_at_fork(after_in_child=lambda: [*map(BaseProducer._begin_anew, _PRODUCERS)])
 
 
 class AsyncProducer(BaseProducer):

@@ -126,8 +126,6 @@ class BaseWorker(Generic[Handler, OnDead]):
             for work in [*self._visits]:
                 self._end(work)
             await self._turns.close()
-        if self._fault is not None:
-            raise self._fault
         return self.report
 
     def _watch(self, is_over: threading.Event) -> None:

@@ -11,8 +11,8 @@ import unittest.mock
 from from_threads import for_both_kinds, settle
 from scripted import PATIENCE, ScriptedTest, free_port
 from rb_broker_client import (
-    Again, AsyncBroker, AsyncProducer, Broker, DisconnectedError, FullError, Job, NotHeldError, Offered, Producer, Request,
-    StoppedError, UnknownReplyError, Worker,
+    Again, AsyncBroker, AsyncProducer, Broker, DisconnectedError, FullError, Job, NotHeldError, Offered, Producer,
+    Request, StoppedError, UnknownReplyError, Worker,
 )
 
 DRAINED_LATE = "DRAIN 2 > DRAINED 2, ITEM 0 0 1 a; SIZE > late: ITEM 1 0 1 b, SIZE 0"

@@ -21,9 +21,6 @@ class OrderTest(ConcurrencyCase):
         self.assert_scripts("concurrency.txt")
         self.assertEqual(self.jobs.running, 0)
 
-    def test_where_many_are_due(self):
-        self.assert_scripts("drains.txt")
-
     def test_jobs_of_a_lost_session_keep_their_places(self):
         running, first = [], f"{GIVES_A}; BRIEF > beside c a: ITEM 1 0 1 c; > hangs up"
         self.runs = lambda _: running.append(self.jobs.running)
@@ -88,7 +85,8 @@ class TimeoutTest(ConcurrencyCase):
 
     def test_a_stop_does_not_wait_for_it(self):
         self.addCleanup(lambda: self.jobs.end("a"))
-        self.assert_reports(Report(again=1), f"{GIVES_A}; FAIL 0 > stops: AGAIN 1 5; QUIT", concurrency=1, timeout=LIMIT)
+        steps = f"{GIVES_A}; FAIL 0 > stops: AGAIN 1 5; QUIT"
+        self.assert_reports(Report(again=1), steps, concurrency=1, timeout=LIMIT)
         self.assertEqual(self.jobs.running, 1)
 
 

@@ -162,36 +162,32 @@ class LeavingThreadTest(ProducerCase):
     def test_a_forked_process_has_a_session_of_its_own(self):
         producer = self.produce(f"{FIRST}; {SECOND}", session=None)
         offer(producer)
-        other = self.play(f"AT 0; {OFFER} > OFFERED 7 5")
+        self.offer_in_fork(producer)
+        self.assertEqual(offer(producer), Offered(1, 5))
+
+    def offer_in_fork(self, producer):
+        """Another process, which is forked, offers by this producer at another server, and closes it."""
+        port = self.play(f"AT 0; {OFFER} > OFFERED 7 5").port  # a scripted server serves one at a time
         child = os.fork()
         if child == 0:
             try:
-                producer._session_at = lambda _: Broker(other.port)  # a scripted server serves one at a time
-                os._exit(offer(producer).id)
+                producer._session_at = lambda _: Broker(port)
+                id = offer(producer).id
+                producer.close()
+                os._exit(id)
             finally:
                 os._exit(99)
         self.assertEqual(os.waitstatus_to_exitcode(os.waitpid(child, 0)[1]), 7)
-        self.assertEqual(offer(producer), Offered(1, 5))
-
 
     def test_a_process_that_is_forked_while_another_thread_offers(self):
         is_asked, may_answer, told = threading.Event(), threading.Event(), []
         self.goes_on = lambda _: is_asked.set() or may_answer.wait(PATIENCE)
         for steps in (f"AT 0 > goes_on: ERR 1 syntax; {FIRST}", f"{OFFER} > goes_on: OFFERED 0 5"):
-            producer, other = self.produce(steps, session=None), self.play(f"AT 0; {OFFER} > OFFERED 7 5")
+            producer = self.produce(steps, session=None)
             thread = threading.Thread(target=lambda: told.append(offer(producer)), daemon=True)
             thread.start()
             self.assertTrue(is_asked.wait(PATIENCE))
-            child = os.fork()
-            if child == 0:
-                try:
-                    producer._session_at = lambda _: Broker(other.port)
-                    id = offer(producer).id
-                    producer.close()
-                    os._exit(id)
-                finally:
-                    os._exit(99)
-            self.assertEqual(os.waitstatus_to_exitcode(os.waitpid(child, 0)[1]), 7)
+            self.offer_in_fork(producer)
             may_answer.set()
             thread.join(PATIENCE)
             self.assertEqual(told.pop(), Offered(0, 5))

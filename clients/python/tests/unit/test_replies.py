@@ -35,7 +35,8 @@ class ReplyTest(unittest.TestCase):
     """What is sent, or refused before it is, and what is read."""
 
     def test_each_request_and_its_replies(self):
-        for line, reply, told in (it.split(" | ") for it in table("replies.txt").splitlines()):
+        rows = [it.split(" | ") for it in table("replies.txt").splitlines()]
+        for line, reply, told in ((it, *rest) for lines, *rest in rows for it in lines.split(" & ")):
             with self.subTest(line=line, reply=reply):
                 request = request_of(line)
                 self.assertEqual(str(request), line)

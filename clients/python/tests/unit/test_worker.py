@@ -43,12 +43,13 @@ class JobTest(WorkerCase):
         self.assertEqual(dead, [Job(1, 0, 1, "b")])
 
     def test_a_job_that_fails_for_the_last_time_in_a_session_that_is_lost_is_dead(self):
-        dead = []
-        fails = "WAIT > ITEM {0} 0 {0} b; FAIL {0} > hangs up"
+        dead, fails = [], "WAIT > ITEM {0} 0 {0} b; FAIL {0} > hangs up"
+        options = {"on_dead": dead.append, "attempts": 2}
         with self.logged() as said:
-            self.assert_reports(Report(unheard=2), fails.format(1), fails.format(2), LAST, on_dead=dead.append, attempts=2)
+            self.assert_reports(Report(unheard=2), fails.format(1), fails.format(2), LAST, **options)
         self.assertEqual(dead, [Job(2, 0, 2, "b")])
-        self.assertEqual(said, ["ERROR:rb_broker_client.worker:job b failed in its last attempt, 2, and its session was lost"])
+        self.assertEqual([it.partition("worker:")[2] for it in said],
+                         ["job b failed in its last attempt, 2, and its session was lost"])
 
     def test_a_fault_of_what_is_told_of_dead_jobs_is_logged_and_the_worker_goes_on(self):
         def refuse(job):

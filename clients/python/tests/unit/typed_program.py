@@ -1,4 +1,4 @@
-"""A program that uses both kinds of each client. Each type in it is right; test_building.py makes some of them wrong."""
+"""A program of both kinds of each client. Each type in it is right; test_building.py makes some of them wrong."""
 from rb_broker_client import AsyncBroker, AsyncProducer, AsyncWorker, Broker, DeadLetters, Job, Producer, Worker
 
 

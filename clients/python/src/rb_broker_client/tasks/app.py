@@ -153,9 +153,8 @@ class Tasks:
             self._worker.stop()
 
     def close(self) -> None:
-        """Ends the session of what offers, and closes the file."""
+        """Ends the session of what offers."""
         self._producer.close()
-        self._store.close()
 
     def _add(self, name: str, arguments: str, key: str | None, delay: float) -> str | None:
         now = self._now()

@@ -59,10 +59,6 @@ class Store:
             db.execute("INSERT INTO file SELECT ? WHERE NOT EXISTS (SELECT 1 FROM file)", [uuid.uuid4().hex[:8]])
             (self.file,) = db.execute("SELECT id FROM file").fetchone()
 
-    def close(self) -> None:
-        """Closes the file."""
-        self._db.close()
-
     def add(self, name: str, arguments: str, key: str | None, due: float, now: float) -> StoredTask | None:
         """Adds a task, unless there is one of this key that is not dead."""
         task = StoredTask(uuid.uuid4().hex[:16], name, arguments, key, due, 1, 0, "", "new")
@@ -157,11 +153,6 @@ class Store:
             self._lock, self._process = threading.Lock(), os.getpid()
             self._db = sqlite3.connect(self._path, timeout=30, isolation_level=None, check_same_thread=False)
             self._db.executescript("PRAGMA journal_mode = WAL; PRAGMA synchronous = FULL;" + _TABLES)
-        with self._lock:
+        with self._lock, self._db:  # which commits, or takes back what was done before an exception
             self._db.execute("BEGIN IMMEDIATE")
-            try:
-                yield self._db
-            except BaseException:
-                self._db.execute("ROLLBACK")
-                raise
-            self._db.execute("COMMIT")
+            yield self._db

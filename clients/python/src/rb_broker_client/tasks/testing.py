@@ -13,12 +13,7 @@ if TYPE_CHECKING:
 
 
 class Testing:
-    """Tasks that are offered while it is entered are kept in memory, and run by `pass_by` alone:
-
-        with app.testing() as moments:
-            remind.later("2h", 17)
-            moments.pass_by("3h")
-    """
+    """Tasks that are offered while it is entered are kept in memory, and run by `pass_by` alone."""
 
     def __init__(self, app: "Tasks") -> None:
         self._app, self._due, self._now = app, list[tuple[float, str]](), time.time()
@@ -30,7 +25,6 @@ class Testing:
         return self
 
     def __exit__(self, *fault: object) -> None:
-        self._app._store.close()
         self._app._store, self._app._now, self._app._send = self._kept
 
     def pass_by(self, delay: Duration | str = 0) -> None:
