@@ -5,10 +5,10 @@ For Worker and AsyncWorker, with 1, 8 and 64 jobs at the same time: how many job
 before the worker begins, jobs of nothing and jobs that sleep for 50 ms. Then, with 8 at a time, 10 jobs a second of
 50 ms that are offered one by one, at random: how long after its offer a job begins, and how long after the end of its
 handler the server has told that the job is done. Server, worker and producer share the machine; medians of N runs (3 by
-default). With --crowd alone: a server of four workers, and 1 to 4 times as many clients, of which one is a producer that
-connects for each offer and the others are idle workers: how long an offer takes. With --far alone, through a proxy that
-delays: jobs a second of workers with 64 jobs at the same time, and the offers of 50 threads or tasks that share one
-producer.
+default). With --crowd alone: a server of four workers, and 1 to 4 times as many clients, of which one is a producer
+that connects for each offer and the others are idle workers: how long an offer takes. With --far alone, through a proxy
+that delays: jobs a second of workers with 64 jobs at the same time, and the offers of 50 threads or tasks that share
+one producer.
 """
 import argparse
 import asyncio
@@ -202,7 +202,7 @@ def measure_far(program, kinds, runs):
         told = [far_offers(program, is_async) for _ in range(runs)]
         rates, took = [it for it, _ in told], [seconds for _, it in told for seconds in it]
         print(f"{OFFERERS} {name}, {1e3 * OFFERS_TRIP:.0f} ms away: {statistics.median(rates):.0f} offers a second "
-              f"({min(rates):.0f} to {max(rates):.0f}), 99th percentile {1e3 * percentile(took, 99):.0f} ms", flush=True)
+              f"({min(rates):.0f} to {max(rates):.0f}), the 99th percentile {1e3 * percentile(took, 99):.0f} ms")
 
 
 def main():

@@ -287,7 +287,6 @@ class _Gives(Generic[Answer]):
 
     def by(self, make: Callable[Words, Request[Any]]) -> Callable[Concatenate[Session, Words],
                                                                   Coroutine[Any, Any, Answer]]:
-        """The method that asks what this one makes."""
         return _asks(make)
 
 

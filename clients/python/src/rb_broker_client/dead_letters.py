@@ -31,8 +31,7 @@ class DeadLetters:
 
     async def keep(self, job: Job) -> None:
         """Keeps a job, and holds up no event loop."""
-        kept = self(job) if self.is_async else Looping.apart(partial(self, job))
-        await kept
+        await (self(job) if self.is_async else Looping.apart(partial(self, job)))
 
     def __call__(self, job: Job) -> Any:
         """Keeps a job. What is given for an `AsyncProducer` is to be awaited."""

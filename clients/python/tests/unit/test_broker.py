@@ -49,16 +49,10 @@ class BrokerTest(BrokerCase):
         self.assertRaises(RuntimeError, broker.ask_all, [Request.size()])
 
     def test_two_threads_at_a_time(self):
-        self.asks = lambda _: refused.append(self.asked_beside(broker))
-        refused, broker = [], self.connect("SIZE > asks: SIZE 3")
-        self.assertEqual((broker.size(), len(refused)), (3, 1))
-        self.assertRegex(refused[0], "^another thread or task waits for a reply in this session, ")
-
-    def asked_beside(self, broker):
-        try:
-            return broker.size()
-        except RuntimeError as fault:
-            return str(fault)
+        told = "^another thread or task waits for a reply in this session, "
+        self.asks = lambda _: self.assertRaisesRegex(RuntimeError, told, broker.size)
+        broker = self.connect("SIZE > asks: SIZE 3")
+        self.assertEqual(broker.size(), 3)
 
     def test_a_look_whether_it_is_lost_takes_nothing(self):
         broker = self.connect("SIZE > SIZE 3; > hangs up")

@@ -25,8 +25,7 @@ from .testing import Testing
 
 log = logging.getLogger("rb_broker_client.tasks")
 
-Backoff = Callable[[int], float]
-"""The seconds until the next attempt, after so many that failed."""
+Backoff = Callable[[int], float]  # the seconds until the next attempt, after so many that failed
 
 
 class RetryLater(Exception):
@@ -159,10 +158,9 @@ class Tasks:
     def _add(self, name: str, arguments: str, key: str | None, delay: float) -> str | None:
         now = self._now()
         task = self._store.add(name, arguments, key, now + delay, now)
-        if task is None:
-            return None
-        self._offer(task)
-        return task.id
+        if task is not None:
+            self._offer(task)
+        return task.id if task else None
 
     def _offer(self, task: StoredTask) -> bool:
         try:

@@ -117,8 +117,8 @@ class Store:
     def dead(self) -> list[StoredTask]:
         """The tasks that failed for the last time, in the order in which they did."""
         with self._transaction() as db:
-            rows = db.execute(f"SELECT {_COLUMNS} FROM tasks WHERE state = 'dead' ORDER BY touched, id").fetchall()
-        return [StoredTask(*it) for it in rows]
+            rows = db.execute(f"SELECT {_COLUMNS} FROM tasks WHERE state = 'dead' ORDER BY touched, id")
+            return [StoredTask(*it) for it in rows]
 
     def revive(self, id: str, now: float) -> StoredTask | None:
         """A dead task is due now, as if it had never failed. None if it is not dead, or another has its key."""
@@ -139,8 +139,7 @@ class Store:
         that are so many seconds overdue, or twice as many, and so on, after each time."""
         words = {"now": now, "overdue": overdue, "unsent": UNSENT, "stale": STALE}
         with self._transaction() as db:
-            rows = db.execute(_OVERDUE, words).fetchall()
-        return [StoredTask(*it) for it in rows]
+            return [StoredTask(*it) for it in db.execute(_OVERDUE, words).fetchall()]
 
     def _change(self, task: StoredTask, change: str, words: list[object], condition: str = "state = 'running'") -> None:
         with self._transaction() as db:
