@@ -148,8 +148,8 @@ class Store:
 
     @contextmanager
     def _transaction(self) -> Iterator[sqlite3.Connection]:
-        if self._process != os.getpid():  # a connection is that of one process
-            self._lock, self._process = threading.Lock(), os.getpid()
+        if self._process != os.getpid():  # a connection is that of one process, and no other may close it
+            self._lock, self._process, self._inherited = threading.Lock(), os.getpid(), vars(self).get("_db")
             self._db = sqlite3.connect(self._path, timeout=30, isolation_level=None, check_same_thread=False)
             self._db.executescript("PRAGMA journal_mode = WAL; PRAGMA synchronous = FULL;" + _TABLES)
         with self._lock, self._db:  # which commits, or takes back what was done before an exception
