@@ -13,7 +13,8 @@ PROCESSES, THREADS, KILLS = 3, 4, 8
 POLICY = ("--workers", 16, "--sessions", 10_000, "--calls", 1_000_000, "--delay", 200_000_000, "--attempts", 20)
 APP = """
 import os, sys, time
-from rb_broker_client.tasks import Tasks, app as module, store
+from rb_broker_client import task_store as store, tasks as module
+from rb_broker_client.tasks import Tasks
 module.STALE = store.STALE = 2.0
 store.UNSENT = 0.5
 app = Tasks(sys.path[0] + "/tasks.db", int(os.environ["TASKS_PORT"]), patience=0.5, overdue=2)

@@ -1,4 +1,4 @@
-"""Functions that are called later, and once more if they fail."""
+"""Durable tasks: functions that are called later, over a file of SQLite and a broker."""
 
 import inspect
 import json
@@ -15,15 +15,17 @@ from datetime import datetime
 from functools import partial
 from typing import Any
 
-from ..durations import Duration, from_text, seconds
-from ..errors import BrokerError
-from ..job import Job, Report
-from ..producer import Producer
-from ..worker import Worker
-from .store import STALE, Store, StoredTask
-from .testing import Testing
+from .durations import Duration, from_text, seconds
+from .errors import BrokerError
+from .job import Job, Report
+from .producer import Producer
+from .task_store import STALE, Store, StoredTask
+from .task_testing import Testing
+from .worker import Worker
 
-log = logging.getLogger("rb_broker_client.tasks")
+__all__ = ["Backoff", "RetryLater", "StoredTask", "Task", "Tasks", "Testing", "exponential"]
+
+log = logging.getLogger(__name__)
 
 Backoff = Callable[[int], float]  # the seconds until the next attempt, after so many that failed
 

@@ -4,12 +4,12 @@ import heapq
 import time
 from typing import TYPE_CHECKING, Self
 
-from ..durations import Duration, from_text
-from ..job import Job
-from .store import Store
+from .durations import Duration, from_text
+from .job import Job
+from .task_store import Store
 
 if TYPE_CHECKING:
-    from .app import Tasks
+    from .tasks import Tasks
 
 
 class Testing:
