@@ -89,7 +89,7 @@ class FarTest(ServedTest):
             all_of = [self.begin(lambda: [producer.offer("a") for _ in range(each)]) for _ in range(threads)]
             for it in all_of:
                 it.join(PATIENCE)
-            self.assertLess(time.monotonic() - began, threads * each * self.ROUND_TRIP / 4)
+            self.assertLess(time.monotonic() - began, threads * each * self.ROUND_TRIP / 2)
         with Broker(server.port, patience=PATIENCE) as broker:
             self.assertEqual(broker.size(), 1 + threads * each)
 

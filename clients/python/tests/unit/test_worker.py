@@ -200,27 +200,23 @@ class ForkTest(WorkerCase):
     """Workers that were made before their processes were forked."""
 
     def test_a_worker_has_no_descriptor_before_it_runs(self):
-        count = lambda: len(os.listdir("/proc/self/fd"))
-        before = count()
+        before = os.listdir("/proc/self/fd")
         workers = [Worker(self.handle, 7011) for _ in range(5)]
-        self.assertEqual((count(), len(workers)), (before, 5))
+        self.assertEqual((len(os.listdir("/proc/self/fd")), len(workers)), (len(before), 5))
 
     def test_each_process_hears_its_own_stop(self):
+        """If no stop ends a process another signal does."""
         worker = Worker(self.handle, free_port(), pauses=Pauses(60.0, 60.0))
-        children = [self.fork(worker) for _ in range(4)]
+        self.addCleanup(signal.signal, signal.SIGTERM, signal.signal(signal.SIGTERM, worker.stop))
+        children = [os.fork() or self.run_in_child(worker) for _ in range(4)]
         time.sleep(0.5)
         for child in children:
             os.kill(child, signal.SIGTERM)
         ended = [os.waitstatus_to_exitcode(os.waitpid(child, 0)[1]) for child in children]
         self.assertEqual(ended, [7] * 4)
 
-    def fork(self, worker):
-        """A process that runs this worker until a signal stops it. If none does, another signal ends it."""
-        child = os.fork()
-        if child:
-            return child
+    def run_in_child(self, worker):
         try:
-            signal.signal(signal.SIGTERM, worker.stop)
             signal.alarm(PATIENCE)
             worker.run()
             os._exit(7)
