@@ -23,8 +23,8 @@ HELD = 50
 class FullTest(ServiceTest):
     def test_a_client_that_only_asks_fills_no_run(self) -> None:
         """It makes calls that change nothing the server tells of. It is cut, and the jobs of another one come back."""
-        for batch in (1, 20):
-            options = ("--calls", "20000", "--stop-within", "2s", "--delay", "0s")
+        for batch, calls in ((1, 200_000), (20, 1_000_000)):
+            options = ("--calls", str(calls), "--stop-within", "2s", "--delay", "0s")
             with self.subTest(batch=batch), self.serving(*options, folder=self.path(f"by-{batch}")) as service:
                 self.offer(HELD)
                 with Session(self.port) as holder:

@@ -105,6 +105,6 @@ class RunsTest(ServiceTest):
             service.wait("serving", 6)
         last = int(self.begin("--keep", "2").all("serving")[0]["run"])
         wanted = {f"run-{last - 1}.json", f"run-{last - 1}.txt.gz", f"run-{last - 2}.json", f"run-{last - 2}.txt.gz",
-                  f"run-{last}.json", f"opening-{last}.txt", "id", "lock", "status"}
+                  f"run-{last}.json", f"opening-{last}.txt", "id", "keeper", "lock", "status"}
         until(lambda: set(os.listdir(self.path("runs"))) <= wanted, "old files are gone")
         self.assertEqual(self.record(last - 1)["end"]["why"], "asked")
