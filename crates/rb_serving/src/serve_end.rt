@@ -1,4 +1,5 @@
-ghost use Rattle.std.specs.Prelude.{◌≡◌};
+ghost use Rattle.std.specs.Prelude.{◌≡◌, IfErr};
+ghost use Rattle.rb_history.specs.declared.history_fault.HistoryFault.TheVariants.{Write};
 ghost use Rattle.rb_ending.specs.Recording.{RecordsRun, lent, given_back};
 ghost use Rattle.rb_serving.specs.ServeText.{Prints, first_fault, report_text};
 
@@ -33,7 +34,7 @@ impl ServerEnd {
 
 /// Writes the history of a server's run, if there is a device for it, and then prints the counts of
 /// the run, also if the history could not be written. Only printing takes memory: the history is written in the room
-/// that was taken for its text.
+/// that was taken for its text, so `Write` is its only fault.
 pub fn end_server<T: Timer, W: Write, H: Write>(
     alloc: Global,
     text: HistoryRoom,
@@ -42,6 +43,7 @@ pub fn end_server<T: Timer, W: Write, H: Write>(
     history: Option<&mut H>,
 ) -> ServerEnd
     ensures recorded { RecordsRun H.contents report.now.kept result.recorded (lent history.entry) (given_back history.exit) }
+    ensures fault { IfErr result.recorded (λ fault. fault ≡ Write) }
     ensures printed { Prints result.printed (W.contents writer.old) (report_text report.now) (W.contents writer.new) }
 {
     match history {
