@@ -38,6 +38,8 @@ impl HistoryFile {
 }
 
 impl Recorder for HistoryFile {
+    type Begun = ();
+
     ghost has_begun = { λ old new. Unit {0} };
 
     ghost has_failed = { λ old new. Unit {0} };

@@ -34,5 +34,5 @@ module _ {I O G C : Type 0} (reader : Read.Ghosts I) (writer : Write.Ghosts O)
   }
 
   -- the terms of a service
-  abbrev pub service_terms : {T : Type 0} → Service T C → Terms I O G C
+  abbrev pub service_terms : {T V : Type 0} → Service T C V → Terms I O G C
   service_terms service = terms_of service.clock.now service.policy.now service.delivery

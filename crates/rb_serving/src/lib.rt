@@ -4,6 +4,7 @@
 //! A door is where visits come from: the clients of a TCP listener, or what a test provides.
 #![tactic(auto)]
 
+mod decision;
 mod door;
 mod laws;
 mod recorder;

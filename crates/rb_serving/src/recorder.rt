@@ -4,16 +4,19 @@ use rb_protocol::WriteFault;
 
 /// What records a server's run. It begins when the server has all that it needs and has let nobody in.
 ///
-/// `has_begun` tells how a recorder began, and `has_failed` that it could not. Code over any recorder learns them in
-/// no other way than by letting it begin. So one that is as it was before has not begun.
+/// `has_begun` tells how a recorder began, and `has_failed` that it could not. Code over any recorder learns them, and
+/// gets a `Begun`, in no other way than by letting it begin. So one that is as it was before has not begun.
 pub trait Recorder {
+    /// What shows that a recorder has begun.
+    type Begun: Drop + Send + Sync;
+
     ghost has_begun: { Self → Self → Type 0 };
 
     ghost has_failed: { Self → Self → Type 0 };
 
     /// Begins, such as by emptying the file that the history goes to. `Err` means that it could not, and the server
     /// then serves nobody.
-    fn begin(&mut self) -> Result<(), WriteFault>
+    fn begin(&mut self) -> Result<Self::Begun, WriteFault>
         ensures begun { OnOk result (has_begun self.old self.new) }
         ensures failed { OnErr result (has_failed self.old self.new) };
 }
@@ -23,6 +26,8 @@ pub trait Recorder {
 pub struct NoRecorder;
 
 impl Recorder for NoRecorder {
+    type Begun = ();
+
     ghost has_begun = { λ old new. Unit {0} };
 
     ghost has_failed = { λ old new. ⊥ };

@@ -8,13 +8,13 @@ use std::sync::OnceLock;
 
 /// What all workers of a server have in common.
 #[derive(Drop)]
-pub(crate) struct Service<'a, T: Timer, C: Clock> {
+pub(crate) struct Service<'a, T: Timer, C: Clock, V> {
     pub(crate) alloc: Global,
     pub(crate) shared: &'a Shared<T>,
     pub(crate) clock: &'a C,
     pub(crate) bell: &'a Bell,
-    // Whether the workers serve: known once all have been started, or one can't be.
-    pub(crate) serves: &'a OnceLock<bool>,
+    // Decided once all workers have been started, or one can't be.
+    pub(crate) serves: &'a OnceLock<V>,
     pub(crate) policy: &'a Policy,
     pub(crate) delivery: Delivery,
 }

@@ -5,6 +5,7 @@ ghost use Rattle.rb_serving.specs.Terms.{service_terms};
 ghost use Rattle.rb_serving.specs.Visits.{IsUnused, LeftVisit, Satisfies};
 ghost use Rattle.rb_session.specs.Served.{Served};
 
+use crate::decision::{Decision, decided};
 use crate::door::{Door, DoorFault};
 use crate::service::Service;
 use crate::visit::Visit;
@@ -20,12 +21,12 @@ use std::time;
 
 /// Waits until all workers have been started, and then serves like `work`; or leaves without having served,
 /// because one can't be started. The token shows which.
-pub(crate) fn work_with_all<'a, T: Timer, D: Door, C: Clock, R: Wait + time::Clock>(
+pub(crate) fn work_with_all<'a, T: Timer, D: Door, C: Clock, V: Decision, R: Wait + time::Clock>(
     rt: &R,
-    service: &Service<'a, T, C>,
+    service: &Service<'a, T, C, V>,
     door: D,
     pass: Pass<T>,
-) -> (Pass<T>, VisitCounts, D, OnceToken<'a, bool>)
+) -> (Pass<T>, VisitCounts, D, OnceToken<'a, V>)
     requires pass { pass.table ≡ service.now.shared.now }
     requires unused { IsUnused pass }
     requires unseen { D.has_seen door [] }
@@ -34,17 +35,14 @@ pub(crate) fn work_with_all<'a, T: Timer, D: Door, C: Clock, R: Wait + time::Clo
         (service_terms D.Reader.Read D.Writer.Write D.Gate.Gate C.Clock service.now) D.demands }
     ensures pass { result.0.table ≡ service.now.shared.now }
     ensures token { result.3.of ≡ service.now.serves.now.id }
-    ensures served { result.3.value ≡ true → (log : List (DoorStep D.Reader D.Writer D.Gate))
+    ensures served { V.serves result.3.value ≡ true → (log : List (DoorStep D.Reader D.Writer D.Gate))
         × D.has_seen result.2 log × IsWorkerResult
         (service_terms D.Reader.Read D.Writer.Write D.Gate.Gate C.Clock service.now)
         pass.capacity pass.opening log result.0 result.1 }
-    ensures left { result.3.value ≡ false → (result.0 ≡ pass) × D.has_seen result.2 [] }
+    ensures left { V.serves result.3.value ≡ false → (result.0 ≡ pass) × D.has_seen result.2 [] }
 {
-    let serves = service.serves;
-    serves.wait(rt);
-    // Here it has been set, so that nobody sets it again.
-    let token = serves.init(rt, || false);
-    if *serves.value(&token) {
+    let token = decided(rt, service.serves);
+    if service.serves.value(&token).serves() {
         let (pass, counts, door) = work(rt, service, door, pass);
         (pass, counts, door, token)
     } else {
@@ -55,9 +53,9 @@ pub(crate) fn work_with_all<'a, T: Timer, D: Door, C: Clock, R: Wait + time::Clo
 /// Serves one visit after the other at this entrance, until the door has no more.
 ///
 /// The pass makes all their calls and no others. It waits for visits, and while another pass calls.
-pub(crate) fn work<T: Timer, D: Door, C: Clock, R: Wait + time::Clock>(
+pub(crate) fn work<T: Timer, D: Door, C: Clock, V, R: Wait + time::Clock>(
     rt: &R,
-    service: &Service<'_, T, C>,
+    service: &Service<'_, T, C, V>,
     mut door: D,
     mut pass: Pass<T>,
 ) -> (Pass<T>, VisitCounts, D)
@@ -89,9 +87,9 @@ pub(crate) fn work<T: Timer, D: Door, C: Clock, R: Wait + time::Clock>(
 
 // Serves a visit to its end: one session at a desk of the pass, whose waits the visit's gate may end.
 // The door gets back the reader and the writer, so what was sent went to this writer, and nothing more.
-fn serve_visit<T: Timer, D: Door, C: Clock, R: Wait + time::Clock>(
+fn serve_visit<T: Timer, D: Door, C: Clock, V, R: Wait + time::Clock>(
     rt: &R,
-    service: &Service<'_, T, C>,
+    service: &Service<'_, T, C, V>,
     pass: &mut Pass<T>,
     door: &mut D,
     visit: Visit<D::Reader, D::Writer, D::Gate>,

@@ -1,9 +1,11 @@
-ghost use Rattle.std.specs.Prelude.{◌≡◌, [], List, true, false, IfOk, MatchResult};
+ghost use Rattle.std.specs.Prelude.{◌≡◌, [], List, true, false, None, is_some, IfOk, IfErr, MatchResult};
 ghost use Rattle.rb_serving.specs.DoorSteps.{DoorStep};
+ghost use Rattle.rb_ending.specs.declared.broker_fault.BrokerFault.TheVariants.{NotGathered};
 ghost use Rattle.rb_serving.specs.Serving.{EndsRecorded, GathersWorkers, IsWorkerResult};
 ghost use Rattle.rb_serving.specs.Terms.{service_terms};
 ghost use Rattle.rb_serving.specs.Visits.{IsUnused, Satisfies};
 
+use crate::decision::Decision;
 use crate::door::Door;
 use crate::recorder::Recorder;
 use crate::service::Service;
@@ -22,20 +24,21 @@ use std::{thread, time};
 // counts, and the entrance, at which nothing else happened. If the workers don't serve, as the token shows, then
 // the pass as it was given and an entrance at which nothing happened.
 #[derive(Drop)]
-struct OfWorker<'a, T: Timer, C: Clock> {
-    service: &'a Service<'a, T, C>,
+struct OfWorker<'a, T: Timer, C: Clock, V> {
+    service: &'a Service<'a, T, C, V>,
     // The pass that it was given.
     start: Snapshot<Pass<T>>,
 }
 
-impl<'a, T: Timer, D: Door, C: Clock> Promise<(Pass<T>, VisitCounts, D, OnceToken<'a, bool>)>
-    for OfWorker<'a, T, C> {
+impl<'a, T: Timer, D: Door, C: Clock, V: Decision> Promise<
+    (Pass<T>, VisitCounts, D, OnceToken<'a, V>),
+> for OfWorker<'a, T, C, V> {
     ghost kept_by = { λ promise worked. (worked.0.table ≡ promise.service.now.shared.now)
         × (worked.3.of ≡ promise.service.now.serves.now.id)
-        × (worked.3.value ≡ true → (log : List (DoorStep D.Reader D.Writer D.Gate)) × D.has_seen worked.2 log
+        × (V.serves worked.3.value ≡ true → (log : List (DoorStep D.Reader D.Writer D.Gate)) × D.has_seen worked.2 log
         × IsWorkerResult (service_terms D.Reader.Read D.Writer.Write D.Gate.Gate C.Clock promise.service.now)
         promise.start.value.capacity promise.start.value.opening log worked.0 worked.1)
-        × (worked.3.value ≡ false → (worked.0 ≡ promise.start.value) × D.has_seen worked.2 []) };
+        × (V.serves worked.3.value ≡ false → (worked.0 ≡ promise.start.value) × D.has_seen worked.2 []) };
 }
 
 /// Runs this many workers at once, and folds the pass of each into this one.
@@ -51,7 +54,7 @@ pub(crate) fn serve_all<
     R: Threads + Wait + time::Clock + Sync,
 >(
     rt: &R,
-    service: &Service<'_, T, C>,
+    service: &Service<'_, T, C, Option<B::Begun>>,
     recorder: B,
     door: D,
     pass: Pass<T>,
@@ -80,11 +83,8 @@ pub(crate) fn serve_all<
                 (EndsRecorded B.has_begun B.has_failed recorder result.1) }
         {
             let mut begun = recorder;
-            let (door, served) = start_all(rt, scope, service, &mut begun, door, pass, count);
-            match served {
-                Ok((pass, counts, _)) => (door, begun, Ok((pass, counts))),
-                Err(fault) => (door, begun, Err(fault)),
-            }
+            let (door, served, _) = start_all(rt, scope, service, &mut begun, door, pass, count);
+            (door, begun, served)
         },
     )
 }
@@ -97,19 +97,20 @@ fn start_all<
     T: Timer + Send + 's,
     D: Door + Drop + Send + 's,
     C: Clock + Sync + 's,
-    B: Recorder,
+    B: Recorder + 's,
     R: Threads + Wait + time::Clock + Sync + 's,
 >(
     rt: &'s R,
     scope: &'s Scope<'s, E>,
-    service: &'s Service<'s, T, C>,
+    service: &'s Service<'s, T, C, Option<B::Begun>>,
     recorder: &mut B,
     mut door: D,
     mut pass: Pass<T>,
     count: u64,
 ) -> (
     D,
-    Result<(Pass<T>, VisitCounts, OnceToken<'s, bool>), BrokerFault>,
+    Result<(Pass<T>, VisitCounts), BrokerFault>,
+    OnceToken<'s, Option<B::Begun>>,
 )
     requires pass { pass.table ≡ service.now.shared.now }
     requires splits { D.may_split door count }
@@ -118,72 +119,78 @@ fn start_all<
     ensures folds { IfOk result.1 (λ served. GathersWorkers
         (service_terms D.Reader.Read D.Writer.Write D.Gate.Gate C.Clock service.now)
         D.has_joined count door pass result.0 served.0 served.1) }
-    ensures token { IfOk result.1 (λ served. served.2.of ≡ service.now.serves.now.id) }
-    ensures serve { IfOk result.1 (λ served. served.2.value ≡ true) }
+    ensures token { result.2.of ≡ service.now.serves.now.id }
+    ensures serve { IfOk result.1 (λ _. is_some result.2.value ≡ true) }
+    ensures left { IfErr result.1 (λ fault. fault ≡ NotGathered → result.2.value ≡ None) }
     ensures recorder { MatchResult result.1 (λ _. B.has_begun recorder.old recorder.new)
         (EndsRecorded B.has_begun B.has_failed recorder.old recorder.new) }
 {
     if count == 0 {
-        let token = match let_serve(rt, service.serves, recorder) {
-            Ok(token) => token,
-            Err(fault) => return (door, Err(fault)),
-        };
-        return (door, Ok((pass, VisitCounts::default(), token)));
+        let (begun, token) = let_serve(rt, service.serves, recorder);
+        if let Err(fault) = begun {
+            return (door, Err(fault), token);
+        }
+        return (door, Ok((pass, VisitCounts::default())), token);
     }
     let Ok(child) = service.shared.split(rt, &mut pass) else {
-        let _ = service.serves.set(rt, false);
-        return (door, Err(BrokerFault::Worker));
+        let token = service.serves.init(rt, || None);
+        return (door, Err(BrokerFault::Worker), token);
     };
     let entrance = door.split();
     let start = Snapshot::of(&child);
     let promise = OfWorker { service, start };
     let Ok(started) = scope.spawn_with(
         promise,
-        move || -> (Pass<T>, VisitCounts, D, OnceToken<'_, bool>)
+        move || -> (Pass<T>, VisitCounts, D, OnceToken<'_, Option<B::Begun>>)
             requires { (child.table ≡ service.now.shared.now) × IsUnused child × D.has_seen entrance []
                 × D.is_ready entrance × Satisfies
                 (service_terms D.Reader.Read D.Writer.Write D.Gate.Gate C.Clock service.now) D.demands }
             ensures { (result.0.table ≡ service.entry.now.shared.now)
                 × (result.3.of ≡ service.entry.now.serves.now.id)
-                × (result.3.value ≡ true → (log : List (DoorStep D.Reader D.Writer D.Gate)) × D.has_seen result.2 log
+                × (is_some result.3.value ≡ true → (log : List (DoorStep D.Reader D.Writer D.Gate)) × D.has_seen result.2 log
                 × IsWorkerResult
                 (service_terms D.Reader.Read D.Writer.Write D.Gate.Gate C.Clock service.entry.now)
                 child.capacity child.opening log result.0 result.1)
-                × (result.3.value ≡ false → (result.0 ≡ child) × D.has_seen result.2 []) }
+                × (is_some result.3.value ≡ false → (result.0 ≡ child) × D.has_seen result.2 []) }
         { work_with_all(rt, service, entrance, child) },
     ) else {
-        let _ = service.serves.set(rt, false);
-        return (door, Err(BrokerFault::Worker));
+        let token = service.serves.init(rt, || None);
+        return (door, Err(BrokerFault::Worker), token);
     };
-    let (mut door, others) = start_all(rt, scope, service, recorder, door, pass, count - 1);
+    let (mut door, others, token) = start_all(rt, scope, service, recorder, door, pass, count - 1);
     let (done, counts, entrance, own) = started.join(rt);
-    let (mut pass, more, token) = match others {
+    let (mut pass, more) = match others {
         Ok(folded) => folded,
-        Err(fault) => return (door, Err(fault)),
+        Err(fault) => return (door, Err(fault), token),
     };
     token.agrees(&own);
     door.join(entrance);
     service.shared.fold(&mut pass, done);
-    (door, Ok((pass, more.with(counts), token)))
+    (door, Ok((pass, more.with(counts))), token)
 }
 
 // Lets the recorder begin, and then the workers serve. If it can't begin, they leave.
 fn let_serve<'a, B: Recorder, R: Wait>(
     rt: &R,
-    serves: &'a OnceLock<bool>,
+    serves: &'a OnceLock<Option<B::Begun>>,
     recorder: &mut B,
-) -> Result<OnceToken<'a, bool>, BrokerFault>
-    ensures token { IfOk result (λ token. token.of ≡ serves.now.id) }
-    ensures serve { IfOk result (λ token. token.value ≡ true) }
-    ensures recorder { MatchResult result (λ _. B.has_begun recorder.old recorder.new)
+) -> (Result<(), BrokerFault>, OnceToken<'a, Option<B::Begun>>)
+    ensures token { result.1.of ≡ serves.now.id }
+    ensures serve { IfOk result.0 (λ _. is_some result.1.value ≡ true) }
+    ensures left { IfErr result.0 (λ fault. fault ≡ NotGathered → result.1.value ≡ None) }
+    ensures recorder { MatchResult result.0 (λ _. B.has_begun recorder.old recorder.new)
         (EndsRecorded B.has_begun B.has_failed recorder.old recorder.new) }
 {
-    match recorder.begin() {
-        // Nobody else sets it, so the fault does not happen.
-        Ok(()) => serves.set(rt, true).map_err(|_| BrokerFault::NotGathered),
-        Err(_) => {
-            let _ = serves.set(rt, false);
-            Err(BrokerFault::WriteHistory)
-        }
-    }
+    let Ok(begun) = recorder.begin() else {
+        let token = serves.init(rt, || None);
+        return (Err(BrokerFault::WriteHistory), token);
+    };
+    let token = serves.init(rt, move || Some(begun));
+    // Nobody else decides, so that they do serve.
+    let served = if serves.value(&token).is_some() {
+        Ok(())
+    } else {
+        Err(BrokerFault::NotGathered)
+    };
+    (served, token)
 }

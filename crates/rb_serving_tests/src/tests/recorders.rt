@@ -24,6 +24,8 @@ struct Counting<'a> {
 }
 
 impl<'a> Recorder for Counting<'a> {
+    type Begun = ();
+
     ghost has_begun = { λ old new. Unit {0} };
 
     ghost has_failed = { λ old new. Unit {0} };

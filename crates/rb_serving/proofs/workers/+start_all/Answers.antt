@@ -1,5 +1,6 @@
 -- The last worker that ends is folded in behind the others, and its visits are counted with theirs.
-use Rattle.std.proofs.Common.{rules, ◌≡◌, ◌<◌, ◌+◌, ◌-◌, ◌++◌, ◌∷◌, [], sym, subst, arith, ◌∙◌}
+use Rattle.std.proofs.Common.{rules, ◌≡◌, ◌<◌, ◌+◌, ◌-◌, ◌++◌, ◌∷◌, [], sym, subst, ap, arith, ◌∙◌}
+use Rattle.std.specs.Prelude.{is_some}
 use Rattle.rb_lock.specs.Passes.{PassState}
 use Rattle.std.proofs.lemmas.Bool.Decides.{nat_tests}
 use Rattle.rb_serving.specs.Serving.{FoldsWorkers, IsWorkerResult}
@@ -23,11 +24,11 @@ returns-clause-folds g t c =
     let rest = c.in-Ok-others.folded in
     let others = of_ok _ c.in-Ok-others.folded _ c.in-Ok-others.is c.start_all-door.ensures.folds in
     let serve = of_ok _ c.in-Ok-others.folded _ c.in-Ok-others.is c.start_all-door.ensures.serve in
-    let kept = c.join-done.ensures.2 (sym c.agrees.ensures ∙ serve) in
+    let kept = c.join-done.ensures.2 (ap is_some (sym c.agrees.ensures) ∙ serve) in
     let as_promised = subst (λ promise. IsWorkerResult (terms promise.service.now) promise.start.value.capacity
     promise.start.value.opening kept.0 done.0 done.1) c.in-Ok-spawn_with.ensures.ok kept.2 in
     let worked = subst (λ (start : PassState). IsWorkerResult of start.capacity start.opening kept.0 done.0 done.1)
-    (c.of-start.ensures ∙ c.in-Ok-split.ensures.child) as_promised in
+    (c.of-start.ensures ∙ c.in-Ok.ensures.child) as_promised in
     record {
       logs = others.logs ++ kept.0 ∷ [];
       gathers = gathers_more of g.D.Door.has_joined g.D.Door.has_seen c.args.door c.split-entrance.new.self
@@ -36,7 +37,7 @@ returns-clause-folds g t c =
       folds = subst (FoldsWorkers of c.args.count (others.logs ++ kept.0 ∷ []) c.args.pass c.fold.new.pass)
           (sym c.with.ensures)
           (folds_one_more of c.args.count others.logs kept.0 c.args.pass c.split.new.pass rest.0 done.0 c.fold.new.pass
-          done.1 rest.1 some c.in-Ok-split.ensures.learns c.in-Ok-split.ensures.mine others.folds worked c.fold.ensures);
+          done.1 rest.1 some c.in-Ok.ensures.learns c.in-Ok.ensures.mine others.folds worked c.fold.ensures);
     }
 
 pub split-entrance-requires : goal.split-entrance-requires
