@@ -14,6 +14,7 @@ use Rattle.rb_session.specs.declared.ended.Ended.{Ended}
 use Rattle.rb_session.specs.declared.session_fault.SessionFault.{SessionFault}
 use Rattle.rb_session.specs.declared.session_fault.SessionFault.TheVariants.{Memory}
 use Rattle.rb_ending.specs.BrokerFault.{fault_of_session, fault_of_history}
+use Rattle.rb_history.specs.declared.history_fault.HistoryFault.TheVariants.{Write}
 use Rattle.rb_ending.specs.Recording.{RecordsRun}
 use Rattle.rb_ending.specs.declared.broker_fault.BrokerFault.{BrokerFault}
 use Rattle.rb_runs.specs.declared.recording.Recording.{Recording}
@@ -65,7 +66,7 @@ abbrev pub device_of : {H : Type 0} → (H → Option (List ℕ)) → Option H �
 device_of contents before after = record { contents = contents; before = before; after = after }
 
 -- What became of the history: there is no device for it; or the session found no memory and was not begun, and
--- the device is as it was; or the text was written to the device, whole or not.
+-- the device is as it was; or the text was written to the device, whole or not. Writing it takes no memory.
 abbrev pub IsRecording : {H : Type 0} → (H → Option (List ℕ)) → Log → Result Ended SessionFault → Recording
     → Option H → Option H → Type 0
 IsRecording contents log session NotAsked device left = (device ≡ None) × (left ≡ None)
@@ -73,7 +74,7 @@ IsRecording contents log session NotBegun device left = IsSome device × (sessio
 IsRecording contents log session Written device left =
     IsSome device × (session ≢ Err Memory) × RecordsRun contents log (Ok tt) device left
 IsRecording contents log session (Failed fault) device left =
-    (session ≢ Err Memory) × RecordsRun contents log (Err fault) device left
+    (session ≢ Err Memory) × (fault ≡ Write) × RecordsRun contents log (Err fault) device left
 
 -- The session was such a one, and this became of the history of the log that it led to.
 pub record RanScript {H : Type 0} (terms : ScriptTerms) (Over : Type 0) (came sent : List ℕ) (report : ScriptReport)
