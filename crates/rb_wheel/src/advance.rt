@@ -7,7 +7,8 @@ use crate::lists::Lists;
 use crate::marks::Marks;
 
 /// Moves the base up to `now`, or to the least expiry if that is earlier, and spreads the cell that the
-/// base has entered over lower levels. Their cells begin as not walked over.
+/// base has entered over lower levels. That cell then holds nothing, so it waits no longer, and is not
+/// walked over.
 pub(crate) fn advance(
     lists: &mut Lists,
     waiting: &mut Marks,
@@ -33,6 +34,7 @@ pub(crate) fn advance(
     *base = next;
     if cell >= DIGITS && lists.first_in(cell).is_some() {
         lists.spread(waiting, next, cell);
+        waiting.remove(cell);
         walked.remove(cell);
     }
 }

@@ -8,8 +8,8 @@ use crate::lists::Lists;
 use crate::marks::Marks;
 use rb_timer::Timer;
 
-/// Takes the entry at a slot out of a timer, if it has one there. A timer with no entry is not searched, since
-/// what it has at the slot lies far from what the caller touches.
+/// Takes the entry at a slot out of a timer, if it has one there. An empty timer is not asked, since what
+/// it has at a slot is seldom in the cache.
 pub(crate) fn take_out<E: Timer>(early: &mut E, slot: usize)
     ensures here { map.get (E.content early.new) slot ≡ None }
     ensures others { IsSameElsewhere slot (E.content early.old) (E.content early.new) }
