@@ -23,3 +23,4 @@ pub mod EachOnce
 pub mod Accounts
 pub mod RunAccounts
 pub mod Continued
+pub mod NextRuns

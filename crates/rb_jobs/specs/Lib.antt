@@ -18,3 +18,4 @@ pub mod RunJobs
 pub mod QueueSums
 pub mod JobSums
 pub mod Continued
+pub mod NextRuns

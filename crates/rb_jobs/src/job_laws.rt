@@ -1,5 +1,6 @@
 ghost use Rattle.rb_jobs.specs.Places.{JobsAreKept};
 ghost use Rattle.rb_jobs.specs.Continued.{JobsAreAccepted, JobsGoOn, NoneAreJobs};
+ghost use Rattle.rb_jobs.specs.NextRuns.{ScriptHandsJobsOn, ServerHandsJobsOn};
 ghost use Rattle.rb_jobs.specs.JobSums.{ScriptAccounts, ServerAccounts};
 ghost use Rattle.rb_jobs.specs.RunJobs.{LinesKeepJobs, ScriptKeepsJobs, ServerKeepsJobs};
 ghost use Rattle.rb_jobs.specs.SessionHands.{HandlesLines, HandlesClosing, HandlesRun};
@@ -66,4 +67,17 @@ pub fn jobs_go_on()
     ensures accepted { JobsAreAccepted }
     ensures empty { NoneAreJobs }
     ensures next { JobsGoOn }
+{}
+
+/// From one run to the next: if the history of a script that began with one element of each job was written whole,
+/// then each opening that `opening_in` of `rb_runs` makes of what its device got has one element of each of the jobs
+/// that were left, and of no others.
+pub fn script_hands_jobs_on<W: Write>()
+    ensures { ScriptHandsJobsOn W.contents }
+{}
+
+/// The same of a server, over all its sessions.
+pub fn server_hands_jobs_on<T: Timer, D: Door, C: Clock>()
+    ensures { (clock : C) (policy : Policy) (delivery : Delivery) → ServerHandsJobsOn
+        (terms_of D.Reader.Read D.Writer.Write D.Gate.Gate C.Clock clock policy delivery) T }
 {}

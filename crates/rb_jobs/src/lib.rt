@@ -14,6 +14,6 @@ pub use history_laws::{
     history_of_script, history_of_server, history_of_session,
 };
 pub use job_laws::{
-    hands_of_session, jobs_are_kept, jobs_go_on, script_accounts, script_keeps_jobs,
-    server_accounts, server_keeps_jobs,
+    hands_of_session, jobs_are_kept, jobs_go_on, script_accounts, script_hands_jobs_on,
+    script_keeps_jobs, server_accounts, server_hands_jobs_on, server_keeps_jobs,
 };
