@@ -98,6 +98,29 @@ found_within (first ∷ held) ended id = by_test (nat_eq id first.id) refl (foun
         ∙ ap (option_map suc) later
         ∙ sym (place_later (λ (e : Element). eqb e.id id) first held (same_test id first.id false is))
 
+-- an id is found among the entries of jobs where its job is held
+pub same_place : (held : List Element) (id : ℕ) → position (nat_eq id) (keys_of (filed held)) ≡ place_of held id
+same_place [] id = refl
+same_place (first ∷ held) id = by_test (nat_eq id first.id) refl (same_place held id)
+  where
+    by_test : (here : Bool) → nat_eq id first.id ≡ here
+        → position (nat_eq id) (keys_of (filed held)) ≡ place_of held id
+        → position (nat_eq id) (first.id ∷ keys_of (filed held)) ≡ place_of (first ∷ held) id
+    by_test true is later =
+        place_here (nat_eq id) first.id (keys_of (filed held)) is
+        ∙ sym (place_here (λ (e : Element). eqb e.id id) first held (same_test id first.id true is))
+    by_test false is later =
+        place_later (nat_eq id) first.id (keys_of (filed held)) is ∙ ap (option_map suc) later
+        ∙ sym (place_later (λ (e : Element). eqb e.id id) first held (same_test id first.id false is))
+
+-- the id of the first entry is found there
+pub found_first : (entries : List Entry) (first : Entry) (id : ℕ) → slice_get entries 0 ≡ Some first → first.0 ≡ id
+    → position (nat_eq id) (keys_of entries) ≡ Some 0
+found_first [] first id there same = absurd (none-some first there)
+found_first (entry ∷ entries) first id there same =
+    place_here (nat_eq id) entry.0 (keys_of entries)
+    (eq-eqb id entry.0 (sym same ∙ ap (λ (e : Entry). e.0) (sym (same_Some entry first there))))
+
 -- where an id is not held, removing its entry removes none of a job's
 pub removes_ended : (held : List Element) (ended : List Entry) (id : ℕ) → place_of held id ≡ None
     → remove_entry (nat_eq id) (filed held ++ ended) ≡ filed held ++ remove_entry (nat_eq id) ended
@@ -277,7 +300,7 @@ filled (first ∷ entries) (suc at) value inside =
 
 -- an entry that is pushed
 pub pushed : (entries : List Entry) (last : Entry)
-    → (slice_get (entries ++ last ∷ []) (length entries) ≡ Some last)
+    → (get_or (keys_of (entries ++ last ∷ [])) (length entries) 0 ≡ last.0)
     × (remove (entries ++ last ∷ []) (length entries) ≡ entries)
 pushed [] last = (refl, refl)
 pushed (first ∷ entries) last = let more = pushed entries last in (more.0, ap (λ (es : List Entry). first ∷ es) more.1)

@@ -3,7 +3,7 @@ ghost use Rattle.rb_delayed.specs.declared.element.Element.{Element};
 ghost use Rattle.rb_session.specs.Held.{place_of, AreGiven};
 ghost use Rattle.rb_session.specs.JobMap.{present};
 
-use crate::job_map::{put, put_all, take};
+use crate::job_map::{find, put, put_all, take};
 use indexmap::IndexMap;
 use indexmap::map::IntoValues;
 use rb_queue::{Ask, Reply};
@@ -84,7 +84,7 @@ impl HeldJobs {
     pub(crate) fn place_of(&self, id: u64) -> Option<usize>
         ensures { result ≡ place_of self.now id }
     {
-        match self.jobs.get_index_of(&id) {
+        match find(&self.jobs, id) {
             Some(place) if place < self.count => Some(place),
             _ => None,
         }

@@ -1,6 +1,6 @@
-ghost use Rattle.std.specs.Prelude.{◌≡◌, ◌+◌, ◌-◌, ◌<◌, ◌≤◌, ◌∷◌, ◌++◌, [], None, Some, length, take, insert, remove, slice_get, nat_eq, vec_len, vec_capacity};
+ghost use Rattle.std.specs.Prelude.{◌≡◌, ◌+◌, ◌-◌, ◌<◌, ◌≤◌, ◌∷◌, ◌++◌, [], None, Some, length, take, insert, remove, get_or, slice_get, nat_eq, vec_len, vec_capacity};
 ghost use Rattle.std.specs.Map.{remove_entry};
-ghost use Rattle.indexmap.specs.IndexMap.{index_map_len, move_index, spare, IsUnique};
+ghost use Rattle.indexmap.specs.IndexMap.{index_map_len, index_of, keys, move_index, spare, IsUnique};
 ghost use Rattle.rb_session.specs.Held.{place_of, AreNew};
 ghost use Rattle.rb_session.specs.JobMap.{filed, held_in, AreFiled};
 ghost use Rattle.rb_session.specs.declared.held_jobs.TheConstants.{MOST_HELD, MOST_ENTRIES};
@@ -18,7 +18,7 @@ pub(crate) fn put(jobs: &mut IndexMap<u64, Option<Job>>, count: usize, place: us
     ensures filed { AreFiled jobs.new (count + 1) }
     ensures held { held_in jobs.new.entries (count + 1) ≡ insert (held_in jobs.old.entries count) place job }
 {
-    let at = file(jobs, job);
+    let at = file(jobs, count, job);
     move_entry(jobs, at, place);
 }
 
@@ -64,6 +64,17 @@ pub(crate) fn take(jobs: &mut IndexMap<u64, Option<Job>>, count: usize, place: u
     job
 }
 
+/// The index of the entry of this id. That of the first is found with no lookup.
+#[inline(always)]
+pub(crate) fn find(jobs: &IndexMap<u64, Option<Job>>, id: u64) -> Option<usize>
+    ensures { result ≡ index_of nat_eq jobs.now id }
+{
+    match jobs.first() {
+        Some((first, _)) if *first == id => Some(0),
+        _ => jobs.get_index_of(&id),
+    }
+}
+
 // Moves an entry, and shifts those in between by one. Most are in their place already.
 #[inline(always)]
 fn move_entry(jobs: &mut IndexMap<u64, Option<Job>>, from: usize, to: usize)
@@ -95,24 +106,52 @@ fn drop_ended(jobs: &mut IndexMap<u64, Option<Job>>, count: usize)
 }
 
 // Files a job under its id, and returns its index. The other entries keep their order.
-fn file(jobs: &mut IndexMap<u64, Option<Job>>, job: Job) -> usize
-    requires { 0 < spare jobs.old }
+#[inline(always)]
+fn file(jobs: &mut IndexMap<u64, Option<Job>>, count: usize, job: Job) -> usize
+    requires filed { AreFiled jobs.old count }
+    requires new { place_of (held_in jobs.old.entries count) job.id ≡ None }
+    requires room { 0 < spare jobs.old }
     ensures there { slice_get jobs.new.entries result ≡ Some (job.id, Some job) }
     ensures others { remove jobs.new.entries result ≡ remove_entry (nat_eq job.id) jobs.old.entries }
     ensures len { index_map_len jobs.new ≤ index_map_len jobs.old + 1 }
     ensures room { index_map_len jobs.old + spare jobs.old ≤ index_map_len jobs.new + spare jobs.new }
 {
-    let id = job.element().id;
-    match jobs.get_index_of(&id) {
-        // A job of this id had ended. Its entry is used again.
-        Some(at) => {
-            jobs[at] = Some(job);
-            at
-        }
+    let at = entry_for(jobs, count, job.element().id);
+    jobs[at] = Some(job);
+    at
+}
+
+// The index of the entry for an id, which is empty. That of a job that ended is used again.
+#[inline(always)]
+fn entry_for(jobs: &mut IndexMap<u64, Option<Job>>, count: usize, id: u64) -> usize
+    requires filed { AreFiled jobs.old count }
+    requires new { place_of (held_in jobs.old.entries count) id ≡ None }
+    requires room { 0 < spare jobs.old }
+    ensures within { result < index_map_len jobs.new }
+    ensures key { get_or (keys jobs.new) result 0 ≡ id }
+    ensures others { remove jobs.new.entries result ≡ remove_entry (nat_eq id) jobs.old.entries }
+    ensures len { index_map_len jobs.new ≤ index_map_len jobs.old + 1 }
+    ensures room { index_map_len jobs.old + spare jobs.old ≤ index_map_len jobs.new + spare jobs.new }
+{
+    match index_of_ended(jobs, count, id) {
+        Some(at) => at,
         None => {
             let at = jobs.len();
-            jobs.insert(id, Some(job)).unwrap();
+            jobs.insert(id, None).unwrap();
             at
         }
     }
+}
+
+// The index of the entry of this id, if it was of a job that ended. If no job had ended, there is nothing to look up.
+#[inline(always)]
+fn index_of_ended(jobs: &IndexMap<u64, Option<Job>>, count: usize, id: u64) -> Option<usize>
+    requires filed { AreFiled jobs.now count }
+    requires new { place_of (held_in jobs.now.entries count) id ≡ None }
+    ensures { result ≡ index_of nat_eq jobs.now id }
+{
+    if jobs.len() <= count {
+        return None;
+    }
+    jobs.get_index_of(&id)
 }
