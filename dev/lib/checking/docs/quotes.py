@@ -13,7 +13,7 @@ from defining.items import Item, dedented
 from defining.tree import SourceFile, Tree
 
 PAGE = "docs/HEADLINE.md"
-MOST_WORDS = 5_000
+MOST_WORDS = 6_200
 FILE = re.compile(r"\]\(\.\./(crates/[\w/]+\.(?:rt|antt))\)")
 LINK = re.compile(r"\[`([\w:]+)`" + FILE.pattern)
 CODE = re.compile(r"`([^`\n]+)`")
