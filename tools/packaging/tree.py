@@ -28,7 +28,7 @@ FOR_READERS = (
 
 # The tools that become commands, each with the folder of its modules, and what several of them import.
 COMMANDS = {"service": "servicing", "report": "reporting", "verify": "verifying", "load": "loading"}
-SHARED = ("common", "histories")
+SHARED = ("common", "histories", "watching")
 
 # The packages for Python, below this repository's folder.
 PACKAGES = ("clients/python/src/rb_broker_client", "redis/src/rb_broker_redis")

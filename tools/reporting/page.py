@@ -10,13 +10,13 @@ from typing import Iterable, Sequence
 
 from reporting.figures import Figures
 from reporting.findings import Finding
-from reporting.head import head
 from reporting.jobs import lives
 from reporting.plots import Plot, plots_of
 from reporting.report_tables import LIFE, head_of, life_rows, tables_of
 from reporting.svg import HEIGHT
-from reporting.tables import Table, grid
-from reporting.units import counted, number
+from watching.head import STYLE, head
+from watching.tables import Table, grid
+from watching.units import counted, number
 
 # A page has the lives of jobs of about this many elements, which are 3 MB.
 MOST_ELEMENTS = 20_000
@@ -24,10 +24,9 @@ MOST_ELEMENTS = 20_000
 
 def page(figures: Figures) -> str:
     """The page."""
-    style, body, *scripts = (Path(__file__).with_name(it).read_text("utf-8")
-                             for it in ("page.css", "page.html", "readings.js", "page.js"))
+    body, *scripts = (Path(__file__).with_name(it).read_text("utf-8") for it in ("page.html", "readings.js", "page.js"))
     script, chosen, plots = '"use strict";\n' + "".join(scripts), chosen_jobs(figures), plots_of(figures)
-    return head(f"{os.path.basename(figures.name)}: report", style, script) + Template(body).substitute(
+    return head(f"{os.path.basename(figures.name)}: report", STYLE, script) + Template(body).substitute(
         name=escape(figures.name), lines="".join(f"<p>{escape(it)}</p>" for it in head_of(figures)),
         findings=f"<ul>{''.join(map(_finding, figures.findings))}</ul>" if figures.findings else "<p>Nothing.</p>",
         plots="".join(map(_plot, plots)), tables="".join(map(_table, tables_of(figures))),

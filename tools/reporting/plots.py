@@ -8,7 +8,7 @@ from reporting.depth import Depth
 from reporting.figures import Figures
 from reporting.lateness import rank
 from reporting.time_axis import DATE_STEPS, TimeAxis
-from reporting.units import counted, mark, number, span
+from watching.units import counted, mark, number, span
 
 
 class Plot(NamedTuple):

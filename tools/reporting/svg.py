@@ -2,7 +2,7 @@
 
 A drawing is as wide as the page lets it be. Heights are pixels. Places from the left are shares of the width, out of
 SHARES: as the units of `marks`, which are stretched, and as percentages elsewhere, so that words keep their size. The
-labels of the upright axis stand at the left of the drawing, where page.css leaves room for them. On a narrow page it
+labels of the upright axis stand at the left of the drawing, where style.css leaves room for them. On a narrow page it
 hides every second label at the bottom.
 """
 import itertools
@@ -10,9 +10,9 @@ from html import escape
 from typing import Callable, Iterable, NamedTuple, Sequence
 
 HEIGHT, TOP, BOTTOM = 270, 28, 222
-LEFT = 72  # the room for labels at the left, as in page.css
+LEFT = 72  # the room for labels at the left, as in style.css
 SHARES = 1000
-MOST_STEPS = 5  # so that words fit on a page for which page.css shows them all
+MOST_STEPS = 5  # so that words fit on a page for which style.css shows them all
 COUNT_STEPS = tuple(factor * 10**power for power in range(20) for factor in (1, 2, 5))
 
 

@@ -16,7 +16,7 @@
     state.py         all that the service knows and shows at one moment; `Board` holds the latest
     metrics.py       the numbers of a state, also as Prometheus reads them
     shown.py         a state as texts, for the page, --status and systemd
-    page.py, page.css, page.js               the page
+    page.py          the page
     site.py, http.py the site, with reports: always at the socket FOLDER/status, and at an address if --http names one
     unix.py          sockets that only the owner of the folder may use
 """

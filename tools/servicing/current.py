@@ -4,18 +4,18 @@ from __future__ import annotations
 import time
 from typing import Callable
 
-from reporting.units import SECOND
 from servicing.clock import elapsed, read_clock
 from servicing.crowd import Crowd
 from servicing.deciding import Seen, crowd_of, is_to_crowd, is_to_prepare, sessions_to_use_up, why_to_end
 from servicing.looking import Looks, silent_ports
-from servicing.metrics import span_of
 from servicing.parts import LeftBehind, Parts
 from servicing.saying import notify, say
 from servicing.server import Server
 from servicing.sockets import Connection, Unwatchable
 from servicing.state import Phase, Reason, Run
 from servicing.visits import Visits
+from watching.metrics import span_of
+from watching.units import SECOND
 
 LOOK, LAST_LOOK = 1.0, 0.1  # seconds between two looks, and while the run ends
 BEGINNING = 5.0  # seconds of a run in which clients that outnumbered the workers of the one before come back

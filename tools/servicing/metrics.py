@@ -1,13 +1,10 @@
 """The numbers of a state: in a table for people, and as Prometheus reads them. What is not known is left out. Counters
 rise as long as the service lasts, whatever becomes of its runs; what is counted of one run is a gauge."""
-import time
 from typing import Any, Iterator
 
-from reporting.units import SECOND, number, span
 from servicing.sockets import SILENT_FROM
 from servicing.state import State
-
-PACE = "_a_second"  # a number of the table alone: Prometheus makes paces of counters
+from watching.metrics import Number, metric, metrics_of
 
 # The name of each number, which attribute of the state it is, and what it means.
 NUMBERS: tuple[tuple[str, str, str], ...] = (
@@ -48,7 +45,7 @@ NUMBERS: tuple[tuple[str, str, str], ...] = (
 )
 
 
-def numbers(state: State) -> Iterator[tuple[str, str, Any]]:
+def numbers(state: State) -> Iterator[Number]:
     """The name, the meaning and the value of each number that is known."""
     for name, path, meaning in NUMBERS:
         value: Any = state
@@ -58,39 +55,9 @@ def numbers(state: State) -> Iterator[tuple[str, str, Any]]:
             yield name, meaning, round(value, 3) if isinstance(value, float) else value
 
 
-def date(at: float) -> str:
-    return time.strftime("%Y-%m-%d %H:%M:%S", time.gmtime(at))
-
-
-def span_of(seconds: float) -> str:
-    return ("-" if seconds < 0 else "") + span(int(abs(seconds) * SECOND))
-
-
-def told(name: str, value: float) -> str:
-    """A number as people read it."""
-    if name.endswith("_time_seconds"):
-        return date(value)
-    if name.endswith("_seconds"):
-        return span_of(value)
-    return f"{value:,.2f}" if name.endswith(PACE) else number(int(value))
-
-
 def metrics(state: State) -> str:
     """The text of all metrics."""
     port = f'port="{state.port}"'
     run = {f'{port},run="{state.run_id}"': 1} if state.run else {}
-    named = {f'{port},name="{it}"': 1 for it in sorted({it.name for it in state.alerts})}
-    return "".join((
-        _metric("up", "Whether a server serves clients", {port: int(state.is_up)}),
-        _metric("healthy", "Whether /health says 200", {port: int(state.is_healthy)}),
-        _metric("alert", "An alert, by its name, for as long as it lasts", named),
-        _metric("run_info", "The run, whose id no other run has", run),
-        *(_metric(name, meaning, {port: value}) for name, meaning, value in numbers(state)
-          if not name.endswith(PACE))))
-
-
-def _metric(name: str, meaning: str, values: dict[str, Any]) -> str:
-    """The lines of a metric, whose values are told apart by their labels."""
-    kind = "counter" if name.endswith("_total") else "gauge"
-    lines = "".join(f"rb_broker_{name}{{{labels}}} {value!r}\n" for labels, value in values.items())
-    return f"# HELP rb_broker_{name} {meaning}.\n# TYPE rb_broker_{name} {kind}\n{lines}" if lines else ""
+    told = metrics_of(port, state.is_up, state.is_healthy, (it.name for it in state.alerts), numbers(state))
+    return told + metric("run_info", "The run, whose id no other run has", run)

@@ -4,7 +4,6 @@ import time
 from dataclasses import dataclass
 from typing import Callable, TypeVar
 
-from reporting.units import SECOND
 from servicing.folder import Folder
 from servicing.keeping import Keeping
 from servicing.runs import Runs
@@ -12,6 +11,7 @@ from servicing.settings import Settings
 from servicing.showing import Showing
 from servicing.saying import Signals
 from servicing.state import DISK
+from watching.units import SECOND
 
 AGAIN = 1.0  # seconds until something that failed is tried again
 

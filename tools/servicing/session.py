@@ -4,11 +4,11 @@ import socket
 import time
 from dataclasses import dataclass
 
-from reporting.units import SECOND
 from servicing.clock import up_time
 from servicing.opening import PROBE, PROBE_DELAY
 from servicing.sockets import HOST
 from servicing.state import Queue
+from watching.units import SECOND
 
 PATIENCE = 0.5  # seconds that a look waits for a worker
 REPLY = 2.0  # seconds that it waits for a reply of one

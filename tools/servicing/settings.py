@@ -10,8 +10,8 @@ from typing import Any, Callable
 
 from common.program import program_named
 from common.words import number, parser_of
-from reporting.units import SECOND
 from servicing.keeper import HISTORY, OPENING
+from watching.units import SECOND
 
 TURN = 20_000_000  # nanoseconds that a turn of a wait lasts while nothing happens
 UNITS = {"ns": 1, "us": 1_000, "ms": 1_000_000, "s": SECOND, "m": 60 * SECOND, "h": 3600 * SECOND, "d": 86_400 * SECOND}

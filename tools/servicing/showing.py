@@ -5,14 +5,14 @@ from dataclasses import replace
 from typing import Iterator, Sequence
 
 from histories.grammar import MOST_OPENING_ELEMENTS
-from reporting.units import counted
 from servicing.looking import Looks
-from servicing.metrics import span_of
 from servicing.runs import Runs
 from servicing.saying import notify, say
 from servicing.settings import Settings
 from servicing.shown import headline
 from servicing.state import LOST_JOBS, LOST_RUN, Alert, Board, Phase, Reason, Run, Traffic
+from watching.metrics import span_of
+from watching.units import counted
 
 MANY_ELEMENTS = 900_000
 DAY = 86_400

@@ -2,11 +2,12 @@
 out, and have nothing else to say. Dates are in UTC, as those of reports and of the lines on standard error."""
 from typing import Iterator
 
-from reporting.tables import Table
-from reporting.units import counted, number
-from servicing.metrics import date, numbers, span_of, told
+from servicing.metrics import numbers
 from servicing.sockets import Connection
 from servicing.state import Reason, Run, State
+from watching.metrics import date, span_of, told
+from watching.tables import Table
+from watching.units import counted, number
 
 MOST_CLIENTS, MOST_RUNS, MOST_HELD_BY = 32, 100, 2  # that are told one by one; and of those who held up one run
 LATE = 1.0  # seconds from which on lateness is told

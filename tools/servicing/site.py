@@ -19,13 +19,14 @@ from http import HTTPStatus
 from pathlib import Path
 
 from servicing.folder import Unusable
-from servicing.http import Answer, HttpServer, is_loopback
+from servicing.http import OwnerServer
 from servicing.metrics import metrics
 from servicing.page import page
 from servicing.saying import say
 from servicing.shown import text
 from servicing.state import Board, Run
 from servicing.unix import short_name
+from watching.http import Answer, HttpServer, is_loopback
 
 SOCKET = "status"  # in the folder
 ACKNOWLEDGE = "/acknowledge"  # asked for there, it ends the alerts of what is lost
@@ -51,7 +52,7 @@ def serve_pages(board: Board, folder: str, http: tuple[str, int] | None) -> None
                 "page shows, and payloads in reports, without a password or encryption; nothing can be changed by it")
     path = os.path.join(folder, SOCKET)
     try:
-        HttpServer(path, answer, {ACKNOWLEDGE: functools.partial(setattr, board, "is_acknowledged", True)})
+        OwnerServer(path, answer, {ACKNOWLEDGE: functools.partial(setattr, board, "is_acknowledged", True)})
     except OSError as fault:
         say("warning", "pages", text=f"{path}: {fault.strerror}: --status does not work")
 

@@ -1,8 +1,8 @@
 """What is wrong with a run."""
 import collections
 
-from reporting.units import counted
 from verifying.record import Exchange
+from watching.units import counted
 
 # The kinds of faults, each with the sentence that it breaks.
 KINDS: dict[str, str] = {

@@ -2,7 +2,6 @@
 from collections import Counter
 from typing import Iterable, Sequence
 
-from reporting.units import counted
 from verifying.account import Rules, Strange
 from verifying.calls import NEVER, Calls
 from verifying.endings import follow_ends
@@ -13,6 +12,7 @@ from verifying.loose import place_loose
 from verifying.placing import place_named
 from verifying.record import Exchange
 from verifying.shards import parts_of
+from watching.units import counted
 
 Exchanges = Iterable[tuple[str, Exchange]]
 

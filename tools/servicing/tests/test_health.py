@@ -3,7 +3,6 @@ import time
 import unittest
 from unittest import mock
 
-from reporting.units import SECOND
 from servicing import state as served
 from servicing.looking import Looks
 from servicing.settings import parser, settings_of
@@ -11,6 +10,7 @@ from servicing.showing import Showing
 from servicing.sockets import Connection
 from servicing.state import Board, Phase, Queue
 from servicing.tests.support import connection, record, state
+from watching.units import SECOND
 
 
 class HealthTest(unittest.TestCase):

@@ -9,8 +9,8 @@ from concurrent.futures import ThreadPoolExecutor
 from http import HTTPStatus
 from unittest import mock
 
-from servicing import http as served
-from servicing.http import Answer, HttpServer
+from watching import http as served
+from watching.http import Answer, HttpServer
 
 LONG = "x" * 8_000_000  # more than a connection holds by itself
 PATIENCE = 10.0
@@ -75,6 +75,28 @@ class HttpTest(unittest.TestCase):
             self.assertEqual(head[:12], b"HTTP/1.0 %d" % status, sent[:80])
             self.assertIn(b"\r\nX-Content-Type-Options: nosniff", head)
             self.assertEqual(b"page" in body, status == OK and not sent.startswith(b"HEAD"), sent[:80])
+
+    def test_what_is_posted(self) -> None:
+        """It is done where something may be, for those alone that ask by a name of the server, and with few words."""
+        did: list[bytes] = []
+
+        def posted(path: str, body: bytes) -> Answer | None:
+            did.append(body)
+            return Answer(HTTPStatus.SEE_OTHER, text="/") if path == "/do" else None
+
+        self.server.posted = posted
+        for head, body, status in (
+            (b"/do HTTP/1.1\r\nContent-Length: 3", b"a=b", 303), (b"/do HTTP/1.1", b"", 303),
+            (b"/do HTTP/1.1\r\nHost: evil.example\r\nContent-Length: 3", b"a=b", FOREIGN),
+            (b"/do HTTP/1.1\r\nContent-Length: 1001", b"a" * 1001, 413),
+            (b"/do HTTP/1.1\r\nContent-Length: -1", b"", 413), (b"/other HTTP/1.1\r\nContent-Length: 1", b"a", 501),
+        ):
+            connection = self.connect()
+            connection.sendall(b"POST %s\r\n\r\n%s" % (head, body))
+            told = all_of(connection)
+            self.assertEqual(told[:12], b"HTTP/1.0 %d" % status, head)
+            self.assertEqual(b"\r\nLocation: /\r\n" in told, status == 303)
+        self.assertEqual(did, [b"a=b", b"", b"a"])
 
     def test_a_fault_of_a_page(self) -> None:
         with contextlib.redirect_stderr(io.StringIO()) as said, self.assertRaises(ConnectionError):

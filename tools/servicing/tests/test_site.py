@@ -15,7 +15,6 @@ from histories.tests.support import RUN
 from servicing import site
 from servicing import state as served
 from servicing.folder import Unusable
-from servicing.http import Answer
 from servicing.metrics import metrics
 from servicing.page import page
 from servicing.shown import text
@@ -23,6 +22,7 @@ from servicing.site import answer_of, print_status, serve_pages
 from servicing.state import Board, Phase
 from servicing.tests.support import ENDED, FULL_DISK, HELD, LOST, connection, first_state, state, troubled_state
 from servicing.unix import short_name
+from watching.http import Answer
 
 
 class PathsTest(RoomTest):

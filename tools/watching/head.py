@@ -3,16 +3,20 @@ that script's hash, and load nothing."""
 import base64
 import hashlib
 from html import escape
+from pathlib import Path
+
+STYLE = Path(__file__).with_name("style.css").read_text("utf-8")  # of all pages
 
 
 def _hash(text: str) -> str:
     return "'sha256-" + base64.b64encode(hashlib.sha256(text.encode()).digest()).decode() + "'"
 
 
-def head(title: str, style: str, script: str, allows: str = "") -> str:
-    """The page up to its body, which ends with this script. `allows` is what else the policy lets it do."""
+def head(title: str, style: str, script: str, allows: str = "", form_action: str = "'none'") -> str:
+    """The page up to its body, which ends with this script. `allows` is what else the policy lets it do, and
+    `form_action` where its forms may lead."""
     sources = f"style-src {_hash(style)}; script-src {_hash(script)}"
-    policy = f"default-src 'none'; {sources}; base-uri 'none'; form-action 'none'{allows}"
+    policy = f"default-src 'none'; {sources}; base-uri 'none'; form-action {form_action}{allows}"
     return (
         '<!DOCTYPE html>\n<html lang="en">\n<head>\n<meta charset="utf-8">\n'
         f'<meta http-equiv="Content-Security-Policy" content="{escape(policy)}">\n'
