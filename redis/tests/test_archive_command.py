@@ -165,6 +165,47 @@ class LargeTest(ArchiveCommandTest):
         self.assert_all_there()
 
 
+class EndTest(ArchiveCommandTest):
+    """What happens where the history has as many events as it may have."""
+
+    def ended(self, at_end: str) -> Queue:
+        queue = self.queue()
+        queue.call("rb_join", 60_000_000, "delay", f"{0:020}", 3, "", "token", f"100 {at_end}")
+        return queue
+
+    def test_the_oldest_go_and_the_opening_moves_on(self) -> None:
+        queue = self.ended("drop")
+        for number in range(130):
+            queue.make([f"{SEAT} OFFER {number} job-{number}", f"{SEAT} SIZE"])
+            count = queue.command("LLEN", queue.history)
+            self.assertLessEqual(count, 100)
+            cut, calls = map(int, queue.command("HMGET", queue.state, "cut", "calls"))
+            self.assertEqual(cut + count, calls)
+        self.assert_prints([f"{self.name}: the events before number {cut} went, since there were too many; {count} behind "
+                            "them are given up, and a new series begins with the queue as it is"], "archive", self.folder)
+        queue.make([f"{SEAT} POLL", f"{SEAT} DONE 0"])
+        self.assertEqual(self.ran("archive", self.folder)[0], 0)
+        self.assertEqual([it.name for it in self.files()], [f"{self.name}-{260:012}.txt"])
+        self.assertEqual(read_text(self.files()[0]).elements.keys(), {*range(1, 130)})
+        replay_chains(self.files()[0], 0, 3)
+
+    def test_an_archive_that_keeps_up_loses_none(self) -> None:
+        queue, events = self.ended("drop"), []
+        for _ in range(4):
+            events += self.make_events(queue, 60)
+            self.assertEqual(self.ran("archive", self.folder)[0], 0)
+        self.assert_archived(events)
+
+    def test_offers_are_refused_and_work_goes_out(self) -> None:
+        queue = self.ended("refuse")
+        replies = queue.make([f"{SEAT} OFFER 0 job"] * 101)
+        self.assertEqual((replies.count(b"ERR 7 memory\n"), replies[-1]), (1, b"ERR 7 memory\n"))
+        self.assertEqual([it.split()[0] for it in queue.make([f"{SEAT} POLL", f"{SEAT} FAIL 0"])], [b"ITEM", b"AGAIN"])
+        self.assertEqual(queue.request("OFFER 0 job", SEAT), "ERR 7 memory")
+        self.assertEqual(self.ran("archive", self.folder)[0], 0)
+        self.assertEqual(queue.request("OFFER 0 job", SEAT)[:8], "OFFERED ")
+
+
 class InHandTest(ArchiveCommandTest):
     def test_each_file_has_the_jobs_that_come_back_in_it(self) -> None:
         queue = self.joined()

@@ -29,7 +29,6 @@ class RequestsTest(GatewayTest):
         queue.call("rb_calls", f"{2**63:020}", "", "0 SIZE")  # an event that is still to come
         self.assert_talk(self.talker(), f"OFFERAT {2**63} a = OFFERED 0 {2**63}", f"POLL = ITEM 0 {2**63} 1 a")
 
-
     def test_polls_that_find_nothing_need_not_be_kept(self) -> None:
         served = self.gateway("--brief-history", "--wait", "60s")
         talker = self.talker(served)
@@ -41,6 +40,12 @@ class RequestsTest(GatewayTest):
         self.assertEqual(self.ran("archive", self.room / "archive")[0], 0)
         (path,) = (self.room / "archive").iterdir()
         self.assertEqual(replay_chains(path, 30_000_000_000, 20), 3)
+
+    def test_how_many_events_are_kept(self) -> None:
+        for options, most in (((), b"1000000 drop"), (("--history-events", 500, "--history-end", "refuse"), b"500 refuse"),
+                              ((), b"500 refuse"), (("--history-events", 0), None), ((), None)):
+            self.serve(*options).end()
+            self.assertEqual(self.node.ask("HGET", self.queue().state, "most"), most)
 
 
 class WaitsTest(GatewayTest):

@@ -18,11 +18,11 @@ class LeaseTest(RedisTest):
 
     def renew(self, queue: Queue, gateway: int, *late: bytes, token: str = TOKEN) -> list[bytes]:
         """Renews its lease. How many jobs are ended, and what is told of the others."""
-        ended, _, _, *others = queue.call("rb_renew", gateway, LEASE, token, *late)
+        ended, _, _, *others = queue.call("rb_renew", gateway, LEASE, token, 7, *late)
         return [ended, *others]
 
     def assert_over(self, queue: Queue, gateway: int) -> None:
-        for words in (("rb_calls", "", gateway, f"{gateway}000000001 SIZE"), ("rb_renew", gateway, LEASE, TOKEN)):
+        for words in (("rb_calls", "", gateway, f"{gateway}000000001 SIZE"), ("rb_renew", gateway, LEASE, TOKEN, 7)):
             with self.assertRaisesRegex(ResponseError, "^LEASE "):
                 queue.call(*words)
 
@@ -60,7 +60,7 @@ class LeaseTest(RedisTest):
         gateway = self.join(queue)
         self.assertEqual(queue.call("rb_leave", gateway), 1)
         self.assert_over(queue, gateway)
-        self.assertNotIn(f"lease:{gateway}".encode(), queue.command("HKEYS", queue.state))
+        self.assertFalse({b"lease:%d" % gateway, b"clients:%d" % gateway} & {*queue.command("HKEYS", queue.state)})
 
     def test_a_number_that_two_have_got_is_that_of_the_second(self) -> None:
         queue = self.queue()

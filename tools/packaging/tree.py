@@ -74,7 +74,12 @@ def lay_out_tools(top: Path, root: Path) -> None:
         copy(top / "tools" / name, root / TOOLS / name)
     for package in PACKAGES:
         copy(top / package, root / PYTHON / Path(package).name)
+    _link(root / TOOLS / "watching", root / PYTHON / "rb_broker_redis/watching")
     # Where tools look for the client package, so that they find it whatever python3 is the first on the path.
-    client = root / "usr/share/rb_broker" / PACKAGES[0]
-    client.parent.mkdir(parents=True)
-    client.symlink_to(os.path.relpath(root / PYTHON / "rb_broker_client", client.parent))
+    _link(root / PYTHON / "rb_broker_client", root / "usr/share/rb_broker" / PACKAGES[0])
+
+
+def _link(target: Path, path: Path) -> None:
+    """Lets a path be another one, wherever the tree is laid out."""
+    path.parent.mkdir(parents=True, exist_ok=True)
+    path.symlink_to(os.path.relpath(target, path.parent))

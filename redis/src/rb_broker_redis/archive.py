@@ -30,6 +30,7 @@ class Archive:
         Events stay in the Redis that a cut would part from the return of their job: see `cuts`.
         """
         yield from self._settle()
+        yield from self._move_on()
         position = self._source.position()
         end = position.first + position.waiting
         while position.first < end:
@@ -55,6 +56,14 @@ class Archive:
                     yield f"{name}: the Redis has lost events that were archived, from number {lost.first}: see {aside}"
                 return
             self._cut(file, self._source.position().first)
+
+    def _move_on(self) -> Iterator[str]:
+        """Begins anew where the oldest events went, since there were too many, and no file tells what they left."""
+        first = self._source.lost_opening()
+        if first is not None and all(it.end != first for it in self._folder.files(self._source.name)):
+            count = self._source.begin_anew()
+            yield (f"{self._source.name}: the events before number {first} went, since there were too many; "
+                   f"{count} behind them are given up, and a new series begins with the queue as it is")
 
     def _has(self, file: ArchivedFile, position: Position) -> bool:
         """Whether the Redis begins with the events of this file, or the last of them: they are taken out in pieces."""

@@ -1,4 +1,4 @@
-#!lua name=rb_broker_3
+#!lua name=rb_broker_4
 -- The broker's calls as functions of a Redis (7.0 or later). docs/PROTOCOL.md has the requests, docs/HISTORY.md the
 -- lines of events.
 --
@@ -28,6 +28,11 @@
 --   shards    how many queues there are under this name: 1, or those named NAME.0, NAME.1 and so on
 --   wake      an offer below this expiry is published: a gateway waits, and knows of none below it
 --   lease:GATEWAY  the microseconds of its lease, and the token with which it joined
+--   clients:GATEWAY  how many clients it served when it renewed that
+--   returned  how many jobs failed and came back        died  how many failed for the last time
+--   most      'N drop' or 'N refuse': how many events history may have, and whether the oldest go then, or offers are
+--             refused until an archive has taken some; there is no such end without it
+--   dropped   the number of the first event that has not gone so; the opening in front of it is not known
 --
 -- A moment is a string of 20 digits, so it is exact up to 2^64 - 1 and ordered as text. Lua's numbers are exact up to
 -- 2^53 only; sums are made of two halves of 10 digits. Moments are nanoseconds since 1970 by the node's TIME, and none
@@ -43,24 +48,26 @@
 -- rb_renew, which ends the sessions if the score is still the same. From then on no call is made in the name of the late
 -- gateway: it gets the error LEASE, and has to join anew. So nothing is given at a seat that has ended.
 --
--- Functions. ARGS are those after the keys. The name of each ends in the version of this library, as rb_calls_3 does,
+-- Functions. ARGS are those after the keys. The name of each ends in the version of this library, as rb_calls_4 does,
 -- and so does that of the library. So gateways of several versions serve a queue side by side, as long as its format is
 -- one that they know; of a later one they get the error FORMAT.
 --   rb_version                                    the version of this library; it needs no keys
---   rb_join LEASE PACE PERIOD ATTEMPTS MODE TOKEN  a gateway joins, and the queue is made if there is none.
+--   rb_join LEASE PACE PERIOD ATTEMPTS MODE TOKEN [MOST [set]]  a gateway joins, and the queue is made if need be.
 --       LEASE is microseconds; PACE, PERIOD and ATTEMPTS are the policy, or '' for the queue's. MODE is '', 'change' to
 --       change the policy of a queue that has another, 'silent' or 'brief' to keep no events, or fewer, of a queue that
 --       is made now, or 'limit N' for a queue that takes N calls. TOKEN tells it from a gateway that gets the same
---       number after the Redis has lost this call. -> [GATEWAY, PACE, PERIOD, ATTEMPTS], or the error POLICY
+--       number after the Redis has lost this call. MOST is that of a queue that is made now, or with `set` also of one
+--       that there is; '0 drop' is no end. -> [GATEWAY, PACE, PERIOD, ATTEMPTS], or the error POLICY
 --   rb_calls MOMENT GATEWAY CALL ..               makes the calls, one after the other, in one step.
 --       MOMENT is '' for the node's TIME, or 20 digits. GATEWAY is '' for the commands. -> a reply for each, or the
 --       error LEASE. A step that has taken its time makes no further call: then there are fewer replies, and those of
 --       the first calls
 --   rb_spare MOMENT GATEWAY CALL ..               the same for a Redis that is full: offers are 'ERR 7 memory', and all
 --       that takes work out, or back, goes on
---   rb_renew GATEWAY LEASE TOKEN [LATE SCORE]     renews the lease, and ends up to 200 jobs of the gateway LATE, if its
---       score is still this. -> how many jobs, what the clock shows, the last event's moment, and number, score and lease
---       of each other gateway; call again while LATE is among them with the score 0; or the error LEASE
+--   rb_renew GATEWAY LEASE TOKEN CLIENTS [LATE SCORE]  renews the lease, tells how many clients there are, and ends up
+--       to 200 jobs of the gateway LATE, if its score is still this. -> how many jobs, what the clock shows, the last
+--       event's moment, and number, score and lease of each other gateway; call again while LATE is among them with the
+--       score 0; or the error LEASE
 --   rb_shards COUNT                               sets the number of shards, if it is not set. -> the number before
 --       that, or '' if there was none; without COUNT it sets nothing
 --   rb_leave GATEWAY                              the gateway leaves, unless sessions of it still hold jobs
@@ -85,7 +92,7 @@
 --
 -- A publish is 'HEAD NOW': the expiry of an element that has become the earliest, and what the clock shows.
 
-local VERSION = '3'
+local VERSION = '4'
 local FORMAT = '1'
 local LAST = '18446744073709551615'
 local MOST_HELD = 64
@@ -94,6 +101,7 @@ local MOST_MICROSECONDS = 8000 -- after which a step begins no further call
 local MOST_WORK = 512 -- the same, in calls and in jobs that they give or let fail, where TIME stands still in a step
 local WORK_BETWEEN_LOOKS = 16
 local NEVER = '~' -- above every moment
+local MOST_DROPPED = 50000 -- events that go at once
 local ENDED = '0' -- in the place of a score: the gateway's sessions are ended
 
 -- What stands before a number of so many digits. A library that is loaded may not use string.rep.
@@ -133,7 +141,7 @@ local function moment_of(microsecond) return pad(whole(microsecond) .. '000') en
 
 -- The queue as a step sees it. Events, counters and the wake are written by `close`, once for all calls of a step.
 local FIELDS = { 'next', 'at', 'calls', 'fetched', 'wake', 'pace', 'period', 'attempts', 'limit', 'history', 'loading',
-    'format' }
+    'format', 'most' }
 
 local function is_loading() return redis.error_reply('LOADING_QUEUE a load into this queue has not ended') end
 local function is_later(format) return redis.error_reply('FORMAT ' .. format .. ' ' .. FORMAT) end
@@ -153,16 +161,32 @@ local function open(keys, moment)
         pace = state[6], period = state[7], attempts = tonumber(state[8]), limit = tonumber(state[9] or '1e300'),
         silent = state[10] == 'no', brief = state[10] == 'brief', lines = {}, counts = {},
         at_before = state[2], calls_before = tonumber(state[3]), wake_before = state[5], work = 0,
+        returned = 0, died = 0,
+        most = tonumber(string.match(state[13] or '', '^%d+')), refuses = string.find(state[13] or '', 'refuse'),
     }
 end
 
+-- Lets the oldest events go, an eighth of those that there may be.
+local function drop_oldest(queue, count)
+    local gone = whole(math.min(count - math.floor(queue.most * 7 / 8), MOST_DROPPED))
+    redis.call('LTRIM', queue.keys[5], gone, -1)
+    redis.call('UNLINK', queue.keys[8])
+    redis.call('HSET', queue.keys[4], 'dropped', whole(redis.call('HINCRBY', queue.keys[4], 'cut', gone)))
+end
+
 local function append(queue)
-    if #queue.lines > 0 and not queue.silent then redis.call('RPUSH', queue.keys[5], unpack(queue.lines)) end
+    if #queue.lines > 0 and not queue.silent then
+        local count = redis.call('RPUSH', queue.keys[5], unpack(queue.lines))
+        if queue.most and count > queue.most and not queue.refuses then drop_oldest(queue, count) end
+    end
     queue.lines = {}
 end
 
 local function close(queue)
     append(queue)
+    for _, field in ipairs({ 'returned', 'died' }) do
+        if queue[field] > 0 then redis.call('HINCRBY', queue.keys[4], field, whole(queue[field])) end
+    end
     if queue.calls > queue.calls_before or queue.wake ~= queue.wake_before then
         local at = queue.calls > queue.calls_before and queue.at or queue.at_before
         redis.call('HSET', queue.keys[4], 'next', whole(queue.next), 'at', at, 'calls', whole(queue.calls),
@@ -268,12 +292,14 @@ local function fail_job(queue, seat, job)
     queue.work = queue.work + 1
     if job.attempt >= queue.attempts then
         redis.call('ZADD', queue.keys[6], 0, job.id .. ' ' .. queue.at .. ' ' .. string.sub(job.member, 64))
+        queue.died = queue.died + 1
         reply = 'DEAD ' .. plain(job.id) .. '\n'
     elseif is_full(queue) then
         return nil
     else
         local id, shown = insert(queue, seat, next_expiry(queue, job.first, job.attempt), job.origin, job.first,
             whole(job.attempt + 1), job.payload)
+        queue.returned = queue.returned + 1
         reply = 'AGAIN ' .. id .. ' ' .. shown .. '\n'
     end
     redis.call('ZREM', queue.keys[3], job.member)
@@ -306,7 +332,9 @@ local MEMORY = 'ERR 7 memory\n'
 
 local function offer_at(queue, seat, expiry, payload)
     if is_full(queue) then return FULL end
-    if queue.spare then return MEMORY end
+    if queue.spare or queue.refuses and redis.call('LLEN', queue.keys[5]) + #queue.lines >= queue.most then
+        return MEMORY
+    end
     local id, shown = insert(queue, seat, expiry, nil, nil, '1', payload)
     return 'OFFERED ' .. id .. ' ' .. shown .. '\n'
 end
@@ -475,7 +503,7 @@ local function make_queue(keys, pace, period, attempts)
 end
 
 local function join_gateway(keys, args)
-    local lease, pace, period, attempts, mode, token = unpack(args)
+    local lease, pace, period, attempts, mode, token, most, set = unpack(args)
     local state = redis.call('HMGET', keys[4], 'pace', 'period', 'attempts', 'loading', 'format')
     if state[4] then return is_loading() end
     if (state[5] or FORMAT) ~= FORMAT then return is_later(state[5]) end
@@ -493,6 +521,9 @@ local function join_gateway(keys, args)
         if history then redis.call('HSET', keys[4], 'history', history) end
         if string.sub(mode, 1, 6) == 'limit ' then redis.call('HSET', keys[4], 'limit', string.sub(mode, 7)) end
     end
+    if most and (is_new or set) then
+        if most == '0 drop' then redis.call('HDEL', keys[4], 'most') else redis.call('HSET', keys[4], 'most', most) end
+    end
     local now = microseconds()
     local before = tonumber(redis.call('HGET', keys[4], 'gateway') or '0')
     local gateway = whole(math.max(before + 1, math.floor(now / 1e6)))
@@ -502,7 +533,7 @@ local function join_gateway(keys, args)
 end
 
 local function forget_gateway(keys, gateway)
-    redis.call('HDEL', keys[4], 'lease:' .. gateway)
+    redis.call('HDEL', keys[4], 'lease:' .. gateway, 'clients:' .. gateway)
     return redis.call('ZREM', keys[7], gateway)
 end
 
@@ -537,11 +568,12 @@ local function lease_of(keys, gateway, score)
 end
 
 local function renew(keys, args)
-    local gateway, lease, token, late, score = unpack(args)
+    local gateway, lease, token, clients, late, score = unpack(args)
     if not has_lease(keys, gateway) or redis.call('HGET', keys[4], 'lease:' .. gateway) ~= lease .. ' ' .. token then
         return lease_is_over()
     end
     redis.call('ZADD', keys[7], whole(microseconds() + tonumber(lease)), gateway)
+    redis.call('HSET', keys[4], 'clients:' .. gateway, clients)
     local told, fault = { 0, moment_of(microseconds()), redis.call('HGET', keys[4], 'at') }, nil
     if late then told[1], fault = end_gateway(keys, late, score) end
     if fault then return fault end

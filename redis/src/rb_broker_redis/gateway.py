@@ -4,6 +4,7 @@ from __future__ import annotations
 import asyncio
 import logging
 import ssl
+from collections.abc import Sequence
 
 from .address import Address
 from .calls import Calls
@@ -25,6 +26,7 @@ class Gateway:
     """Sessions of one queue, or of one name over several queues. Durations are nanoseconds."""
 
     def __init__(self, names: list[str], *, wait: int, patience: int, replicas: int) -> None:
+        self.replicas = replicas
         self._queues = {it: Calls(it, replicas=replicas, patience=patience / SECOND) for it in names}
         queues = list(self._queues.values())
         self.calls: Calls | ShardedCalls
@@ -41,14 +43,35 @@ class Gateway:
         self._count = self._lost = 0
         self._all_ended = asyncio.Event()
 
+    @property
+    def client_count(self) -> int:
+        """How many clients it has."""
+        return len(self._sessions)
+
+    @property
+    def numbers(self) -> list[int]:
+        """Its number at each queue."""
+        return [it.number for it in self._upkeeps]
+
+    @property
+    def is_joined(self) -> bool:
+        """Whether all queues know this gateway."""
+        return bool(self._upkeeps) and all(it.is_joined for it in self._upkeeps)
+
+    @property
+    def clock_fault(self) -> str:
+        """What was last wrong with a node's clock."""
+        return next((it.clock_fault for it in self._upkeeps if it.clock_fault), "")
+
     async def join(
-        self, address: Address, queue: str, lease: int, policy: tuple[str, str, str], mode: str, may_evict: bool
+        self, address: Address, queue: str, lease: int, policy: tuple[str, str, str], mode: str, most: Sequence[str],
+        may_evict: bool,
     ) -> None:
-        """Joins the queue of this name, or its shards. `policy` and `mode` are as `rb_join` of broker.lua takes them.
-        Raises `OSError`, `ErrorAnswer`."""
+        """Joins the queue of this name, or its shards. `policy`, `mode` and `most` are as `rb_join` of broker.lua takes
+        them. Raises `OSError`, `ErrorAnswer`."""
         await claim_shards(address, queue, len(self._queues), next(iter(self._queues.values())).patience)
         self._upkeeps = [
-            Upkeep(self, shard, address, name, calls, lease=lease // 1_000, policy=policy, mode=mode,
+            Upkeep(self, shard, address, name, calls, lease=lease // 1_000, policy=policy, mode=mode, most=most,
                    may_evict=may_evict)
             for shard, (name, calls) in enumerate(self._queues.items())]
         try:
@@ -112,7 +135,7 @@ class Gateway:
 
     def seat_all(self) -> None:
         """Gives sessions their seats, if all queues know this gateway."""
-        if all(it.is_joined for it in self._upkeeps):
+        if self.is_joined:
             while self._unseated:
                 session, number = self._unseated.popitem()
                 session.sit(self.calls.seat_of(number) + b" ")

@@ -85,6 +85,11 @@ class QueueEvents:
         is_first = self._queue.command("HGET", self._queue.state, "cut") in (None, b"0")
         return FollowedQueue() if is_first else None
 
+    def lost_opening(self) -> int | None:
+        """The number of the first event, if those before it went with what they began with, since there were too many."""
+        first, dropped = self._queue.command("HMGET", self._queue.state, "cut", "dropped")
+        return None if first != dropped or self._queue.command("EXISTS", self._queue.opening) else int(first)
+
     def events(self, start: int, count: int) -> list[bytes]:
         """`count` events, from the one that has `start` others in front of it."""
         return list(self._queue.command("LRANGE", self._queue.history, start, start + count - 1))

@@ -13,9 +13,13 @@ import ssl
 
 from .ending import Failed
 from .gateway import Gateway
+from .history import MOST_EVENTS
 from .protocol import SECOND
+from .queue import Queue, connect
 from .resp import ErrorAnswer
 from .shards import shard_names
+from .site import Site
+from .watching.http import HttpServer
 from .words import (
     NO_POLICY, Parser, add_command, add_policy_words, add_queue_words, address_in, duration, names_policy, policy_in,
     sentence_of, whole,
@@ -58,6 +62,13 @@ def add_to(commands: argparse._SubParsersAction[Parser]) -> None:
                       help="a queue that is made now keeps no events")
     kept.add_argument("--brief-history", dest="mode", action="store_const", const="brief",
                       help="it keeps none of a POLL, POLLFOR or DRAIN that found nothing; tools/verify misses them")
+    add("--history-events", metavar="N", type=whole(0, 10**9),
+        help=f"it keeps at most N of about 100 bytes; 0 for no end (default: {MOST_EVENTS}, if the queue is made now)")
+    add("--history-end", choices=("drop", "refuse"),
+        help="at N the oldest events go, or offers are refused until an archive takes some (default: drop)")
+    add("--http", metavar="HOST:PORT", type=sentence_of(place_of),
+        help="serves a page there, with /metrics and /health: 127.0.0.1:7080")
+    add("--allow-changes", action="store_true", help="lets dead jobs be offered again or dropped by that page")
     add("--allow-eviction", action="store_true",
         help="serves from a Redis whose maxmemory-policy is not noeviction, which may throw the queue away")
     add("--cert", metavar="FILE", help="the certificate with which clients are served over TLS")
@@ -89,6 +100,8 @@ def check(asked: argparse.Namespace) -> None:
         refuse("--plain is without TLS, and --cert with it")
     if not ipaddress.ip_address(asked.bind).is_loopback and not asked.cert and not asked.plain:
         refuse(f"other machines reach {asked.bind}: serve them over TLS with --cert, or say --plain")
+    if asked.allow_changes and not asked.http:
+        refuse("--allow-changes needs --http")
     if asked.change_policy and not names_policy(asked):
         refuse("--change-policy needs --delay, --rate or --attempts")
 
@@ -118,19 +131,49 @@ async def serve(asked: argparse.Namespace) -> int:
         shard_names(asked.queue, asked.shards), wait=asked.wait, patience=asked.timeout, replicas=asked.replicas)
     mode = "change" if asked.change_policy else asked.mode
     policy = policy_in(asked) if names_policy(asked) else NO_POLICY
-    await gateway.join(address_in(asked), asked.queue, asked.lease, policy, mode, asked.allow_eviction)
+    await gateway.join(
+        address_in(asked), asked.queue, asked.lease, policy, mode, most_in(asked), asked.allow_eviction)
+    at = f"{asked.bind}:{asked.port}"
     try:
         port = await gateway.listen(str(asked.bind), asked.port, tls)
+        if asked.http:
+            at = "--http {}:{}".format(*asked.http)
+            site = show(gateway, asked, port)
     except OSError as fault:  # the port is in use, or may not be used
         await gateway.leave()
-        raise Failed(f"{asked.bind}:{asked.port}: {reason_of(fault)}", 3) from None
+        raise Failed(f"{at}: {reason_of(fault)}", 3) from None
     if asked.plain:
         logging.warning("PLAIN: whoever reaches %s:%d is let in, and reads what others send", asked.bind, port)
     print(f"listening {asked.bind}:{port}", flush=True)
+    if asked.http:
+        print("page http://{}:{}/".format(asked.http[0], site.server_address[1]), flush=True)
     await stopped.wait()
     count, lost = await gateway.stop(asked.grace)
     print(f"sessions {count} lost {lost}", flush=True)
     return 0
+
+
+def most_in(asked: argparse.Namespace) -> tuple[str, ...]:
+    """How many events there may be, as `rb_join` of broker.lua takes it."""
+    is_asked = (asked.history_events, asked.history_end) != (None, None)
+    events = MOST_EVENTS if asked.history_events is None else asked.history_events
+    return f"{events} {asked.history_end if events and asked.history_end else 'drop'}", *(["set"] if is_asked else [])
+
+
+def show(gateway: Gateway, asked: argparse.Namespace, port: int) -> HttpServer:
+    """Begins the page. Raises an `OSError`."""
+    client = connect(address_in(asked))
+    queues = [Queue(client, it) for it in shard_names(asked.queue, asked.shards)]
+    return Site(gateway, asked.queue, port, queues, asked.allow_changes).begin(*asked.http)
+
+
+def place_of(word: str) -> tuple[str, int]:
+    """The host and the port of `HOST:PORT`. Raises a `ValueError`."""
+    host, _, port = word.rpartition(":")
+    host = str(ipaddress.ip_address(host.strip("[]")))
+    if not port.isdecimal() or int(port) > 65_535:
+        raise ValueError(f"{port!r} is no port")
+    return host, int(port)
 
 
 def end_at_next(loop: asyncio.AbstractEventLoop, stopped: asyncio.Event) -> None:

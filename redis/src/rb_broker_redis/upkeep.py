@@ -6,13 +6,14 @@ import contextlib
 import logging
 import re
 import time
-from collections.abc import Awaitable, Callable
+from collections.abc import Awaitable, Callable, Sequence
 from typing import TYPE_CHECKING, Any, cast
 from uuid import uuid4
 
 from .address import Address
 from .calls import UNKNOWN, Calls, needs_new_link
 from .clock import NodeClock
+from .dates import date_text
 from .keys import channel_of, keys_of
 from .leases import Leases
 from .library import load_functions, name_of
@@ -36,13 +37,15 @@ class Upkeep:
 
     def __init__(
         self, gateway: Gateway, shard: int, address: Address, queue: str, calls: Calls, *, lease: int,
-        policy: tuple[str, str, str], mode: str, may_evict: bool,
+        policy: tuple[str, str, str], mode: str, most: Sequence[str], may_evict: bool,
     ) -> None:
         self._gateway, self._shard = gateway, shard
         self._address, self._queue, self._calls = address, queue, calls
-        self._lease, self._policy, self._mode, self._may_evict = lease, policy, mode, may_evict
-        self._number = b""
-        """The gateway's number at this queue."""
+        self._lease, self._policy, self._mode, self._most, self._may_evict = lease, policy, mode, most, may_evict
+        self.number = 0
+        """The gateway's at this queue."""
+        self.clock_fault = ""
+        """What was wrong with the node's clock when that was last seen."""
         self._token = uuid4().hex
         """What tells it from another that gets this number, if the Redis loses what it knows."""
         self._leases, self._clock = Leases(lease / 3), NodeClock()
@@ -73,7 +76,7 @@ class Upkeep:
         """Leaves the queue."""
         if self._link:
             with contextlib.suppress(OSError, ErrorAnswer):  # the lease ends by itself
-                await self._call(self._link, "rb_leave", self._number)
+                await self._call(self._link, "rb_leave", self.number)
         for task in self._tasks:
             task.cancel()
         await asyncio.gather(*self._tasks, return_exceptions=True)
@@ -116,11 +119,12 @@ class Upkeep:
 
     async def _join(self, link: Link) -> None:
         """Gives the gateway a new number."""
-        joined = await self._call(link, "rb_join", self._lease, *self._policy, self._mode, self._token)
-        self._number, pace, period, attempts = joined
+        joined = await self._call(link, "rb_join", self._lease, *self._policy, self._mode, self._token, *self._most)
+        number, pace, period, attempts = joined
+        self.number = int(number)
         self._policy = pace.decode(), period.decode(), attempts.decode()
-        self._mode = self._mode.replace("change", "")
-        self._calls.join(int(self._number))
+        self._mode, self._most = self._mode.replace("change", ""), self._most[:1]
+        self._calls.join(self.number)
         self._leases.forget()
         self.is_joined = True
         self._gateway.seat_all()
@@ -172,9 +176,11 @@ class Upkeep:
 
     async def _renew(self, link: Link, *late: bytes) -> list[bytes]:
         """Renews the lease, and ends sessions of a late gateway. Gives what is told of the others."""
-        renewed = await self._call(link, "rb_renew", self._number, self._lease, self._token, *late)
+        clients = self._gateway.client_count
+        renewed = await self._call(link, "rb_renew", self.number, self._lease, self._token, clients, *late)
         ended, clock, last, *others = cast(list[bytes], renewed)
         if fault := self._clock.look(int(clock), int(last), time.monotonic_ns()):
+            self.clock_fault = f"at {date_text(time.time_ns())[:19]} the clock of the node of {self._queue} {fault}"
             LOG.warning("the clock at queue %s %s", self._queue, fault)
         if ended:
             LOG.warning("a gateway's lease is over: its sessions have ended, and their jobs come back")
