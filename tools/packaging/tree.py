@@ -13,7 +13,10 @@ PYTHON = "usr/lib/python3/dist-packages"
 # Where files of packaging/ go.
 COPIED = {
     "rb_broker@.service": "usr/lib/systemd/system/rb_broker@.service",
+    "rb_broker_redis@.service": "usr/lib/systemd/system/rb_broker_redis@.service",
+    "rb_broker_archive@.service": "usr/lib/systemd/system/rb_broker_archive@.service",
     "rb_broker.default": "etc/default/rb_broker",
+    "rb_broker_redis.default": "etc/default/rb_broker_redis",
     "debian/copyright": f"{DOCUMENTS}/copyright",
     "debian/lintian-overrides": "usr/share/lintian/overrides/rb-broker",
 }
@@ -22,7 +25,7 @@ COPIED = {
 # it lies below this repository's.
 FOR_READERS = (
     "docs/OPERATING.md", "docs/PROTOCOL.md", "docs/HISTORY.md", "docs/DELAYQUEUE.md", "docs/SCALING.md",
-    "clients/python/README.md", "redis/README.md", "docs/*.png", "docs/*.svg", "examples/*",
+    "clients/python/README.md", "redis/README.md", "redis/users.acl", "docs/*.png", "docs/*.svg", "examples/*",
     "clients/python/examples/*.py",
 )
 

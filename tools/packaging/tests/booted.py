@@ -5,6 +5,7 @@ from contextlib import contextmanager
 from typing import Iterator
 
 from checking.tally import Tally
+from packaging.tests.booted_redis import try_gateways
 from packaging.tests.machine import Machine, reason_not_to_boot
 from packaging.tests.running import DONE, Told, expect
 from serving.server import free_port
@@ -31,6 +32,7 @@ def try_units(tally: Tally, package: str, folder: str) -> None:
         machine.run("sh", "-c", "cp /usr/lib/systemd/system/rb_broker* /run/units")
         machine.run("systemctl", "daemon-reload")
         expect(tally, "the package in a machine", told.status == 0, told)
+        try_gateways(tally, machine)
         service = Service(tally, machine, free_port())
         for trial in (try_start, try_cuts, try_removal):
             trial(service)

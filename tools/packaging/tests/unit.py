@@ -35,13 +35,15 @@ def check_unit(tally: Tally) -> None:
 
 
 def check_by_systemd(tally: Tally, root: str, folder: str) -> None:
-    """systemd reads the unit that is installed below a root: a copy of it in a folder, whose commands are there too."""
+    """systemd reads the units that are installed below a root: a copy of each in a folder, whose commands are there too.
+    Those of Redis run Python, which is this machine's."""
     if not is_there("systemd-analyze", tally, "systemd-analyze verify"):
         return
-    unit = Path(root, "usr/lib/systemd/system", UNIT.name).read_text(encoding="utf-8")
-    copy = Path(folder, UNIT.name)
-    copy.write_text(re.sub(r"^(Exec\w+=)/", rf"\1{root}/", unit, flags=re.M), encoding="utf-8")
-    told = run("systemd-analyze", "verify", "--man=no", str(copy))
-    # What it says of other units, those of this machine, is passed over.
-    faults = [it for it in told.errors.splitlines() if "rb_broker" in it]
-    expect(tally, "systemd-analyze verify", not faults and told.status == 0, told)
+    for path in Path(root, "usr/lib/systemd/system").glob("rb_broker*@.service"):
+        copy = Path(folder, path.name)
+        text = re.sub(r"^(Exec\w+=)/(?!usr/bin/python3)", rf"\1{root}/", path.read_text("utf-8"), flags=re.M)
+        copy.write_text(text, "utf-8")
+        told = run("systemd-analyze", "verify", "--man=no", str(copy))
+        # What it says of other units, those of this machine, is passed over.
+        faults = [it for it in told.errors.splitlines() if "rb_broker" in it]
+        expect(tally, f"systemd-analyze verify {path.name}", not faults and told.status == 0, told)
