@@ -15,7 +15,7 @@ from .errors import (
     BrokerError, DisconnectedError, FullError, InDoubtError, NotHeldError, NotOfferedError, OutOfMemoryError,
     RefusedError, StoppedError, UnknownReplyError,
 )
-from .job import Again, AsyncHeldJob, Dead, HeldJob, Job, Offered, Report, Verdict
+from .job import Again, AsyncHeldJob, Dead, Greeting, HeldJob, Job, LostRun, Offered, Report, Verdict
 from .producer import AsyncProducer, Producer
 from .request import Request
 from .worker import AsyncWorker, Worker
@@ -24,7 +24,7 @@ __version__ = "2.0.0"
 
 __all__ = [
     "Again", "AsyncBroker", "AsyncHeldJob", "AsyncProducer", "AsyncWorker", "Broker", "BrokerError", "Dead",
-    "DeadLetters", "DisconnectedError", "Duration", "FullError", "HeldJob", "InDoubtError", "Job", "NotHeldError",
-    "NotOfferedError", "Offered", "OutOfMemoryError", "Pauses", "Producer", "RefusedError", "Report", "Request",
-    "StoppedError", "UnknownReplyError", "Verdict", "Worker", "__version__",
+    "DeadLetters", "DisconnectedError", "Duration", "FullError", "Greeting", "HeldJob", "InDoubtError", "Job",
+    "LostRun", "NotHeldError", "NotOfferedError", "Offered", "OutOfMemoryError", "Pauses", "Producer", "RefusedError",
+    "Report", "Request", "StoppedError", "UnknownReplyError", "Verdict", "Worker", "__version__",
 ]

@@ -18,7 +18,7 @@ from typing import Any, ClassVar, Concatenate, Generic, Self, TextIO
 
 from .durations import Duration, seconds
 from .errors import BrokerError, DisconnectedError, UnknownReplyError
-from .job import LONGEST_REPLY, AsyncHeldJob, HeldJob, Job
+from .job import LONGEST_REPLY, AsyncHeldJob, Greeting, HeldJob, Job
 from .request import Answer, Request
 from .waiting import Blocking, Kind, Looping, Words, blocking, run
 
@@ -60,6 +60,9 @@ class Session:
         self._rest, self._came = b"", 0  # of a line of which more is to come, and when that came
         self._is_asking = False  # whether a thread or task waits for answers
         self._is_unclear = False  # which line answers which request, after an unknown reply
+        self._has_begun = False  # whether a line has come
+        self.greeting: Greeting | None = None
+        """What the server said first, if it is one that greets."""
         self._answers: deque[Any] = deque()  # that nobody has taken yet, each refusal in its place
         self.at_end = ExitStack()
         if not self._kind.is_async:
@@ -220,6 +223,10 @@ class Session:
         await self._ask(Request.greeting())
 
     def _read(self) -> None:
+        if self._lines and not self._has_begun:
+            self._has_begun, self.greeting = True, Greeting.of(self._lines[0])
+            if self.greeting is not None:
+                self._lines.popleft()
         while self._lines and self._due and not self._is_unclear:
             request, sent = self._due[0]
             lines = iter(self._lines)

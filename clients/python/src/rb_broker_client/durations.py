@@ -49,6 +49,12 @@ def seconds(duration: Duration) -> float:
     return value
 
 
+def age(limit: float, may_others_wait: bool) -> float:
+    """How old a session becomes whose server does not say when it is to be left. A brief one leaves its place to others
+    that may be waiting."""
+    return min(limit, BRIEF) if may_others_wait and limit < math.inf else limit
+
+
 class Pauses:
     """The pauses between tries that fail one after the other. Each is twice as long as the one before, from `first` up
     to `longest`, less a random part, up to a half: clients that lose their server together do not come back together.
@@ -67,17 +73,3 @@ class Pauses:
     def reset(self) -> None:
         """A try succeeded: the next pause is a first one."""
         self._next = self._first
-
-
-class Ages:
-    """How old the sessions of a client may become. One that was served late is brief, so that each of several clients
-    that wait for a server's workers has its turn. The first one may be, since it can't know whether others wait."""
-
-    def __init__(self, limit: Duration | None, first_is_brief: bool) -> None:
-        self._limit = math.inf if limit is None else seconds(limit)
-        self._is_next_brief = first_is_brief
-
-    def next(self, waited: float) -> float:
-        """The seconds of a session that is served now, after a wait of so many seconds."""
-        is_brief, self._is_next_brief = self._is_next_brief or waited >= WAITED, False
-        return min(self._limit, BRIEF) if is_brief and self._limit < math.inf else self._limit

@@ -1,6 +1,8 @@
 """The values of requests and replies: their limits, jobs, and what became of jobs."""
 
-from dataclasses import astuple, dataclass, fields
+import re
+from dataclasses import astuple, dataclass, field, fields
+from datetime import datetime
 from typing import Any, ClassVar, Self
 
 from .errors import NotHeldError
@@ -13,10 +15,37 @@ MOST_HELD = 64  # jobs that a session may hold
 
 @dataclass(frozen=True)
 class Offered:
-    """An element that the queue accepted: its id, and the moment at which it expires."""
+    """An element that the queue accepted: its id, and the moment at which it expires. A producer adds what the
+    server said of its run."""
 
     id: int
     expires_at_ns: int
+    greeting: "Greeting | None" = field(default=None, compare=False, repr=False)
+
+
+@dataclass(frozen=True)
+class Greeting:
+    """What a server of a service says first in each session: the number of its run, how many were lost before it, and
+    the moment of its clock."""
+
+    run: int
+    lost: int
+    at_ns: int
+
+    @classmethod
+    def of(cls, line: bytes) -> "Greeting | None":
+        """That of a line, or None if it is none."""
+        found = re.fullmatch(b"RUN (#) lost (#) at (#)".replace(b"#", b"0|[1-9][0-9]{0,19}"), line)
+        return cls(*map(int, found.groups())) if found else None
+
+
+@dataclass(frozen=True)
+class LostRun:
+    """What a server has lost: what it accepted between these two, by the clock of this machine, is in doubt. Without a
+    `since` that is all before."""
+
+    since: datetime | None
+    until: datetime
 
 
 @dataclass(frozen=True, eq=False, repr=False)

@@ -10,14 +10,15 @@ import threading
 import time
 from collections.abc import AsyncIterator, Callable
 from contextlib import ExitStack, asynccontextmanager, suppress
+from dataclasses import replace
 from functools import partial
 from typing import Any, ClassVar, Self, TextIO
 from weakref import WeakSet
 
 from .broker import AsyncBroker, Broker, Session, checked_port
-from .durations import FOR_EVER, Ages, Duration, Pauses, nanoseconds, seconds
+from .durations import FOR_EVER, WAITED, Duration, Pauses, age, nanoseconds, seconds
 from .errors import BrokerError, FullError, InDoubtError, NotOfferedError, OutOfMemoryError
-from .job import Offered
+from .job import LostRun, Offered
 from .pipeline import LeftError, Pipeline
 from .request import Request
 from .run import Run
@@ -35,14 +36,16 @@ class BaseProducer:
     _session_of: ClassVar[type[Session]]
 
     def __init__(self, port: int, host: str = "127.0.0.1", *, may_double: bool = False, patience: Duration = 30.0,
-                 session: Duration | None = 30.0, tls: ssl.SSLContext | None = None, pauses: Pauses | None = None,
+                 session: Duration | None = 30.0, on_lost_run: Callable[[LostRun], object] | None = None,
+                 tls: ssl.SSLContext | None = None, pauses: Pauses | None = None,
                  record: TextIO | None = None) -> None:
         """Connects to nothing yet. An offer takes no longer than `patience`, whatever it waits for. With None for
-        `session` each is kept as long as it can be had. `tls` and `record` are those of a `Broker`."""
+        `session` each is kept as long as it can be had, as is that of a server that greets. `on_lost_run` is called, in
+        a thread of its own, when the server has lost a run. `tls` and `record` are those of a `Broker`."""
         self._session_at = partial(self._session_of, checked_port(port), host, tls=tls, record=record)
         self._may_double, self._patience = may_double, seconds(patience)
-        self._pauses, self._ages = pauses or Pauses(longest=2.0), Ages(session, first_is_brief=False)
-        self._run, self._kind = Run(log, f"{host}:{port}"), self._session_of._kind
+        self._pauses, self._limit = pauses or Pauses(longest=2.0), math.inf if session is None else seconds(session)
+        self._run, self._kind = Run(log, f"{host}:{port}", on_lost_run), self._session_of._kind
         self.waited = 0.0
         """For how many seconds the last session waited until the server had a worker for it."""
         self._is_closed = False
@@ -99,7 +102,7 @@ class BaseProducer:
         while True:
             pipeline = await self._served(request, deadline)
             try:
-                return await pipeline.ask(request, deadline, see)
+                return replace(await pipeline.ask(request, deadline, see), greeting=pipeline.session.greeting)
             except LeftError:
                 pass  # it was left, or lost, since it was had
             except FullError:
@@ -144,10 +147,11 @@ class BaseProducer:
             log.warning("waited %.1f seconds until the server at %s had a worker", self.waited, self._run.place)
         self._stop_leaving()
         self._pipeline = pipeline = Pipeline(session)
-        age = self._ages.next(self.waited)
-        self._end = time.monotonic() + age
-        if age < math.inf:
-            self._stop_leaving = self._kind.later(age, partial(self._leave_alone, pipeline))
+        self._run.served(session.greeting)
+        left = math.inf if session.greeting else age(self._limit, self.waited >= WAITED)
+        self._end = time.monotonic() + left
+        if left < math.inf:
+            self._stop_leaving = self._kind.later(left, partial(self._leave_alone, pipeline))
         return pipeline
 
     async def _leave_alone(self, pipeline: Pipeline) -> None:

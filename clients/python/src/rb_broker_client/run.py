@@ -1,19 +1,34 @@
 """What a client has seen of its server: whether it is there, and still has its run."""
 
 import logging
+from collections.abc import Callable
+from datetime import datetime, timezone
+from threading import Thread
+from typing import Any
+
+from .job import Greeting, LostRun
 
 SHARDS = 64  # queues that a broker on Redis may have under one name, by whose number ids count
 PIECE, MOST_PIECES = 1_024, 4_096  # ids of one number, of each a bit, and how many of these are kept
 
 
-class Run:
-    """The run of a server. It logs an error when the server has lost that run, which begins again then from where it
-    had begun: its ids are given again, and its clock goes back. It also logs when the server is away, and when it
-    serves again, each once."""
+def _ignore(_: object) -> None:
+    pass
 
-    def __init__(self, log: logging.Logger, place: str) -> None:
+
+class Run:
+    """The run of a server. It logs when the server has lost it, and calls `on_lost_run`. A server that greets says so.
+    Another one begins again then from where it had begun: its ids are given again, and its clock goes back. It also
+    logs when the server is away, and when it serves again, each once."""
+
+    def __init__(self, log: logging.Logger, place: str, on_lost_run: Callable[[LostRun], object] | None = None) -> None:
         """`place` is what the log calls the server."""
         self._log, self.place, self._is_away = log, place, False
+        self._on_lost_run: Callable[[LostRun], object] = on_lost_run or _ignore
+        self.on_greeting: Callable[[Greeting], object] = _ignore  # called with the first one of each run
+        self.greeting: Greeting | None = None  # the last one
+        self._since: datetime | None = None  # when one of a run before that was heard for the last time
+        self._heard: datetime | None = None
         self._offers: dict[int, tuple[int, int]] = {}  # of each queue: its last id and moment
         self._given: dict[int, int] = {}  # bits of ids, in pieces
         self._returned: dict[int, int] = {}
@@ -23,11 +38,26 @@ class Run:
         self._log.log(logging.DEBUG if self._is_away else logging.WARNING, text, self.place, fault)
         self._is_away = True
 
-    def served(self) -> None:
-        """There is a session, and the server serves it."""
+    def served(self, greeting: Greeting | None) -> None:
+        """There is a session, and the server serves it, and has greeted it if it is one that does."""
         if self._is_away:
             self._log.info("served again at %s", self.place)
         self._is_away = False
+        if greeting is not None:
+            self._greeted(greeting)
+
+    def _greeted(self, now: Greeting) -> None:
+        last, self.greeting, moment = self.greeting, now, datetime.now(timezone.utc)
+        if last is None or (last.run, last.lost) != (now.run, now.lost):
+            self._tell(self.on_greeting, now)
+            if last is not None and (now.lost != last.lost or now.run < last.run):
+                lost = LostRun(self._since, moment)
+                self._log.warning("the server at %s has lost a run: what it accepted from %s to %s is in doubt",
+                                  self.place, lost.since or "its beginning", lost.until)
+                self._forget()
+                self._tell(self._on_lost_run, lost)
+            self._since = self._heard
+        self._heard = moment
 
     def offered(self, id: int, moment: int) -> None:
         """An offer was accepted under this id, at this moment."""
@@ -57,6 +87,21 @@ class Run:
     def _lost(self, sign: str) -> None:
         self._log.error("the server at %s has lost its run: it %s. What stood in its queue is gone, and ids of that "
                         "run name other jobs now", self.place, sign)
+        self._forget()
+        self._tell(self._on_lost_run, LostRun(None, datetime.now(timezone.utc)))
+
+    def _forget(self) -> None:
         self._offers.clear()
         self._given.clear()
         self._returned.clear()
+
+    def _tell(self, function: Callable[[Any], object], told: object) -> None:
+        # In a thread of its own, so that it holds up no loop and no offer.
+        def tell() -> None:
+            try:
+                function(told)
+            except Exception:
+                self._log.exception("%r failed, which was told of a run", function)
+
+        if function is not _ignore:
+            Thread(target=tell, name="rb_broker_client-tells", daemon=True).start()

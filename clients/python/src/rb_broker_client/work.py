@@ -12,9 +12,9 @@ from functools import partial
 from time import monotonic
 from typing import Any
 
-from .durations import Ages, Pauses
+from .durations import WAITED, Pauses, age
 from .errors import BrokerError, FullError, OutOfMemoryError, StoppedError
-from .job import Again, Job, Report
+from .job import Again, Greeting, Job, Report
 from .request import Request
 from .run import Run
 
@@ -33,14 +33,16 @@ class Work:
     with each job whose handler has ended.
     """
 
-    def __init__(self, wait: float, report: Report, pauses: Pauses, run: Run, ages: Ages,
+    def __init__(self, wait: float, report: Report, pauses: Pauses, run: Run, limit: float, is_first: bool = False,
                  attempts: float = math.inf) -> None:
-        """A wait for a job lasts so many seconds while none runs. Each job has so many attempts."""
+        """A wait for a job lasts so many seconds while none runs. The session may last `limit`, if its server does not
+        greet. Each job has so many attempts."""
         self._attempts, self._is_lost = attempts, False
-        self._wait, self._report, self._pauses, self._run, self._ages = wait, report, pauses, run, ages
+        self._wait, self._report, self._pauses, self._run = wait, report, pauses, run
+        self._limit, self._is_first, self._began = limit, is_first, monotonic()
+        self.greeting: Greeting | None = None  # known once it is served
         self._waits: list[Request[Any]] = [Request.poll_for(it) for it in (wait, wait / BESIDE)]  # one beside jobs
         self.is_served, self._end = False, math.inf  # when the session is old
-        self.wait_anew()
         self._asked: deque[Callable[[Any], None]] = deque()  # what takes each answer that is due
         self._ended: list[Asked] = [(Request.greeting(), self._served)]  # what is to be sent
         self._held: dict[int, Job] = {}  # what the server gave, and has not said to have ended
@@ -106,10 +108,6 @@ class Work:
             self._ended.append((Request.fail(job.id), partial(self._failed, job)))
             if self._is_lost:
                 self._fail_unheard([job])
-
-    def wait_anew(self) -> None:
-        """The server had no worker that is free for this session, other than one that the same client has left now."""
-        self._waits_since = monotonic()
 
     def lost(self) -> None:
         """The session was lost. What the server made of the jobs that it gave is not known."""
@@ -185,7 +183,9 @@ class Work:
         self.given += jobs
 
     def _not_fetched(self, refused: BrokerError, asked: float) -> None:
-        if isinstance(refused, (StoppedError, OutOfMemoryError)):
+        if isinstance(refused, StoppedError) and self.greeting and not self._asked:
+            self._end = monotonic()  # nothing was sent behind this wait that could have ended it: the run is to end
+        elif isinstance(refused, (StoppedError, OutOfMemoryError)):
             if asked < self._next_try:
                 return  # one that was asked before it was refused, too
             # From one fetch to the next: a wait that was given up after a while needs no pause.
@@ -201,9 +201,10 @@ class Work:
 
     def _served(self, answer: Any) -> None:
         _demand(answer)
-        self._run.served()
-        now = monotonic()
-        self.is_served, self._end = True, now + self._ages.next(now - self._waits_since)
+        self._run.served(self.greeting)
+        self.is_served, now = True, monotonic()
+        if self.greeting is None:
+            self._end = now + age(self._limit, self._is_first or now - self._began >= WAITED)
 
     def _left(self, answer: Any) -> None:
         _demand(answer)

@@ -16,8 +16,8 @@ from typing import Any, ClassVar, Generic, TextIO, TypeVar
 
 from .broker import AsyncBroker, Broker, Session, checked_port
 from .dead_letters import DeadLetters
-from .durations import FOR_EVER, Ages, Duration, Pauses, seconds
-from .job import MOST_HELD, Job, Report
+from .durations import FOR_EVER, Duration, Pauses, seconds
+from .job import MOST_HELD, Job, LostRun, Report
 from .run import Run
 from .turns import LoopTurns, ThreadTurns
 from .waiting import blocking
@@ -56,20 +56,21 @@ class BaseWorker(Generic[Handler, OnDead]):
     def __init__(self, handler: Handler, port: int, host: str = "127.0.0.1", *, concurrency: int = 1,
                  wait: Duration = 1.0, patience: Duration = 10.0, session: Duration | None = 30.0,
                  timeout: Duration | None = None, on_dead: OnDead | None = None, attempts: int | None = None,
-                 tls: ssl.SSLContext | None = None, pauses: Pauses | None = None,
-                 record: TextIO | None = None) -> None:
+                 on_lost_run: Callable[[LostRun], object] | None = None, tls: ssl.SSLContext | None = None,
+                 pauses: Pauses | None = None, record: TextIO | None = None) -> None:
         """Connects to nothing yet.
 
         `wait` is how long the worker waits for a job at a time, and so how long a stop takes at most while it is idle.
         It makes a call each time. While jobs run a wait is a fifth of that, since a server reads nothing behind a wait:
         the end of a job is told so much later at most. A reply that is `patience` late is taken for a lost session.
-        `session` is the age beyond which a session is left; None keeps each as long as it can be had. A job whose
-        handler takes longer than `timeout` fails; its place is free once the handler returns.
+        `session` is the age beyond which a session is left whose server does not greet; None keeps each as long as it
+        can be had. A job whose handler takes longer than `timeout` fails; its place is free once the handler returns.
 
         `on_dead` is called with each job that failed and won't come back, and is the place to keep it: the server said
         so, or its run is full. That the last attempt ended with a lost session no reply tells: `attempts` is how many a
         job has at this server, and with it `on_dead` is called for such a job too. An `Exception` that it raises is
-        logged. `tls` and `record` are those of a `Broker`.
+        logged. `on_lost_run` is called, in a thread of its own, when the server has lost a run. `tls` and `record` are
+        those of a `Broker`.
         """
         if not 1 <= concurrency <= MOST_HELD:
             raise ValueError(f"from 1 to {MOST_HELD} jobs can run at the same time")
@@ -83,8 +84,8 @@ class BaseWorker(Generic[Handler, OnDead]):
         self._wait, self._patience = seconds(wait), seconds(patience)
         self._timeout = math.inf if timeout is None else seconds(timeout)
         self._attempts = math.inf if attempts is None else attempts
-        self._ages, self._pauses = Ages(session, first_is_brief=True), pauses or Pauses()
-        self._run_known = Run(log, f"{host}:{port}")
+        self._pauses, self._run_known = pauses or Pauses(), Run(log, f"{host}:{port}", on_lost_run)
+        self._limit, self._is_first = math.inf if session is None else seconds(session), True
         self._turns = self._turns_of(concurrency > 1 or timeout is not None)
         self._has_run = self._is_stopping = self._is_connecting = False
         self._visits: dict[Work, Session] = {}  # two at most, the older one first
@@ -145,7 +146,8 @@ class BaseWorker(Generic[Handler, OnDead]):
                 if not self._turns.has_started:
                     self._attend(work, session)
             except OSError as fault:
-                self._run_known.away("the session at %s was lost: %s", fault)
+                if work.greeting is None or work.is_holding or not isinstance(fault, ConnectionError):
+                    self._run_known.away("the session at %s was lost: %s", fault)
                 self._end(work, self._pauses.next())
         if self._may_connect():
             self._is_connecting = True
@@ -169,7 +171,9 @@ class BaseWorker(Generic[Handler, OnDead]):
             with ExitStack() as undo:
                 undo.callback(session.close)
                 await session._connect()
-                work = Work(self._wait, self.report, self._pauses, self._run_known, self._ages, self._attempts)
+                work = Work(self._wait, self.report, self._pauses, self._run_known, self._limit, self._is_first,
+                            self._attempts)
+                self._is_first = False
                 session.post(*work.ask(0, 0, False))
                 undo.pop_all()
             self._turns.watch(session)
@@ -199,6 +203,7 @@ class BaseWorker(Generic[Handler, OnDead]):
 
     def _receive(self, work: Work, session: Session) -> None:
         answers = session.received()
+        work.greeting = session.greeting
         for answer in answers:
             work.answered(answer)
         if not answers and time.monotonic() >= self._late(work, session):
@@ -238,8 +243,6 @@ class BaseWorker(Generic[Handler, OnDead]):
         work.lost()
         self._bury(work)
         session = self._visits.pop(work)
-        for it in self._visits:
-            it.wait_anew()
         session.close()
         self._next_visit = max(self._next_visit, time.monotonic() + pause)
 

@@ -7,22 +7,15 @@ import unittest.mock
 from test_producer import ProducerCase
 from worker_case import A, LAST, WorkerCase, clock, pass_on
 from rb_broker_client import Offered, Pauses, Report
-from rb_broker_client.durations import Ages
+from rb_broker_client.durations import age
 
 LATE = 0.2  # seconds after which a session is served that had to wait
 
 
 class AgesTest(unittest.TestCase):
-    def test_the_seconds_of_sessions_after_these_waits(self):
-        for why, limit, first_is_brief, waits, ages in (
-            ("one that was served late is brief", 30, False, [0, LATE, 5, 0, 0.01], [30, 3, 3, 30, 30]),
-            ("the first may be brief", 30, True, [0, 0, LATE, 0], [3, 30, 3, 30]),
-            ("none is longer than it may be", 0.5, True, [0, 0, LATE], [0.5, 0.5, 0.5]),
-            ("one that is kept is kept", None, True, [0, LATE], [math.inf, math.inf]),
-        ):
-            with self.subTest(why):
-                told = Ages(limit, first_is_brief)
-                self.assertEqual([told.next(it) for it in waits], ages)
+    def test_one_is_brief_if_others_may_be_waiting_but_one_that_is_kept(self):
+        self.assertEqual([age(it, False) for it in (30, 0.5, math.inf)], [30, 0.5, math.inf])
+        self.assertEqual([age(it, True) for it in (30, 0.5, math.inf)], [3, 0.5, math.inf])
 
 
 class PausesTest(unittest.TestCase):

@@ -7,8 +7,7 @@ import unittest.mock
 from collections import deque
 
 from worker_case import paragraphs, values
-from rb_broker_client import BrokerError, NotHeldError, Pauses, Report
-from rb_broker_client.durations import Ages
+from rb_broker_client import BrokerError, Greeting, NotHeldError, Pauses, Report
 from rb_broker_client.run import Run
 from rb_broker_client.work import Work
 
@@ -30,11 +29,12 @@ class WorkTest(unittest.TestCase):
                     step, _, words = it.partition(" ")
                     getattr(self, step)(words)
 
-    def begin(self, concurrency=1, age=None, first=0.4, longest=0.4, attempts=math.inf):
+    def begin(self, concurrency=1, age=math.inf, first=0.4, longest=0.4, attempts=math.inf, run=None):
         """Begins a session, which is served at once."""
-        run = Run(logging.getLogger("rb_broker_client.worker"), "a place")
+        known = Run(logging.getLogger("rb_broker_client.worker"), "a place")
         self.report, self.concurrency, self.running, self.is_stopping = Report(), concurrency, 0, True
-        self.work = Work(1.0, self.report, Pauses(first, longest), run, Ages(age, first_is_brief=False), attempts)
+        self.work = Work(1.0, self.report, Pauses(first, longest), known, age, attempts=attempts)
+        self.work.greeting = Greeting(run, 0, 0) if run else None
         self.due, self.jobs = deque(), {}
         self.asks("AT 0")
         self.asks("")
