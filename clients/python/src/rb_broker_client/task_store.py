@@ -8,23 +8,37 @@ from collections.abc import Iterator
 from contextlib import contextmanager
 from dataclasses import dataclass, replace
 
+from .job import Greeting
+
 STALE = 10.0  # seconds after which who runs a task is dead, if nothing was heard of it
 UNSENT = 5.0  # seconds after which a task that was not offered is offered by another
+AT_ONCE = 100  # tasks that one process offers again
+
+_USING = threading.Lock()  # held by a transaction, and by a fork: SQLite's locks would be those of the new process, too
+if hasattr(os, "register_at_fork"):
+    os.register_at_fork(before=_USING.acquire, after_in_parent=_USING.release, after_in_child=_USING.release)
 
 _TABLES = """
     CREATE TABLE IF NOT EXISTS tasks (
         id TEXT PRIMARY KEY, name TEXT NOT NULL, arguments TEXT NOT NULL, key TEXT, due REAL NOT NULL,
         turn INTEGER NOT NULL DEFAULT 1, failures INTEGER NOT NULL DEFAULT 0, error TEXT NOT NULL DEFAULT '',
-        state TEXT NOT NULL DEFAULT 'new', touched REAL NOT NULL, offers INTEGER NOT NULL DEFAULT 0, owner TEXT);
+        state TEXT NOT NULL DEFAULT 'new', touched REAL NOT NULL, offers INTEGER NOT NULL DEFAULT 0, owner TEXT,
+        began REAL NOT NULL DEFAULT 0, run INTEGER NOT NULL DEFAULT 0);
     CREATE UNIQUE INDEX IF NOT EXISTS keys ON tasks (key) WHERE state != 'dead';
     CREATE INDEX IF NOT EXISTS states ON tasks (state, touched);
-    CREATE TABLE IF NOT EXISTS file (id TEXT NOT NULL);
+    CREATE TABLE IF NOT EXISTS file (id TEXT NOT NULL, run INTEGER NOT NULL DEFAULT 0, lost INTEGER NOT NULL DEFAULT 0);
 """
 _COLUMNS = "id, name, arguments, key, due, turn, failures, error, state"
 _OVERDUE = f"""
-    UPDATE tasks SET touched = :now, state = 'new', offers = offers + (state = 'waiting')
-    WHERE state = 'new' AND touched < :now - :unsent OR state = 'running' AND touched < :now - :stale
-    OR state = 'waiting' AND max(due, touched) < :now - :overdue * (1 << min(offers, 20)) RETURNING {_COLUMNS}
+    UPDATE tasks SET touched = :now, state = 'new', offers = offers + (state = 'waiting') WHERE id IN (
+        SELECT id FROM tasks WHERE state = 'new' AND touched < :now - :unsent
+        OR state = 'running' AND touched < :now - :stale
+        OR state = 'waiting' AND max(due, touched) < :now - :overdue * (1 << min(offers, 20)) LIMIT :most
+    ) RETURNING {_COLUMNS}
+"""
+# What was offered to a server that does not greet, too.
+_IN_DOUBT = """
+    UPDATE tasks SET state = 'new', touched = 0 WHERE state = 'waiting' AND (run = 0 OR run >= ?)
 """
 _REVIVED = f"""
     UPDATE tasks SET state = 'new', turn = turn + 1, failures = 0, due = :now, touched = :now
@@ -54,9 +68,10 @@ class Store:
 
     def __init__(self, path: str | os.PathLike[str]) -> None:
         """Raises `sqlite3.Error` if the file can't be used."""
-        self._path, self._process = path, 0
+        self._path = path
+        self._opened: list[tuple[int, sqlite3.Connection]] = []  # and by which process
         with self._transaction() as db:
-            db.execute("INSERT INTO file SELECT ? WHERE NOT EXISTS (SELECT 1 FROM file)", [uuid.uuid4().hex[:8]])
+            db.execute("INSERT INTO file (id) SELECT ? WHERE NOT EXISTS (SELECT 1 FROM file)", [uuid.uuid4().hex[:8]])
             (self.file,) = db.execute("SELECT id FROM file").fetchone()
 
     def add(self, name: str, arguments: str, key: str | None, due: float, now: float) -> StoredTask | None:
@@ -70,9 +85,29 @@ class Store:
             return None
         return task
 
-    def sent(self, task: StoredTask, now: float) -> None:
-        """The turn of a task was offered."""
-        self._change(task, "state = 'waiting', touched = ?", [now], "state = 'new'")
+    def sent(self, task: StoredTask, greeting: Greeting | None, now: float) -> None:
+        """The turn of a task was offered, in the run of this greeting. It stays `new` if that run is lost already."""
+        with self._transaction() as db:
+            run, lost = db.execute("SELECT run, lost FROM file").fetchone()
+            if greeting is not None and greeting.run > run:
+                self._hear(db, greeting)
+            elif greeting is not None and greeting.run < run and greeting.lost != lost:
+                return
+            db.execute("UPDATE tasks SET state = 'waiting', touched = ?, run = ? WHERE id = ? AND turn = ? "
+                       "AND state = 'new'", [now, greeting.run if greeting else 0, task.id, task.turn])
+
+    def greeted(self, greeting: Greeting) -> int:
+        """The broker has this run. If one was lost since the last that was heard of, what it may have had is `new`.
+        Gives how many tasks these are."""
+        with self._transaction() as db:
+            return self._hear(db, greeting)
+
+    def _hear(self, db: sqlite3.Connection, greeting: Greeting) -> int:
+        run, lost = db.execute("SELECT run, lost FROM file").fetchone()
+        db.execute("UPDATE file SET run = ?, lost = ?", [greeting.run, greeting.lost])
+        if greeting.lost == lost and greeting.run >= run:
+            return 0
+        return db.execute(_IN_DOUBT, [run if greeting.run > run else 0]).rowcount
 
     def claim(self, id: str, turn: int, owner: str, now: float) -> StoredTask | None:
         """The task of a turn that is delivered, from now on run by this owner; or, if it is `running`, by another one.
@@ -86,8 +121,8 @@ class Store:
             task = StoredTask(*columns)
             if task.state == "running" and touched > now - STALE:
                 return task
-            db.execute("UPDATE tasks SET state = 'running', offers = 0, owner = ?, touched = ? WHERE id = ?",
-                       [owner, now, id])
+            db.execute("UPDATE tasks SET state = 'running', offers = 0, owner = ?, touched = ?, began = ? WHERE id = ?",
+                       [owner, now, now, id])
         return replace(task, state="claimed")
 
     def done(self, task: StoredTask) -> None:
@@ -134,10 +169,16 @@ class Store:
         with self._transaction() as db:
             db.execute("UPDATE tasks SET touched = ? WHERE owner = ? AND state = 'running'", [now, owner])
 
+    def running(self, owner: str) -> list[tuple[float, StoredTask]]:
+        """The tasks that this owner runs, each with the moment at which it began."""
+        with self._transaction() as db:
+            rows = db.execute(f"SELECT began, {_COLUMNS} FROM tasks WHERE state = 'running' AND owner = ?", [owner])
+            return [(began, StoredTask(*it)) for began, *it in rows]
+
     def overdue(self, overdue: float, now: float) -> list[StoredTask]:
         """The tasks that are to be offered again: those that were not offered, those whose owner is dead, and those
         that are so many seconds overdue, or twice as many, and so on, after each time."""
-        words = {"now": now, "overdue": overdue, "unsent": UNSENT, "stale": STALE}
+        words = {"now": now, "overdue": overdue, "unsent": UNSENT, "stale": STALE, "most": AT_ONCE}
         with self._transaction() as db:
             return [StoredTask(*it) for it in db.execute(_OVERDUE, words).fetchall()]
 
@@ -148,10 +189,11 @@ class Store:
 
     @contextmanager
     def _transaction(self) -> Iterator[sqlite3.Connection]:
-        if self._process != os.getpid():  # a connection is that of one process, and no other may close it
-            self._lock, self._process, self._inherited = threading.Lock(), os.getpid(), vars(self).get("_db")
-            self._db = sqlite3.connect(self._path, timeout=30, isolation_level=None, check_same_thread=False)
-            self._db.executescript("PRAGMA journal_mode = WAL; PRAGMA synchronous = FULL;" + _TABLES)
-        with self._lock, self._db:  # which commits, or takes back what was done before an exception
-            self._db.execute("BEGIN IMMEDIATE")
-            yield self._db
+        with _USING:
+            if not self._opened or self._opened[-1][0] != os.getpid():  # no process may close what another has opened
+                db = sqlite3.connect(self._path, timeout=30, isolation_level=None, check_same_thread=False)
+                db.executescript("PRAGMA journal_mode = WAL; PRAGMA synchronous = FULL;" + _TABLES)
+                self._opened.append((os.getpid(), db))
+            with self._opened[-1][1] as db:  # which commits, or takes back what was done before an exception
+                db.execute("BEGIN IMMEDIATE")
+                yield db

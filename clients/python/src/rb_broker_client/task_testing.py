@@ -1,12 +1,15 @@
 """Tasks of a test, which run in its process, at moments that it sets."""
 
+import asyncio
 import heapq
 import time
+from concurrent.futures import ThreadPoolExecutor
 from typing import TYPE_CHECKING, Self
 
 from .durations import Duration, from_text
 from .job import Job
 from .task_store import Store
+from .waiting import Blocking, Looping, run
 
 if TYPE_CHECKING:
     from .tasks import Tasks
@@ -33,7 +36,12 @@ class Testing:
         while self._due and self._due[0][0] <= until:
             due, payload = heapq.heappop(self._due)
             self._now = max(due, self._now)
-            self._app._handle(Job(0, 0, 1, payload))
+            task = self._app._claim(Job(0, 0, 1, payload))
+            if task is not None and self._app._tasks[task.name].is_async:
+                with ThreadPoolExecutor(1) as thread:  # the caller's may have an event loop
+                    thread.submit(lambda it: asyncio.run(self._app._attempt(Looping, it)), task).result()
+            elif task is not None:
+                run(self._app._attempt(Blocking, task))
         self._now = until
 
     def _keep(self, payload: str, delay: float) -> None:

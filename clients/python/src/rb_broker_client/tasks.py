@@ -1,8 +1,10 @@
 """Durable tasks: functions that are called later, over a file of SQLite and a broker."""
 
+import asyncio
 import inspect
 import json
 import logging
+import math
 import os
 import random
 import ssl
@@ -10,20 +12,23 @@ import threading
 import time
 import traceback
 import uuid
-from collections.abc import Callable
+from collections.abc import Callable, Iterator
+from contextlib import contextmanager
 from datetime import datetime
 from functools import partial
 from typing import Any
 
 from .durations import Duration, from_text, seconds
 from .errors import BrokerError
-from .job import Job, Report
+from .job import Greeting, Job, Report
 from .producer import Producer
+from .task_processes import Processes
 from .task_store import STALE, Store, StoredTask
 from .task_testing import Testing
-from .worker import Worker
+from .waiting import Blocking, Kind, Looping, blocking
+from .worker import AsyncWorker, Worker
 
-__all__ = ["Backoff", "RetryLater", "StoredTask", "Task", "Tasks", "Testing", "exponential"]
+__all__ = ["Backoff", "Middleware", "RetryLater", "StoredTask", "Task", "Tasks", "Testing", "exponential"]
 
 log = logging.getLogger(__name__)
 
@@ -49,14 +54,29 @@ def exponential(first: Duration | str, most: Duration | str = "1h", jitter: floa
     return backoff
 
 
+class Middleware:
+    """What is told of each attempt of a task, in the thread in which its function runs, or in the loop. What it raises
+    is logged, and changes nothing."""
+
+    def before(self, task: StoredTask) -> None:
+        """The function is to be called."""
+
+    def after(self, task: StoredTask) -> None:
+        """It has returned."""
+
+    def failed(self, task: StoredTask, fault: BaseException) -> None:
+        """It has raised this. That it took too long, or that its process died, is told in the process that watches."""
+
+
 class Task:
     """A function that can be called later. To call it calls the function now."""
 
-    def __init__(self, app: "Tasks", function: Callable[..., object], name: str, attempts: int,
-                 backoff: Backoff) -> None:
+    def __init__(self, app: "Tasks", function: Callable[..., Any], name: str, attempts: int, backoff: Backoff,
+                 timeout: float) -> None:
         self.name, self.function, self.attempts, self.backoff, self._app = name, function, attempts, backoff, app
+        self.timeout, self.is_async = timeout, inspect.iscoroutinefunction(function)
         self._signature = inspect.signature(function)
-        if inspect.iscoroutinefunction(function) or inspect.isgeneratorfunction(function):
+        if inspect.isgeneratorfunction(function) or inspect.isasyncgenfunction(function):
             raise TypeError(f"a task is a function that runs to its end, not {function!r}")
         if "key" in self._signature.parameters:
             raise TypeError(f"`key` is the key of a task, and no parameter of {function!r}")
@@ -94,24 +114,36 @@ class Tasks:
         `overdue` by so much is offered again, since the broker may have lost it."""
         self._store, self._overdue = Store(path), seconds(overdue)
         self._producer = Producer(port, host, patience=patience, may_double=True, tls=tls)
-        self._worker_of = partial(Worker, self._handle, port, host, tls=tls)
-        self._send: Callable[[str, float], object] = lambda payload, delay: self._producer.offer(payload, delay=delay)
+        self._place: Any = {"port": port, "host": host, "tls": tls}
+        self._send: Callable[[str, float], Greeting | None] = lambda payload, delay: self._producer.offer(
+            payload, delay=delay).greeting
         self._now: Callable[[], float] = time.time
         self._tasks: dict[str, Task] = {}
+        self._middleware: list[Middleware] = []
         self._owner, self._is_over = "", threading.Event()
-        self._worker: Worker | None = None
+        self._worker: Worker | AsyncWorker | None = None
+        self._producer._run.on_greeting = self._greeted
 
-    def task(self, *, attempts: int = 8, backoff: Backoff = exponential("10s"),
-             name: str | None = None) -> Callable[[Callable[..., object]], Task]:
-        """Makes a task of a function. It has so many attempts, and `backoff` says how long after a failure the next one
-        is. Its name, by default that of the function with its module, is in the file: keep it."""
-        def make(function: Callable[..., object]) -> Task:
-            task = Task(self, function, name or f"{function.__module__}.{function.__qualname__}", attempts, backoff)
+    def task(self, *, attempts: int = 8, backoff: Backoff = exponential("10s"), timeout: Duration | None = None,
+             name: str | None = None) -> Callable[[Callable[..., Any]], Task]:
+        """Makes a task of a function, which may be a coroutine function. It has so many attempts, and `backoff` says
+        how long after a failure the next one is. One that takes longer than `timeout` fails: a coroutine is cancelled,
+        and any other function ends with its process, if `run` has `processes`. Its name, by default that of the
+        function with its module, is in the file: keep it."""
+        limit = math.inf if timeout is None else seconds(timeout)
+
+        def make(function: Callable[..., Any]) -> Task:
+            task = Task(self, function, name or f"{function.__module__}.{function.__qualname__}", attempts, backoff,
+                        limit)
             if self._tasks.setdefault(task.name, task) is not task:
                 raise ValueError(f"there is a task of this name: {task.name}")
             return task
 
         return make
+
+    def use(self, *middleware: Middleware) -> None:
+        """Tells these of each attempt, the first one first; and the last one first of what became of it."""
+        self._middleware += middleware
 
     def cancel(self, key: str) -> bool:
         """Cancels the task of this key. Gives whether there was one that had not begun."""
@@ -133,19 +165,11 @@ class Tasks:
         """Has tasks run in this process alone, for a test: `with app.testing() as moments: ..`."""
         return Testing(self)
 
-    def run(self, threads: int = 4) -> Report:
-        """Runs tasks until `stop`, so many at the same time. Several processes may run those of one file."""
-        self._owner, self._worker = uuid.uuid4().hex, self._worker_of(concurrency=threads)
-        keepers = [threading.Thread(target=it, name="rb_broker_client-keeps", daemon=True)
-                   for it in (self._keep_alive, self._keep_offered)]
-        for it in keepers:
-            it.start()
-        try:
-            return Report() if self._is_over.is_set() else self._worker.run()
-        finally:
-            self._is_over.set()
-            for it in keepers:
-                it.join()
+    def run(self, threads: int = 4, processes: int = 0) -> Report:
+        """Runs tasks until `stop`, so many at the same time, in threads; in one event loop, if there are coroutine
+        functions among them. With `processes` it does so in each of so many, which it begins by a fork, and ends one
+        whose task takes too long. Several such calls may run the tasks of one file."""
+        return Processes(self, threads, processes).run() if processes else self._run(threads, uuid.uuid4().hex)
 
     def stop(self, *_: object) -> None:
         """Lets `run` end once the tasks in hand have ended. It can be a signal's handler."""
@@ -157,6 +181,27 @@ class Tasks:
         """Ends the session of what offers."""
         self._producer.close()
 
+    def _run(self, threads: int, owner: str) -> Report:
+        if any(it.is_async for it in self._tasks.values()):
+            handler = partial(self._handle, Looping)
+            worker: Worker | AsyncWorker = AsyncWorker(handler, concurrency=threads, **self._place)
+        else:
+            worker = Worker(blocking(partial(self._handle, Blocking)), concurrency=threads, **self._place)
+        worker._run_known.on_greeting = self._greeted
+        self._owner, self._worker = owner, worker
+        keepers = [threading.Thread(target=it, name="rb_broker_client-keeps", daemon=True)
+                   for it in (self._keep_alive, self._keep_offered)]
+        for it in keepers:
+            it.start()
+        try:
+            if self._is_over.is_set():
+                return Report()
+            return asyncio.run(worker.run()) if isinstance(worker, AsyncWorker) else worker.run()
+        finally:
+            self._is_over.set()
+            for it in keepers:
+                it.join()
+
     def _add(self, name: str, arguments: str, key: str | None, delay: float) -> str | None:
         now = self._now()
         task = self._store.add(name, arguments, key, now + delay, now)
@@ -166,46 +211,84 @@ class Tasks:
 
     def _offer(self, task: StoredTask) -> bool:
         try:
-            self._send(f"{self._store.file}.{task.id}.{task.turn}", max(task.due - self._now(), 0))
+            greeting = self._send(f"{self._store.file}.{task.id}.{task.turn}", max(task.due - self._now(), 0))
         except (BrokerError, OSError) as fault:
             log.warning("task %s of %s is offered later, from the file: %s", task.id, task.name, fault)
             return False
-        self._store.sent(task, self._now())
+        self._store.sent(task, greeting, self._now())
         return True
 
-    def _handle(self, job: Job) -> None:
+    def _greeted(self, greeting: Greeting) -> None:
+        if lost := self._store.greeted(greeting):
+            log.warning("the broker has lost a run, and %d tasks that it may have had are offered again", lost)
+
+    async def _handle(self, kind: Kind, job: Job) -> None:
+        task = await kind.apart(partial(self._claim, job))
+        if task is not None:
+            await self._attempt(kind, task)
+
+    async def _attempt(self, kind: Kind, task: StoredTask) -> None:
+        fault = None
+        try:
+            await self._call(kind, task, self._tasks[task.name])
+        except Exception as raised:
+            fault = raised
+        except BaseException:  # such as a cancellation
+            await kind.apart(partial(self._store.release, task, self._now()))
+            raise
+        await kind.apart(partial(self._fail, task, fault) if fault else partial(self._store.done, task))
+
+    async def _call(self, kind: Kind, task: StoredTask, function: Task) -> None:
+        words, options = json.loads(task.arguments)
+
+        def call() -> None:
+            with self._told(task):
+                function.function(*words, **options)
+
+        if not function.is_async:
+            await kind.apart(call)
+            return
+        with self._told(task):
+            async with asyncio.timeout(None if function.timeout == math.inf else function.timeout):
+                await function.function(*words, **options)
+
+    @contextmanager
+    def _told(self, task: StoredTask) -> Iterator[None]:
+        self._tell(self._middleware, "before", task)
+        try:
+            yield
+        except BaseException as fault:
+            self._tell(self._middleware[::-1], "failed", task, fault)
+            raise
+        self._tell(self._middleware[::-1], "after", task)
+
+    def _tell(self, middleware: list[Middleware], what: str, *words: object) -> None:
+        for it in middleware:
+            try:
+                getattr(it, what)(*words)
+            except Exception:
+                log.exception("%s of %r failed", what, it)
+
+    def _claim(self, job: Job) -> StoredTask | None:
         file, _, rest = job.payload.partition(".")
         id, _, turn = rest.partition(".")
         if file != self._store.file or not turn.isdecimal():
             raise LookupError(f"{job.payload} is no task of this file, and is left for another worker")
         task = self._store.claim(id, int(turn), self._owner, self._now())
         if task is None:
-            return  # it was done, or is cancelled, or was offered more than once
+            return None  # it was done, or is cancelled, or was offered more than once
         if task.state == "running":  # elsewhere: if that was killed nobody else would come back to it so soon
             self._send(job.payload, STALE)
-            return
-        function = self._tasks.get(task.name)
-        if function is not None:
-            self._run(task, function)
-            return
+            return None
+        if task.name in self._tasks:
+            return task
         log.warning("task %s is left for another worker: no function here is named %s", task.id, task.name)
         self._store.release(task, self._now())
-        self._store.sent(task, self._now())
-        self._send(job.payload, STALE)
+        self._store.sent(task, self._send(job.payload, STALE), self._now())
+        return None
 
-    def _run(self, task: StoredTask, function: Task) -> None:
-        words, options = json.loads(task.arguments)
-        try:
-            function(*words, **options)
-        except Exception as fault:
-            self._fail(task, function, fault)
-        except BaseException:
-            self._store.release(task, self._now())
-            raise
-        else:
-            self._store.done(task)
-
-    def _fail(self, task: StoredTask, function: Task, fault: Exception) -> None:
+    def _fail(self, task: StoredTask, fault: Exception) -> None:
+        function = self._tasks[task.name]
         failures, error = task.failures + 1, "".join(traceback.format_exception(fault))
         if failures >= function.attempts:
             log.error("task %s of %s failed in its last attempt, %d\n%s", task.id, task.name, failures, error)
@@ -222,6 +305,8 @@ class Tasks:
 
     def _keep_offered(self) -> None:
         while True:
-            all(self._offer(it) for it in self._store.overdue(self._overdue, self._now()))  # the rest once one is
+            while found := self._store.overdue(self._overdue, self._now()):
+                if self._is_over.is_set() or not all(self._offer(it) for it in found):
+                    break  # the rest later
             if self._is_over.wait(STALE / 2):
                 return

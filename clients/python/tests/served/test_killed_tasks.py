@@ -66,7 +66,7 @@ class KilledTasksTest(ServedTest):
             if number % (TASKS // KILLS) == TASKS // KILLS - 1:
                 killed += self.kill(*random.choice(((True, 0), (False, 1), (True, PROCESSES))))
         killed += self.kill(True, PROCESSES)
-        waiting = lambda: app._store._db.execute("SELECT count(*) FROM tasks").fetchone()[0]
+        waiting = lambda: app._store._opened[-1][1].execute("SELECT count(*) FROM tasks").fetchone()[0]
         self.wait_until(lambda: waiting() == 0, 5 * PATIENCE)
         with open(self.path("done"), encoding="ascii") as file:
             done = Counter(int(it.split()[0]) for it in file)

@@ -1,11 +1,15 @@
 """Tasks in this process, at moments that the tests set, and what is in their file."""
+import asyncio
+import os
+import threading
 import time
+import unittest.mock
 from datetime import datetime, timedelta, timezone
 
-from scripted import ScriptedTest, free_port
+from scripted import PATIENCE, ScriptedTest, free_port
 from test_command import run
-from rb_broker_client import Job
-from rb_broker_client.tasks import RetryLater, Tasks, exponential
+from rb_broker_client import Greeting, Job, Report, waiting
+from rb_broker_client.tasks import Middleware, RetryLater, Tasks, exponential
 
 app = None  # that of a test, for the command
 
@@ -94,7 +98,111 @@ class TasksTest(ScriptedTest):
             self.passes(moments, (5, 0))
             self.app._tasks["note"] = self.note
             self.passes(moments, (10, 1))
-            self.assertRaises(LookupError, self.app._handle, Job(0, 0, 1, "00000000.0000.1"))
+            self.assertRaises(LookupError, self.app._claim, Job(0, 0, 1, "00000000.0000.1"))
+
+    def test_after_a_lost_run_what_is_not_known_to_wait_is_offered_again(self):
+        """Each task is named by the run that it was offered in, or is done, dead or runs."""
+        store, now, ids = self.app._store, time.time(), {}
+        for name, run in {"7": 7, "8": 8, "done": 8, "runs": 8, "dead": 8, "none": None, "9": 9}.items():
+            task = store.add("note", "[]", name, now, now)
+            ids[task.id] = name
+            store.sent(task, run and Greeting(run, 4 + (run > 8), 0), now)
+            claimed = store.claim(task.id, 1, "other", now) if name in ("done", "runs", "dead") else None
+            if name == "done":
+                store.done(claimed)
+            elif name == "dead":
+                store.bury(claimed, "", now)
+        self.assertEqual({ids[it.id] for it in store.overdue(60, now)}, {"8", "none"})
+        late = store.add("note", "[]", None, now, now)
+        store.sent(late, Greeting(8, 4, 0), now)  # which was lost before it was known to be accepted
+        self.assertEqual([it.id for it in store.overdue(60, now + 6) if it.state == "new"][-1], late.id)
+        self.assertEqual([store.greeted(Greeting(*it, 0)) for it in ((9, 5), (10, 5), (12, 5))], [0, 0, 0])
+        self.assertEqual((store.greeted(Greeting(1, 0, 0)), {ids[it.id] for it in store.overdue(60, now)}),
+                         (2, {"7", "9"}))  # another service
+
+    def test_coroutine_functions(self):
+        async def wait(seconds):
+            self.seen.append(seconds)
+            await asyncio.sleep(seconds)
+
+        waits = self.app.task(name="wait", attempts=1, timeout=0.2)(wait)
+        with self.app.testing() as moments:
+            for seconds in (0, 5):
+                waits.later(0, seconds)
+            self.passes(moments, (0, 2))
+            (dead,) = self.app.dead()
+        self.assertEqual((sorted(self.seen), dead.arguments), ([0, 5], "[[5], {}]"))
+        self.assertRegex(dead.error, "TimeoutError\n$")
+
+    def test_middleware_is_told_of_each_attempt_and_changes_nothing(self):
+        told = []
+
+        class Told(Middleware):
+            def __init__(self, name):
+                self.name = name
+
+            def __getattribute__(self, what):
+                name = object.__getattribute__(self, "name")
+                if what in ("before", "after", "failed"):
+                    return lambda task, *fault: told.append((name, what, task.name, *map(str, fault)))
+                return name
+
+        self.app.use(Told("one"), Middleware(), Told("other"))
+        self.raises = [ValueError("a")]
+        with self.app.testing() as moments:
+            self.note.later(0)
+            self.passes(moments, (0, 1), (10, 2))
+            for name in ("other", "one"):
+                self.assertEqual(told.pop(-2 if name == "other" else -1), (name, "after", "note"))
+            self.assertEqual(told, [("one", "before", "note"), ("other", "before", "note"),
+                                    ("other", "failed", "note", "a"), ("one", "failed", "note", "a"),
+                                    ("one", "before", "note"), ("other", "before", "note")])
+            self.app.use(unittest.mock.Mock(spec=Middleware, before=unittest.mock.Mock(side_effect=OSError)))
+            self.note.later(0)
+            with self.logged() as said:
+                self.passes(moments, (0, 3), ("1d", 3))
+            self.assertRegex(said[0], "(?s)before of .*OSError")
+
+    def test_four_tasks_that_hang_are_ended_with_their_processes_and_stop_nobody(self):
+        """The processes take their tasks out of the file: there is no server."""
+        hang = self.app.task(name="hang", attempts=1, timeout=0.2)(lambda: time.sleep(60))
+        dies = self.app.task(name="dies", attempts=1)(lambda: os._exit(3))
+        touches = self.app.task(name="touch")(lambda name: open(f"{self.path}.{name}", "w").close())
+        for it in (*[hang] * 4, dies):
+            it.later(0)
+        names = [str(it) for it in range(8)]
+        for it in names:
+            touches.later(0, it)
+        is_done = lambda: len(self.app.dead()) == 5 and all(os.path.exists(f"{self.path}.{it}") for it in names)
+
+        def stop():
+            deadline = time.monotonic() + PATIENCE
+            while not is_done() and time.monotonic() < deadline:
+                time.sleep(0.05)
+            self.app.stop()
+
+        with unittest.mock.patch.object(self.app, "_run", self.run_from_file), \
+                unittest.mock.patch("rb_broker_client.task_store.AT_ONCE", 1):
+            threading.Thread(target=stop, daemon=True).start()
+            self.assertEqual(self.app.run(2, processes=2), Report(done=2))
+        self.assertTrue(is_done())
+        self.assertEqual({it.error.strip().splitlines()[-1] for it in self.app.dead()}, {
+            "TimeoutError: it took too long, and was ended with its process",
+            "TimeoutError: its process ended with status 3"})
+
+    def run_from_file(self, threads, owner):
+        def work():
+            while not self.app._is_over.wait(0.01):
+                for it in self.app._store.overdue(60, time.time() + 6):
+                    task = self.app._store.claim(it.id, it.turn, owner, time.time())
+                    waiting.run(self.app._attempt(waiting.Blocking, task))
+
+        workers = [threading.Thread(target=work, daemon=True) for _ in range(threads)]
+        for it in workers:
+            it.start()
+        for it in workers:
+            it.join()
+        return Report(done=1)
 
     def test_dead_tasks_by_the_command(self):
         store, now = self.app._store, time.time()

@@ -1,0 +1,102 @@
+"""Processes that run the tasks of an app, one of which is ended with a task that hangs."""
+
+import multiprocessing
+import os
+import signal
+import threading
+import time
+import uuid
+from dataclasses import astuple, dataclass
+from multiprocessing.connection import Connection
+from typing import TYPE_CHECKING, Any
+
+from .job import Report
+from .task_store import StoredTask
+
+if TYPE_CHECKING:
+    from .tasks import Tasks
+
+LOOK = 0.5  # seconds between two looks at the processes
+
+
+@dataclass
+class _Child:
+    owner: str  # of its tasks, in the file
+    process: Any
+    report: Connection
+
+
+class Processes:
+    """So many processes, each of which runs tasks in so many threads. One is killed when a task of it takes longer than
+    its `timeout`, whatever it does, and one that has ended is replaced. That task has failed; the others that the
+    process ran are offered again. If a process dies by itself, each task that it ran has failed."""
+
+    def __init__(self, app: "Tasks", threads: int, count: int) -> None:
+        self._app, self._threads, self._count = app, threads, count
+        self._children: list[_Child] = []
+
+    def run(self) -> Report:
+        """Runs them until the app is stopped. The report has what the processes told that were not killed."""
+        reports = [Report()]
+        while not self._app._is_over.is_set():
+            for child in [*self._children]:
+                self._look_after(child)
+            while len(self._children) < self._count:
+                self._children.append(self._begin())
+            time.sleep(LOOK)  # and waits for no lock, which the handler of a signal could want
+        for child in self._children:
+            child.process.terminate()
+        while self._children:
+            for child in [*self._children]:
+                child.process.join(LOOK / len(self._children))
+                self._look_after(child)
+                if child.process.exitcode == 0:
+                    reports.append(child.report.recv())
+        return Report(*map(sum, zip(*map(astuple, reports))))
+
+    def _begin(self) -> _Child:
+        context = multiprocessing.get_context("fork")
+        owner, (reader, writer) = uuid.uuid4().hex, context.Pipe(duplex=False)
+        process = context.Process(target=self._work, args=[owner, writer, os.getpid()])
+        process.start()
+        writer.close()
+        return _Child(owner, process, reader)
+
+    def _work(self, owner: str, report: Connection, parent: int) -> None:
+        signal.signal(signal.SIGINT, signal.SIG_IGN)  # a terminal's is for all, and the parent tells
+        signal.signal(signal.SIGTERM, self._app.stop)
+
+        def watch() -> None:
+            while os.getppid() == parent:
+                time.sleep(LOOK)
+            self._app.stop()
+
+        threading.Thread(target=watch, daemon=True).start()
+        report.send(self._app._run(self._threads, owner))
+
+    def _look_after(self, child: _Child) -> None:
+        hung = [] if child.process.exitcode is not None else self._hung(child)
+        if hung:
+            child.process.kill()
+            child.process.join()
+        if child.process.exitcode is None:
+            return
+        self._children.remove(child)
+        for _, task in self._app._store.running(child.owner):
+            if not hung:
+                self._fail(task, f"its process ended with status {child.process.exitcode}")
+            elif task in hung:
+                self._fail(task, "it took too long, and was ended with its process")
+            else:
+                self._app._store.release(task, self._app._now())
+                self._app._offer(task)
+
+    def _hung(self, child: _Child) -> list[StoredTask]:
+        now, tasks = self._app._now(), self._app._tasks
+        return [it for began, it in self._app._store.running(child.owner)
+                if it.name in tasks and now - began > tasks[it.name].timeout]
+
+    def _fail(self, task: StoredTask, text: str) -> None:
+        fault = TimeoutError(text)
+        self._app._tell(self._app._middleware[::-1], "failed", task, fault)
+        self._app._fail(task, fault)
