@@ -2,7 +2,6 @@
 
 import re
 from dataclasses import astuple, dataclass, field, fields
-from datetime import datetime
 from typing import Any, ClassVar, Self
 
 from .errors import NotHeldError
@@ -25,8 +24,8 @@ class Offered:
 
 @dataclass(frozen=True)
 class Greeting:
-    """What a server of a service says first in each session: the number of its run, how many were lost before it, and
-    the moment of its clock."""
+    """What a server of a service says first in each session: the number of its run, how many were lost before, and the
+    moment of its clock at which it began."""
 
     run: int
     lost: int
@@ -41,11 +40,11 @@ class Greeting:
 
 @dataclass(frozen=True)
 class LostRun:
-    """What a server has lost: what it accepted between these two, by the clock of this machine, is in doubt. Without a
-    `since` that is all before."""
+    """What a server has lost: what it accepted from a moment of its clock up to another, at which its present run began,
+    is in doubt. The moment of an offer is its expiry less its delay."""
 
-    since: datetime | None
-    until: datetime
+    since_ns: int
+    until_ns: int
 
 
 @dataclass(frozen=True, eq=False, repr=False)

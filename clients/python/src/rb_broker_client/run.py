@@ -2,14 +2,15 @@
 
 import logging
 from collections.abc import Callable
-from datetime import datetime, timezone
 from threading import Thread
 from typing import Any
 
-from .job import Greeting, LostRun
+from .job import GREATEST_NUMBER, Greeting, LostRun
 
 SHARDS = 64  # queues that a broker on Redis may have under one name, by whose number ids count
 PIECE, MOST_PIECES = 1_024, 4_096  # ids of one number, of each a bit, and how many of these are kept
+
+_ALL = LostRun(0, GREATEST_NUMBER)
 
 
 def _ignore(_: object) -> None:
@@ -26,9 +27,7 @@ class Run:
         self._log, self.place, self._is_away = log, place, False
         self._on_lost_run: Callable[[LostRun], object] = on_lost_run or _ignore
         self.on_greeting: Callable[[Greeting], object] = _ignore  # called with the first one of each run
-        self.greeting: Greeting | None = None  # the last one
-        self._since: datetime | None = None  # when one of a run before that was heard for the last time
-        self._heard: datetime | None = None
+        self._greeting: Greeting | None = None  # the last one
         self._offers: dict[int, tuple[int, int]] = {}  # of each queue: its last id and moment
         self._given: dict[int, int] = {}  # bits of ids, in pieces
         self._returned: dict[int, int] = {}
@@ -47,17 +46,17 @@ class Run:
             self._greeted(greeting)
 
     def _greeted(self, now: Greeting) -> None:
-        last, self.greeting, moment = self.greeting, now, datetime.now(timezone.utc)
-        if last is None or (last.run, last.lost) != (now.run, now.lost):
-            self._tell(self.on_greeting, now)
-            if last is not None and (now.lost != last.lost or now.run < last.run):
-                lost = LostRun(self._since, moment)
-                self._log.warning("the server at %s has lost a run: what it accepted from %s to %s is in doubt",
-                                  self.place, lost.since or "its beginning", lost.until)
-                self._forget()
-                self._tell(self._on_lost_run, lost)
-            self._since = self._heard
-        self._heard = moment
+        last, self._greeting = self._greeting, now
+        if now == last:
+            return
+        self._tell(self.on_greeting, now)
+        if last is not None and (now.lost != last.lost or now.run < last.run):
+            is_same = now.run > last.run and now.at_ns >= last.at_ns  # service: its clock goes on
+            lost = LostRun(last.at_ns, now.at_ns) if is_same else _ALL
+            self._log.warning("the server at %s has lost a run: what it accepted in the %.1f seconds before its run %d "
+                              "is in doubt", self.place, (lost.until_ns - lost.since_ns) / 1e9, now.run)
+            self._forget()
+            self._tell(self._on_lost_run, lost)
 
     def offered(self, id: int, moment: int) -> None:
         """An offer was accepted under this id, at this moment."""
@@ -88,7 +87,7 @@ class Run:
         self._log.error("the server at %s has lost its run: it %s. What stood in its queue is gone, and ids of that "
                         "run name other jobs now", self.place, sign)
         self._forget()
-        self._tell(self._on_lost_run, LostRun(None, datetime.now(timezone.utc)))
+        self._tell(self._on_lost_run, _ALL)
 
     def _forget(self) -> None:
         self._offers.clear()

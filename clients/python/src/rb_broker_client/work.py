@@ -183,8 +183,10 @@ class Work:
         self.given += jobs
 
     def _not_fetched(self, refused: BrokerError, asked: float) -> None:
-        if isinstance(refused, StoppedError) and self.greeting and not self._asked:
-            self._end = monotonic()  # nothing was sent behind this wait that could have ended it: the run is to end
+        if isinstance(refused, StoppedError) and self.greeting:
+            if not self._asked:  # nothing was sent behind this wait that could have ended it: the run is to end
+                self._end = monotonic()
+                self.is_used_up = self._end < self._began + 1.0  # or no wait lasts here, and there is to be a pause
         elif isinstance(refused, (StoppedError, OutOfMemoryError)):
             if asked < self._next_try:
                 return  # one that was asked before it was refused, too

@@ -2,14 +2,13 @@
 import threading
 import time
 import unittest
-from datetime import datetime, timezone
 from unittest.mock import Mock
 
 from from_threads import for_both_kinds
 from scripted import PATIENCE
 from test_producer import ProducerCase, offer
 from worker_case import A, LAST, WorkerCase, paragraphs
-from rb_broker_client import Greeting, NotOfferedError, Offered, Report, UnknownReplyError
+from rb_broker_client import Greeting, LostRun, NotOfferedError, Offered, Report, UnknownReplyError
 from rb_broker_client.run import Run
 
 
@@ -25,30 +24,20 @@ class RunTest(unittest.TestCase):
                     self.assertEqual(log.error.call_count + log.warning.call_count, sight.endswith(" lost"))
                     log.reset_mock()
 
-    def test_what_is_in_doubt_begins_when_a_run_before_was_heard_for_the_last_time(self):
+    def test_what_is_in_doubt_begins_with_the_last_run_that_was_heard_of(self):
         told, heard = [], []
         run = Run(Mock(), "a place", told.append)
         run.on_greeting = heard.append
-        for greeting in (Greeting(3, 0, 0), Greeting(3, 0, 1), Greeting(4, 0, 2), Greeting(4, 0, 3), Greeting(5, 1, 4),
-                         Greeting(6, 2, 5)):
-            before = datetime.now(timezone.utc)
+        for greeting in (Greeting(3, 0, 10), Greeting(3, 0, 10), Greeting(4, 0, 20), Greeting(7, 1, 50),
+                         Greeting(1, 1, 70), Greeting(2, 2, 60)):
             run.served(greeting)
-            wait_for(lambda: len(heard) == greeting.run - 2)
-            if greeting.at_ns == 1:
-                last = before, datetime.now(timezone.utc)
-        wait_for(lambda: len(told) == 2)
-        first, second = sorted(told, key=lambda it: it.until)
-        self.assertTrue(last[0] <= first.since <= last[1] <= second.since <= first.until <= before <= second.until)
-
-    def test_without_a_run_before_nothing_is_known(self):
-        told = []
-        run = Run(Mock(), "a place", told.append)
-        run.served(Greeting(3, 0, 0))
-        run.served(Greeting(4, 1, 0))
+            wait_for(lambda: heard and heard[-1] == greeting)
         run.given(5)
         run.given(5)
-        wait_for(lambda: len(told) == 2)
-        self.assertEqual([it.since for it in told], [None, None])
+        everything = LostRun(0, 2**64 - 1)
+        wait_for(lambda: len(told) == 4)
+        self.assertEqual(told, [LostRun(20, 50), *[everything] * 3])
+        self.assertEqual(len(heard), 5)
 
     def test_what_was_seen_long_ago_is_forgotten(self):
         """A worker of a broker that gives ids for years keeps few of them."""
@@ -66,7 +55,7 @@ def wait_for(is_so):
         time.sleep(0.001)
 
 
-GREETS = "AT 0 > RUN {} lost {} at 5, ERR 1 syntax"
+GREETS = "AT 0 > RUN {} lost {} at {}, ERR 1 syntax"
 
 
 @for_both_kinds
@@ -85,16 +74,17 @@ class ProducerTest(ProducerCase):
 
     def test_a_producer_is_told_what_its_server_has_lost(self):
         told = []
-        producer = self.produce(f"{GREETS.format(7, 2)}; OFFER 5 a > OFFERED 0 5; > hangs up",
-                                f"{GREETS.format(8, 3)}; OFFER 5 b > OFFERED 1 9", on_lost_run=told.append)
+        first, following = GREETS.format(7, 2, 5), GREETS.format(8, 3, 3_000_000_005)
+        producer = self.produce(f"{first}; OFFER 5 a > OFFERED 0 5; > hangs up",
+                                f"{following}; OFFER 5 b > OFFERED 1 9", on_lost_run=told.append)
         offered = offer(producer, "a")
         self.assertEqual((offered, offered.greeting), (Offered(0, 5), Greeting(7, 2, 5)))
         self.assert_session_ends()
         with self.logged("WARNING") as said:
             self.assertEqual(offer(producer, "b").greeting.run, 8)
-        self.assertIn("has lost a run: what it accepted from its beginning to 20", said[0])
+        self.assertIn("has lost a run: what it accepted in the 3.0 seconds before its run 8 is in doubt", said[0])
         wait_for(lambda: told)
-        self.assertEqual(len(told), 1)
+        self.assertEqual(told, [LostRun(5, 3_000_000_005)])
 
     def test_what_a_producer_says_that_waits(self):
         is_over = threading.Event()
@@ -126,17 +116,18 @@ class WorkerTest(WorkerCase):
             raise ValueError("of the caller")
 
         with self.logged("WARNING") as said:
-            self.assert_reports(Report(done=2), f"{GREETS.format(7, 2)}; {A}; WAIT > hangs up",
-                                f"{GREETS.format(9, 3)}; {A}; {LAST}", on_lost_run=fail)
+            self.assert_reports(Report(done=2), f"{GREETS.format(7, 2, 5)}; {A}; WAIT > hangs up",
+                                f"{GREETS.format(9, 3, 8)}; {A}; {LAST}", on_lost_run=fail)
             wait_for(lambda: "of the caller" in said[-1])
         self.assertEqual((len(told), len(said)), (1, 2))
 
     def test_a_server_that_greets_ends_a_session_and_the_worker_goes_on_at_the_next(self):
-        greets = GREETS.format(7, 2)
+        greets = GREETS.format(7, 2, 5)
         with self.logged("WARNING") as said:
             self.assert_reports(Report(done=3, again=1), f"{greets}; {A}; WAIT > STOPPED; QUIT",
                                 f"{greets}; WAIT > ITEM 1 0 1 a; DONE 1; WAIT > STOPPED; > hangs up",
-                                f"{greets}; WAIT > ITEM 2 0 1 b; FAIL 2 > AGAIN 3 5; WAIT > ITEM 4 0 1 a; DONE 4; {LAST}")
+                                f"{greets}; WAIT > ITEM 2 0 1 b; FAIL 2 > AGAIN 3 5; WAIT > ITEM 4 0 1 a; DONE 4; "
+                                f"{LAST}")
         self.assertEqual([it.partition("\n")[0] for it in said],
                          ["WARNING:rb_broker_client.worker:attempt 1 of job b failed"])
 
