@@ -116,6 +116,8 @@ def _parser() -> argparse.ArgumentParser:
     added.add_argument("app", type=partial(_named, Tasks), metavar="MODULE:APP", help="an object of the class Tasks")
     added.add_argument("ids", nargs="*", metavar="ID", help="which to offer again, as `dead` shows them (default: all)")
     added.add_argument("--threads", type=_whole(1, MOST_HELD), default=4, metavar="N", help="of `run` (default: 4)")
+    added.add_argument("--processes", type=_whole(0, 1_000), default=0, metavar="N",
+                       help="so many processes, each with its threads, of which one ends with a task that hangs")
     return parser
 
 
@@ -161,7 +163,7 @@ def _tasks(asked: Asked) -> Iterator[str]:
     if asked.action == "run":
         logging.basicConfig(level=logging.INFO, format="%(asctime)s %(levelname)s %(message)s")
         _stop_by_signals(app.stop)
-        yield _told(app.run(asked.threads))
+        yield _told(app.run(asked.threads, asked.processes))
     elif asked.action == "again":
         yield f"offered {app.again(*(asked.ids or [it.id for it in app.dead()]))}"
     else:

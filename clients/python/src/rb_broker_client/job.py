@@ -24,8 +24,8 @@ class Offered:
 
 @dataclass(frozen=True)
 class Greeting:
-    """What a server of a service says first in each session: the number of its run, how many were lost before, and the
-    moment of its clock at which it began."""
+    """What a server of a service says first in each session: the number of its run, how many were lost before it, and
+    the moment of its clock at which it began."""
 
     run: int
     lost: int
@@ -40,8 +40,8 @@ class Greeting:
 
 @dataclass(frozen=True)
 class LostRun:
-    """What a server has lost: what it accepted from a moment of its clock up to another, at which its present run began,
-    is in doubt. The moment of an offer is its expiry less its delay."""
+    """What a server has lost: what it accepted from a moment of its clock on, until its present run began, is in doubt.
+    The moment of an offer is its expiry less its delay."""
 
     since_ns: int
     until_ns: int

@@ -124,13 +124,14 @@ class Tasks:
         self._worker: Worker | AsyncWorker | None = None
         self._producer._run.on_greeting = self._greeted
 
-    def task(self, *, attempts: int = 8, backoff: Backoff = exponential("10s"), timeout: Duration | None = None,
+    def task(self, *, attempts: int = 8, backoff: Backoff = exponential("10s"),
+             timeout: Duration | str | None = None,
              name: str | None = None) -> Callable[[Callable[..., Any]], Task]:
         """Makes a task of a function, which may be a coroutine function. It has so many attempts, and `backoff` says
         how long after a failure the next one is. One that takes longer than `timeout` fails: a coroutine is cancelled,
         and any other function ends with its process, if `run` has `processes`. Its name, by default that of the
         function with its module, is in the file: keep it."""
-        limit = math.inf if timeout is None else seconds(timeout)
+        limit = math.inf if timeout is None else seconds(from_text(timeout))
 
         def make(function: Callable[..., Any]) -> Task:
             task = Task(self, function, name or f"{function.__module__}.{function.__qualname__}", attempts, backoff,

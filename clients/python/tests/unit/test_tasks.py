@@ -165,7 +165,7 @@ class TasksTest(ScriptedTest):
 
     def test_four_tasks_that_hang_are_ended_with_their_processes_and_stop_nobody(self):
         """The processes take their tasks out of the file: there is no server."""
-        hang = self.app.task(name="hang", attempts=1, timeout=0.2)(lambda: time.sleep(60))
+        hang = self.app.task(name="hang", attempts=1, timeout="200ms")(lambda: time.sleep(60))
         dies = self.app.task(name="dies", attempts=1)(lambda: os._exit(3))
         touches = self.app.task(name="touch")(lambda name: open(f"{self.path}.{name}", "w").close())
         for it in (*[hang] * 4, dies):
