@@ -14,6 +14,8 @@ final class Contact {
     private static final int DRIFT = 4_096;
 
     final Runs runs;
+    /** What the server said first, or null if it is one that does not greet. */
+    final Greeting greeting;
     /** What was told last of each queue before the session began. */
     final Map<Integer, Told> before;
     private final long since = System.nanoTime();
@@ -49,8 +51,9 @@ final class Contact {
     }
 
     /** A server has just answered in a session for the first time. Before that this was told last of its queues. */
-    Contact(Runs runs, Map<Integer, Told> before) {
+    Contact(Runs runs, Greeting greeting, Map<Integer, Told> before) {
         this.runs = runs;
+        this.greeting = greeting;
         this.before = Map.copyOf(before);
     }
 
@@ -63,14 +66,16 @@ final class Contact {
 
     /**
      * Whether the server here surely has all that the server of an earlier contact had: it is the same one, or
-     * continues its run.
+     * continues its run. A server that greets says so.
      *
-     * <p>If that run had been lost, the clock here would be behind by at least the time for which the lost server was
-     * there: a run that takes its place goes on at the moment at which it began, or an earlier one. So the run was not
-     * lost if the clocks differ by less than the earlier contact lasted. A service that counts the time between its
-     * runs gives no id again, not even one of a run that was lost.
+     * <p>At another one, if that run had been lost, the clock here would be behind by at least the time for which the
+     * lost server was there: a run that takes its place goes on at the moment at which it began, or an earlier one. So
+     * the run was not lost if the clocks differ by less than the earlier contact lasted.
      */
     boolean continues(Contact earlier) {
+        if (greeting != null && earlier.greeting != null) {
+            return greeting.continues(earlier.greeting);
+        }
         long lasted = earlier.until - earlier.since - Math.max(0, since - earlier.until) / DRIFT;
         return isTold && earlier.isTold && earlier.losses == earlier.runs.losses && earlier.most - least < lasted
             && least - earlier.most < lasted;

@@ -15,6 +15,7 @@ import java.util.Spliterator;
 import java.util.Spliterators;
 import java.util.concurrent.BlockingQueue;
 import java.util.concurrent.TimeUnit;
+import java.util.function.Consumer;
 import java.util.function.Function;
 import java.util.function.Supplier;
 import javax.net.ssl.SSLSocketFactory;
@@ -32,9 +33,10 @@ import rbbroker.client.Session.Use;
  *
  * <p><b>Sessions.</b> The queue connects when it is first used. It keeps a session for each thread that waits, up to a
  * number that is set, and one for calls that do not wait. Each keeps one of the server's workers busy, and holds up to
- * 64 jobs. A session that has lasted for half a minute is left as soon as it holds no job, even if the queue lies idle,
- * so that servers can end and be replaced. A held job must be answered on its own session: if another thread waits
- * there at the time, the answer takes up to {@link Builder#longestWait}.
+ * 64 jobs. The server of a service says when it is to be left; at another one, a session that has lasted for half a
+ * minute is left as soon as it holds no job, even if the queue lies idle. So servers can be replaced. A held job must
+ * be answered on its own session: if another thread waits there at the time, the answer takes up to {@link
+ * Builder#longestWait}.
  *
  * <p><b>Lost servers.</b> If there is no server, or its run is full, a call is made again until the
  * {@linkplain Builder#patience patience} is over; it then throws a {@link ServerLostException} or a
@@ -47,16 +49,16 @@ public final class RemoteDelayQueue extends AbstractQueue<Job> implements Blocki
     private static final System.Logger LOG = System.getLogger("rbbroker.client");
     /** The least time from one wait to the next, at a server that gives waits up. */
     private static final long LEAST_WAIT = MILLISECONDS.toNanos(20);
-    /** What is offered for in 146 years and removed at once, to be told the server's moment. */
+    /** What is offered for in 146 years and removed at once, to be told the moment of a server that does not greet. */
     private static final String PROBE = "rbbroker.client-asks-for-the-moment";
 
     private final Options options;
     private final Runs runs;
     private final SessionPool pool;
 
-    private RemoteDelayQueue(Options options) {
+    private RemoteDelayQueue(Options options, Consumer<LostRun> onLostRun) {
         this.options = options;
-        runs = new Runs(options.address());
+        runs = new Runs(options.address(), onLostRun);
         pool = new SessionPool(options, runs);
     }
 
@@ -71,6 +73,7 @@ public final class RemoteDelayQueue extends AbstractQueue<Job> implements Blocki
         private Duration longestSession = Duration.ofSeconds(30);
         private Duration patience = Duration.ofSeconds(30);
         private Duration overdue = Duration.ofMillis(100);
+        private Consumer<LostRun> onLostRun = it -> { };
 
         /**
          * Begins with the server at this port.
@@ -162,10 +165,23 @@ public final class RemoteDelayQueue extends AbstractQueue<Job> implements Blocki
             return this;
         }
 
+        /**
+         * What is told, in a thread of its own, when the server has lost a run: it may offer again what was accepted
+         * meanwhile. The server of a service tells that itself. Another one shows it by an id or a moment that goes
+         * back.
+         *
+         * @param told what is told; nothing if it is not set
+         * @return this builder
+         */
+        public Builder onLostRun(Consumer<LostRun> told) {
+            onLostRun = Objects.requireNonNull(told);
+            return this;
+        }
+
         /** {@return a queue, which does not connect yet} */
         public RemoteDelayQueue build() {
             return new RemoteDelayQueue(new Options(host, port, tls, acknowledge, waiters, nanos(longestWait),
-                nanos(longestSession), nanos(patience), nanos(overdue)));
+                nanos(longestSession), nanos(patience), nanos(overdue)), onLostRun);
         }
 
         private static long nanos(Duration time) {
@@ -181,9 +197,9 @@ public final class RemoteDelayQueue extends AbstractQueue<Job> implements Blocki
      * Offers a job, which may be taken once its delay has passed. The job then has the id and the expiry that the
      * server gave it. A job that is offered again, even while the queue has it, is a new element with an id of its own.
      *
-     * <p>A job that is overdue comes before those that are less so, as far as the server's clock goes back. If it is the
-     * first that is offered in a session, and overdue by a tenth of a second, another is offered before it and removed:
-     * the reply to that tells of the clock.
+     * <p>A job that is overdue comes before those that are less so, as far as the server's clock goes back. While that
+     * clock is not known, a job that is overdue by a tenth of a second is offered as one that is due now, and then, if
+     * nobody has taken it yet, removed and offered at its place: the first reply tells of the clock.
      */
     @Override
     public boolean offer(Job job) {
@@ -192,14 +208,14 @@ public final class RemoteDelayQueue extends AbstractQueue<Job> implements Blocki
             long deadline = job.deadline();
             long delay = deadline - System.nanoTime();
             // A job that is overdue keeps its place before those that are less so. That takes the server's clock, as
-            // this session told it: by another server's clock the job might come late.
-            if (delay <= -options.overdue()) {
-                learnMoment(session);
+            // this session told it, or the service: by another server's clock the job might come late.
+            boolean isPlaced = delay < 0 && runs.isClockKnown(session.contact);
+            Element element = isPlaced ? placed(session, deadline, job.payload())
+                : offerIn(session, Math.max(0, delay), job.payload());
+            if (!isPlaced && delay <= -options.overdue() && session.ask(Request.remove(element.id()))) {
+                element = placed(session, deadline, job.payload());
             }
-            boolean isPlaced = delay < 0 && session.contact.isTold;
-            job.place = new Job.Place(session.contact, isPlaced
-                ? session.ask(Request.offerAt(runs.momentOf(deadline), job.payload()))
-                : offerIn(session, Math.max(0, delay), job.payload()));
+            job.place = new Job.Place(session.contact, element);
             return true;
         });
     }
@@ -395,9 +411,14 @@ public final class RemoteDelayQueue extends AbstractQueue<Job> implements Blocki
         return runs.isKnownToContinue(session.contact, contact);
     }
 
-    /** Asks for the server's moment, if it has not told it in this session. */
+    /** An offer of what is overdue, at its moment. */
+    private Element placed(Session session, long deadline, String payload) {
+        return session.ask(Request.offerAt(runs.momentOf(deadline), payload));
+    }
+
+    /** Asks a server that does not greet for its moment, if it has not told it in this session. */
     private void learnMoment(Session session) {
-        if (!session.contact.isTold) {
+        if (!session.contact.isTold && !session.isGreeted()) {
             session.ask(Request.remove(offerIn(session, Long.MAX_VALUE / 2, PROBE).id()));
         }
     }
@@ -424,6 +445,12 @@ public final class RemoteDelayQueue extends AbstractQueue<Job> implements Blocki
 
     /** The job that a session was given by a call that takes one, or null if it was given none. */
     private Job taken(Session session, Element element) {
+        if (element == Request.STOPPED) {
+            if (session.isGreeted()) { // whose server gives a wait up at the end of its run
+                session.end();
+            }
+            return null;
+        }
         Job job = element == null ? null : given(session, element);
         if (job != null && options.acknowledge() == Acknowledge.ON_TAKE) {
             settle(session, List.of(Request.answer(element.id(), true)));

@@ -29,8 +29,23 @@ record Request<T>(String line, long longestWait, Pattern form, Reader<T> reader)
     private static final Pattern ITEM = form("ITEM @");
     private static final Pattern REMOVED = form("REMOVED (yes|no)");
 
-    /** Of no effect and no call: the {@code AT} that a server refuses. Its reply tells that the session is served. */
-    static final Request<Long> GREETING = of("AT 0", form("ERR 1 syntax|NOW #"), it -> number(it, 1));
+    private static final Pattern REFUSED = form("ERR 1 syntax|NOW #");
+
+    /**
+     * Of no effect and no call: the {@code AT} that a server refuses. Its reply tells that the session is served. It
+     * gives what the server said before, if it is one that greets, or null.
+     */
+    static final Request<Greeting> GREETING =
+        new Request<>("AT 0", 0, form("RUN # lost # at #|ERR 1 syntax|NOW #"), (first, rest) -> {
+            if (first.group(1) == null) {
+                number(first, 4);
+                return null;
+            }
+            number(matched(REFUSED, receiveLine(rest)), 1);
+            return new Greeting(number(first, 1), number(first, 2), number(first, 3));
+        });
+    /** What a wait gives that the server gave up. */
+    static final Element STOPPED = new Element(0, 0, 0, "");
     /** Takes a job that has expired, or returns null. */
     static final Request<Element> POLL = of("POLL", form("ITEM @|NONE"), Request::element);
     /** Shows the head, or returns null. */
@@ -60,9 +75,10 @@ record Request<T>(String line, long longestWait, Pattern form, Reader<T> reader)
         return of("OFFERAT " + Long.toUnsignedString(expiry) + " " + payload, OFFERED, it -> offered(it, payload));
     }
 
-    /** Takes a job, and waits for one up to {@code timeout} nanoseconds. Returns null if the server gives up before. */
+    /** Takes a job, and waits for one up to {@code timeout} nanoseconds. Gives null, or STOPPED, if there is none. */
     static Request<Element> pollFor(long timeout) {
-        return new Request<>("POLLFOR " + timeout, timeout, AWAITED, (first, rest) -> element(first));
+        return new Request<>("POLLFOR " + timeout, timeout, AWAITED,
+            (first, rest) -> first.group().equals("STOPPED") ? STOPPED : element(first));
     }
 
     /** Takes up to {@code most} jobs that have expired, and no more than the session may hold. */

@@ -3,6 +3,7 @@ package rbbroker.client;
 import java.lang.System.Logger.Level;
 import java.util.HashMap;
 import java.util.Map;
+import java.util.function.Consumer;
 
 /**
  * The runs of the server at one address, as the sessions of a queue show them.
@@ -15,6 +16,10 @@ final class Runs {
     private static final System.Logger LOG = System.getLogger("rbbroker.client");
 
     private final String address;
+    /** Is told of each run that was lost. */
+    private final Consumer<LostRun> onLostRun;
+    /** The last one, if the server greets. */
+    private Greeting greeting;
     /** How far the server's clock is surely ahead of {@link System#nanoTime}, if anything is known of it. */
     private long ahead;
     private boolean isClockKnown;
@@ -27,18 +32,38 @@ final class Runs {
     /** How many were seen to be lost. */
     volatile int losses;
 
-    Runs(String address) {
+    Runs(String address, Consumer<LostRun> onLostRun) {
         this.address = address;
+        this.onLostRun = onLostRun;
     }
 
-    /** A session has begun: its server has answered. */
-    synchronized Contact begin() {
-        return new Contact(this, greatest);
+    /** A session has begun: its server has answered, and has said this first, or nothing, which is null. */
+    synchronized Contact begin(Greeting now) {
+        if (now != null && greeting != null && !now.continues(greeting)) {
+            LostRun lost = now.lostSince(greeting);
+            isClockKnown &= lost != LostRun.ALL;
+            LOG.log(Level.WARNING, "the server at {0} has lost a run: what it accepted in the {1} seconds before its"
+                + " run {2} is in doubt", address, lost.length().toSeconds(), Long.toUnsignedString(now.run()));
+            lose(lost);
+        }
+        greeting = now;
+        return new Contact(this, now, greatest);
     }
 
-    /** A server was lost: the next one has a clock of its own. */
+    private void lose(LostRun lost) {
+        greatest.clear();
+        losses++;
+        new Thread(() -> onLostRun.accept(lost), "rbbroker.client-tells").start(); // it may use the queue
+    }
+
+    /** A server was lost: the next one has a clock of its own, unless it is of a service, whose clock goes on. */
     synchronized void forgetClock() {
-        isClockKnown = false;
+        isClockKnown &= greeting != null;
+    }
+
+    /** Whether a moment is known in a session which shows this. */
+    synchronized boolean isClockKnown(Contact contact) {
+        return contact.isTold || contact.greeting != null && isClockKnown;
     }
 
     /** The nanoseconds until a moment at the server, at the most. If nothing is known they count from moment 0. */
@@ -94,8 +119,7 @@ final class Runs {
         if (known != before && (known == null || known.isBehind(before))) {
             return; // it was said when another session was told
         }
-        greatest.clear();
-        losses++;
+        lose(LostRun.ALL);
         LOG.log(Level.ERROR, "the server at {0} has lost a run: it gave the id {1} at the moment {2}, after the id {3}"
             + " at {4}. Jobs that were offered since that run began may be gone, and their ids are not used any more",
             address, Long.toUnsignedString(told.id()), Long.toUnsignedString(told.moment()),

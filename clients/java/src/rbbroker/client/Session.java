@@ -67,6 +67,8 @@ final class Session {
     private final AtomicLong longest;
     /** Whether it has ended. If not, it may be lost all the same. */
     volatile boolean isClosed;
+    /** Whether the server's run is full, or is to end, as a wait showed that the server gave up. */
+    private volatile boolean isOver;
 
     private final Options options;
     private final ChannelSocket channel = new ChannelSocket();
@@ -103,12 +105,12 @@ final class Session {
             }
             late = "all its workers are busy";
             send(Request.GREETING.line() + "\n");
-            Request.GREETING.receive(input);
+            Greeting greeting = Request.GREETING.receive(input);
             begun = System.nanoTime();
             if (begun - sent >= WAIT) {
                 shorten(LONGEST_TURN);
             }
-            contact = runs.begin();
+            contact = runs.begin(greeting);
         } catch (IOException fault) {
             throw new ServerLostException("no server at " + options.address(), false,
                 fault instanceof SocketTimeoutException ? new SocketTimeoutException(late) : fault);
@@ -167,7 +169,7 @@ final class Session {
         }
         if (refusal != null) {
             if (refusal.reason() == Reason.FULL) {
-                shorten(0);
+                end();
             }
             throw refusal;
         }
@@ -199,18 +201,28 @@ final class Session {
         return isClosed;
     }
 
-    /** Whether it is to be left as soon as it holds no job. */
+    /** Whether it is to be left as soon as it holds no job: a server that greets says so, and else its age does. */
     boolean isToBeLeft() {
-        return System.nanoTime() - begun >= longest();
+        return isGreeted() ? isOver : System.nanoTime() - begun >= longest();
+    }
+
+    boolean isGreeted() {
+        return isServed() && contact.greeting != null;
+    }
+
+    /** Nothing more comes of the server's run. */
+    void end() {
+        isOver = true;
+        shorten(0);
     }
 
     /**
      * Whether it is to be left, and ends with the jobs that it holds. If they keep it for long, it takes others again,
-     * and then none again.
+     * and then none again. Beside one whose server greets no other would be served.
      */
     boolean isLeaving() {
         long over = System.nanoTime() - begun - longest();
-        return over >= 0 && !held.isEmpty() && over / LAST_JOBS % 2 == 0;
+        return over >= 0 && !isGreeted() && !held.isEmpty() && over / LAST_JOBS % 2 == 0;
     }
 
     /** Hangs up. */

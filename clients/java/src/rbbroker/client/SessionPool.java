@@ -20,9 +20,9 @@ import rbbroker.client.Session.Use;
  * before others that want this session.
  *
  * <p>Where a server does not serve a further session in the time of a wait, the others have to do for a while. A
- * session that has lasted long enough is left as soon as it is given back and holds no job, and by a timer if nobody
- * uses it. So a server can end while queues lie idle. The first sessions that take jobs make way early, as nobody knows
- * then whether other clients wait for a worker of the server.
+ * session whose server does not greet is left once it has lasted long enough, as soon as it is given back and holds no
+ * job, and by a timer if nobody uses it. So a server can end while queues lie idle. The first such sessions that take
+ * jobs make way early, as nobody knows then whether other clients wait for a worker of the server.
  */
 final class SessionPool {
     /** After so long a thread looks again, as a session may take jobs again, or a server serve another. */
@@ -184,7 +184,7 @@ final class SessionPool {
 
     /** A session lasts no longer than a turn, since others may wait for a worker of the server. */
     private void makeWay(Session session) {
-        if (session.shorten(Session.LONGEST_TURN)) {
+        if (!session.isGreeted() && session.shorten(Session.LONGEST_TURN)) {
             watch(session);
         }
     }
@@ -216,7 +216,8 @@ final class SessionPool {
     private Session another() {
         long most = options.waiters() + 1;
         long leaving = Math.min(most, sessions.stream().filter(Session::isLeaving).count());
-        boolean isCrowded = hasServed() && System.nanoTime() - crowdedUntil < 0;
+        crowdedUntil = hasServed() ? crowdedUntil : System.nanoTime();
+        boolean isCrowded = System.nanoTime() - crowdedUntil < 0;
         if (sessions.size() - leaving >= most || isCrowded) {
             return null;
         }
@@ -264,13 +265,13 @@ final class SessionPool {
 
     /** A session is served now, or its place is free again. */
     private synchronized void endOpening(Session session) {
-        if (session.isServed()) {
-            watch(session);
-        } else {
+        if (!session.isServed()) {
             remove(session);
             if (!hasServed()) {
                 runs.forgetClock();
             }
+        } else if (!session.isGreeted()) {
+            watch(session);
         }
         notifyAll();
     }

@@ -106,6 +106,11 @@ final class FakeServer implements AutoCloseable {
             }
         }
 
+        /** Says first what the server of a service does, of a run that began at moment 5, and is served then. */
+        Talk greetOf(long run, long lost) throws IOException {
+            return say("RUN " + run + " lost " + lost + " at " + 5 * run).greet();
+        }
+
         /** Answers the request by which a client learns that it is served. */
         Talk greet() throws IOException {
             return hear("AT 0").say("ERR 1 syntax");

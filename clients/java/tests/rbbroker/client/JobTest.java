@@ -14,15 +14,15 @@ import rbbroker.client.Request.Element;
 
 /** Jobs by themselves, and as a server's queue places them. */
 public class JobTest extends QueueTest {
-    private final Runs runs = new Runs("a place");
+    private final Runs runs = new Runs("a place", it -> { });
 
     private Job shown(long id, long expiry, int attempt) {
-        return new Job(new Element(id, expiry, attempt, "a"), runs.begin(), null);
+        return new Job(new Element(id, expiry, attempt, "a"), runs.begin(null), null);
     }
 
     /** The server's clock read this moment at a time between these two. */
     private void told(long moment, long sent, long received) {
-        runs.tell(runs.begin(), new Contact.Told(0, moment), sent, received);
+        runs.tell(runs.begin(null), new Contact.Told(0, moment), sent, received);
     }
 
     private static void assertBetween(long least, long most, long number) {
@@ -91,7 +91,7 @@ public class JobTest extends QueueTest {
         assertEquals(job, shown(4, 5, 1));
         assertEquals(job.hashCode(), shown(4, 5, 1).hashCode());
         for (Job other : List.of(shown(3, 5, 1), shown(4, 6, 1), shown(4, 5, 2),
-                new Job(new Element(4, 5, 1, "b"), runs.begin(), null))) {
+                new Job(new Element(4, 5, 1, "b"), runs.begin(null), null))) {
             assertNotEquals(job, other);
         }
         assertFalse(job.equals("a"));

@@ -89,17 +89,70 @@ public class LostRunTest extends QueueTest {
         }
     }
 
+    /** Whether a job is removed at a second server that greets, which is asked for it if that says so. */
+    private boolean removed(long run, long lost, boolean isAsked, List<LostRun> told) throws Exception {
+        FakeServer.Script first = talk -> talk.greetOf(7, 2).accept(5, AHEAD).hear("SIZE").say("SIZE 1");
+        FakeServer.Script second = talk -> {
+            talk.greetOf(run, lost);
+            if (isAsked) {
+                talk.hear("REMOVE 5").say("REMOVED yes");
+            }
+            talk.hear("QUIT").say("BYE").hearNothing();
+        };
+        try (FakeServer server = new FakeServer(first, second)) {
+            boolean isRemoved;
+            try (RemoteDelayQueue queue = new RemoteDelayQueue.Builder(server.port(), Acknowledge.BY_CALL)
+                    .onLostRun(told::add).build()) {
+                Job job = in(600_000, "a");
+                queue.offer(job);
+                assertEquals(1, queue.size());
+                Thread.sleep(100);
+                isRemoved = queue.remove(job);
+            }
+            server.finish();
+            return isRemoved;
+        }
+    }
+
+    @Test
+    public void aServerThatGreetsSaysWhetherItHasTheRun() throws Exception {
+        List<LostRun> told = new CopyOnWriteArrayList<>();
+        try (Log log = new Log()) {
+            assertTrue(removed(7, 2, true, told));
+            assertTrue(removed(9, 2, true, told));
+            assertEquals(List.of(), log.lines(Level.WARNING));
+            assertEquals(List.of(), told);
+        }
+        // The last two are of another service.
+        long[][] others = {{8, 3, 35, 40}, {9, 4, 35, 45}, {1, 0, 0, -1}, {6, 2, 0, -1}};
+        for (long[] it : others) {
+            try (Log log = new Log()) {
+                told.clear();
+                assertFalse(removed(it[0], it[1], false, told));
+                for (int tries = 0; told.isEmpty() && tries < 1_000; tries++) {
+                    Thread.sleep(1);
+                }
+                assertEquals(List.of(new LostRun(it[2], it[3])), told);
+                String line = log.lines(Level.WARNING).get(0);
+                assertTrue(line, line.matches("the server at .* has lost a run: what it accepted in the .* seconds "
+                    + "before its run " + it[0] + " is in doubt"));
+            }
+        }
+        assertEquals(5, new LostRun(35, 40).length().toNanos());
+        assertEquals(Long.MAX_VALUE, LostRun.ALL.length().toNanos());
+    }
+
     @Test
     public void queuesUnderOneNameHaveIdsAndClocksOfTheirOwn() {
         long date = 1_800_000_000_000_000_000L;
         long now = System.nanoTime();
-        Runs runs = new Runs("a place");
+        Runs runs = new Runs("a place", it -> { });
         try (Log log = new Log()) {
             for (long[] it : new long[][] {{64 * 9 + 3, 900}, {64 * 2, 200}, {64 * 2 + 1, 100}, {64 * 10 + 3, 900}}) {
-                runs.tell(runs.begin(), new Contact.Told(it[0], date + it[1]), now, now);
+                runs.tell(runs.begin(null), new Contact.Told(it[0], date + it[1]), now, now);
             }
             assertEquals(List.of(), log.lines(Level.SEVERE));
-            runs.tell(runs.begin(), new Contact.Told(64 * 2, date + 300), now, now);
+            runs.tell(runs.begin(null), new Contact.Told(64 * 2, date + 300), now, now);
             assertEquals(1, log.lines(Level.SEVERE).size());
         }
     }

@@ -1,6 +1,7 @@
 package rbbroker.client;
 
 import static java.util.concurrent.TimeUnit.HOURS;
+import static java.util.concurrent.TimeUnit.MILLISECONDS;
 import static java.util.concurrent.TimeUnit.NANOSECONDS;
 import static java.util.concurrent.TimeUnit.SECONDS;
 
@@ -110,6 +111,43 @@ public class ScriptedTest extends QueueTest {
             talk.say("OFFERED 9 6");
             assertEquals(10, NANOSECONDS.toSeconds(second - first + 500_000_000));
         });
+    }
+
+    @Test
+    public void anOverdueJobThatSomebodyTookAtOnceIsNotPlaced() throws Exception {
+        playTo(port -> new RemoteDelayQueue.Builder(port, Acknowledge.BY_CALL), it -> {
+            Job job = in(-50_000, "a");
+            it.offer(job);
+            assertEquals(7, job.id());
+        }, talk -> talk.greet().accept(7, HOURS.toNanos(1) - System.nanoTime()).hear("REMOVE 7").say("REMOVED no"));
+    }
+
+    @Test
+    public void theClockOfAServiceGoesOnThroughItsRuns() throws Exception {
+        long ahead = HOURS.toNanos(1) - System.nanoTime();
+        playTo(port -> new RemoteDelayQueue.Builder(port, Acknowledge.BY_CALL), it -> {
+            it.offer(due("a"));
+            Thread.sleep(100);
+            it.offer(in(-50_000, "b"));
+        }, talk -> talk.greetOf(7, 2).accept(5, ahead), talk -> {
+            long moment = Long.parseLong(talk.greetOf(8, 3).heard("OFFERAT ").split(" ")[0]);
+            talk.say("OFFERED 6 5");
+            assertEquals(50, NANOSECONDS.toSeconds(System.nanoTime() + ahead - moment));
+        });
+    }
+
+    @Test
+    public void aServerThatGreetsSaysWhenASessionIsToBeLeft() throws Exception {
+        playTo(port -> byCall(PATIENCE).apply(port).longestSession(Duration.ofMillis(1)), it -> {
+            assertNull(it.peek());
+            Thread.sleep(50); // no clock of the client's ends it
+            Job job = it.take();
+            assertNull(it.poll(0, MILLISECONDS));
+            job.done();
+            assertEquals(0, it.size());
+        }, talk -> talk.greetOf(7, 2).hear("PEEK").say("NONE").hear("POLLFOR ").say("ITEM 4 0 1 a").hear("POLLFOR ")
+            .say("STOPPED").hear("DONE 4").say("DONE 4").hear("QUIT").say("BYE").hearNothing(),
+            talk -> talk.greetOf(8, 2).hear("SIZE").say("SIZE 0"));
     }
 
     @Test
