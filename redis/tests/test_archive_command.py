@@ -181,8 +181,9 @@ class EndTest(ArchiveCommandTest):
             self.assertLessEqual(count, 100)
             cut, calls = map(int, queue.command("HMGET", queue.state, "cut", "calls"))
             self.assertEqual(cut + count, calls)
-        self.assert_prints([f"{self.name}: the events before number {cut} went, since there were too many; {count} behind "
-                            "them are given up, and a new series begins with the queue as it is"], "archive", self.folder)
+        self.assert_prints([
+            f"{self.name}: the events before number {cut} went, since there were too many; {count} behind them are given up,"
+            " and a new series begins with the queue as it is"], "archive", self.folder)
         queue.make([f"{SEAT} POLL", f"{SEAT} DONE 0"])
         self.assertEqual(self.ran("archive", self.folder)[0], 0)
         self.assertEqual([it.name for it in self.files()], [f"{self.name}-{260:012}.txt"])

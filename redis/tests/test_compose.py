@@ -55,7 +55,7 @@ class ComposeTest(RoomTest):
             return [talker.ask(it) for it in requests]
 
     def test_a_job_outlives_the_redis(self) -> None:
-        """The user `default` is off, and has all rights: without them Redis 7.0 refuses, at its start, what stands in its
+        """The user `default` is off, and has all rights: without them Redis 7.0 refuses, at its start, what is in its
         own file of calls. But nobody can be that user."""
         redis = self.begun("redis")
         wait_until(lambda: "Ready to accept" in redis.said, "the Redis is not ready")

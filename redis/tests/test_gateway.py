@@ -42,8 +42,10 @@ class RequestsTest(GatewayTest):
         self.assertEqual(replay_chains(path, 30_000_000_000, 20), 3)
 
     def test_how_many_events_are_kept(self) -> None:
-        for options, most in (((), b"1000000 drop"), (("--history-events", 500, "--history-end", "refuse"), b"500 refuse"),
-                              ((), b"500 refuse"), (("--history-events", 0), None), ((), None)):
+        for options, most in (
+            ((), b"1000000 drop"), (("--history-events", 500, "--history-end", "refuse"), b"500 refuse"),
+            ((), b"500 refuse"), (("--history-events", 0), None), ((), None),
+        ):
             self.serve(*options).end()
             self.assertEqual(self.node.ask("HGET", self.queue().state, "most"), most)
 

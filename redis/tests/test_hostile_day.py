@@ -229,4 +229,4 @@ class SentinelTest(Day):
             wait_until(lambda: all(it["state"] == "online" for name, it in sentinels.primary().replication().items()
                                    if name[:5] == "slave"), "the replicas are not in step")
 
-        self.run_day(sentinels.url, kill_redis, sentinels.primary, (*SERVING, "--replicas", 1))
+        self.run_day(sentinels.url, kill_redis, sentinels.primary, (*SERVING, "--replicas", "all"))

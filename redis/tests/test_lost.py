@@ -89,7 +89,7 @@ class LostTest(RoomTest):
         """Offers through a gateway until the kill. The answers, and the time of the kill."""
         gateway = Gateway(room, redis, QUEUE, options)
         gateway.wait()
-        offers = Offers(gateway.port)
+        self.offers = offers = Offers(gateway.port)
         wait_until(lambda: offers.answered, "no offer is answered")
         time.sleep(random.uniform(0.6, 1.0) * SECONDS)
         kill()
@@ -237,8 +237,28 @@ class TwoReplicasTest(LostTest):
         total = self.tried("2 replicas, --replicas 2, SENTINEL FAILOVER", self.struck(self.fail_over, "--replicas", 2))
         self.assertEqual(total.lost, 0)
 
+    def test_all_that_are_up(self) -> None:
+        """Nothing is lost, and offers are answered while a replica is dead."""
+
+        def strike(sentinels: Sentinels) -> None:
+            dead = sentinels.watched.replicas[0]
+            dead.kill()
+            self.await_offers()
+            dead.start()
+            wait_until(lambda: sentinels.primary().replication()["connected_slaves"] == 2, "it does not follow again")
+            self.fail_over(sentinels)
+
+        total = self.tried("2 replicas, --replicas all, one dies and comes back, SENTINEL FAILOVER",
+                           self.struck(strike, "--replicas", "all", "--timeout", "60s"))
+        self.assertEqual(total.lost, 0)
+
+    def await_offers(self) -> None:
+        """Waits until offers that are made now are answered."""
+        before = len(self.offers.answered)
+        wait_until(lambda: len(self.offers.answered) > before + 2 * PRODUCERS, "no offer is answered")
+
     def test_a_primary_that_stands_still(self) -> None:
-        for replicas in (1, 2):
+        for replicas in (1, "all"):
             total = self.tried(f"2 replicas, --replicas {replicas}, primary stands still",
                                self.struck(lambda it: it.primary().pause(), "--replicas", replicas))
         self.assertEqual(total.lost, 0)

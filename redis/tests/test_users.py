@@ -55,7 +55,7 @@ class UsersTest(RedisTest):
 
     @contextmanager
     def judged(self, user: str) -> Iterator[None]:
-        """Nothing is refused that is done here, and each of the user's rights is used. What nobody may do, is refused."""
+        """Nothing is refused that is done here, and each of the user's rights is used. What nobody may is refused."""
         for it in (("CONFIG", "RESETSTAT"), ("ACL", "LOG", "RESET")):
             self.node.ask(*it)
         yield

@@ -23,6 +23,8 @@ MOST_IN_FLIGHT = 2
 """How many commands are under way at once. While they are, further calls are gathered."""
 
 SECONDS_BETWEEN_TRIES = 0.05
+MILLISECONDS_OF_WAIT = 250
+"""For so long the Redis waits for replicas at a time."""
 
 # Errors by which a Redis says that it has done nothing, and may do it later.
 LATER = {"LOADING", "BUSY", "TRYAGAIN", "ASK", "CLUSTERDOWN", "NOREPLICAS", "MISCONF", "LOADING_QUEUE"}
@@ -136,9 +138,11 @@ class Calls:
         if not self.replicas:
             link.send(data, lambda answer: self._answered(link, batch, answer))
             return
-        data += command("WAIT", self.replicas, int(self.patience * 1000))
         before: list[Answer] = []
-        link.send(data, before.append, lambda count: self._copied(link, batch, before[0], count))
+        link.send(data + self._wait(), before.append, lambda count: self._copied(link, batch, before[0], count))
+
+    def _wait(self) -> bytes:
+        return command("WAIT", self.replicas, MILLISECONDS_OF_WAIT)
 
     def _answered(self, link: Link, batch: Batch, answer: Answer) -> None:
         """A batch is answered, or it is in doubt, for None."""
@@ -170,9 +174,14 @@ class Calls:
                 part.end(part.replies)
 
     def _copied(self, link: Link, batch: Batch, answer: Answer, count: Answer) -> None:
-        """So many replicas have what the batch did. If they are too few, a fail-over may lose it: it is in doubt."""
-        are_enough = isinstance(count, int) and count >= self.replicas
-        self._answered(link, batch, answer if are_enough or not isinstance(answer, list) else None)
+        """So many replicas have what the batch did. If they are too few, a fail-over may lose it: others are waited for,
+        until it is in doubt. How many are wanted may change meanwhile."""
+        if not isinstance(answer, list) or isinstance(count, int) and count >= self.replicas:
+            self._answered(link, batch, answer)
+        elif isinstance(count, int) and link is self._link and time.monotonic() - batch.sent < self.patience:
+            link.send(self._wait(), lambda count: self._copied(link, batch, answer, count))
+        else:
+            self._answered(link, batch, None)
 
     def _refused(self, batch: Batch, answer: Answer) -> None:
         code = answer.code if isinstance(answer, ErrorAnswer) else ""

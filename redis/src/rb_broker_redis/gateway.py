@@ -18,6 +18,9 @@ from .waits import Waits
 
 LOG = logging.getLogger(__name__)
 
+MOST_REPLICAS = 100
+"""None are as many: nothing is answered before it is known how many there are."""
+
 SECONDS_TO_END = 10.0
 """If no session ends for so long, those that are left are closed, and end with the gateway's lease."""
 
@@ -25,9 +28,11 @@ SECONDS_TO_END = 10.0
 class Gateway:
     """Sessions of one queue, or of one name over several queues. Durations are nanoseconds."""
 
-    def __init__(self, names: list[str], *, wait: int, patience: int, replicas: int) -> None:
-        self.replicas = replicas
-        self._queues = {it: Calls(it, replicas=replicas, patience=patience / SECOND) for it in names}
+    def __init__(self, names: list[str], *, wait: int, patience: int, replicas: int | None) -> None:
+        """`replicas` have each call before it is answered; for None all that are up."""
+        self.asks_all_replicas = replicas is None
+        first = MOST_REPLICAS if replicas is None else replicas
+        self._queues = {it: Calls(it, replicas=first, patience=patience / SECOND) for it in names}
         queues = list(self._queues.values())
         self.calls: Calls | ShardedCalls
         if len(queues) == 1:
@@ -42,6 +47,11 @@ class Gateway:
         """Sessions that have no seat yet, with their numbers."""
         self._count = self._lost = 0
         self._all_ended = asyncio.Event()
+
+    @property
+    def replicas(self) -> int:
+        """How many replicas have to have a call before it is answered."""
+        return max(it.replicas for it in self._queues.values())
 
     @property
     def client_count(self) -> int:

@@ -12,15 +12,19 @@ from pathlib import Path
 from .cuts import Cuts
 from .ending import Failed
 from .history import HEADER, MOST_EVENTS, FollowedQueue
+from .pieces import Given, Text, text_of
 from .words import Parser, add_command, add_policy_words, policy_in, whole
 
 ABOUT = """lets `rb_broker replay --chains` judge the files of an archive as one history
 
-Put together, the files have the return of a job in one text with the event that gave it, however small each of them is.
-FILES are those of one queue, in any order; each has to begin with what the one before it left. There are as few pieces
-as `replay` can take, which is 1,000,000 events each, and a piece ends where no job crosses. If there is no such place,
-it ends where the fewest cross. A piece to which jobs come back that were given before it is judged by `replay` without
---chains, and a line says how many these are.
+FILES are those of one queue, in any order; each has to begin with what the one before it left. They are put together,
+and judged in as few pieces as `replay` can take, which is 1,000,000 events each. A piece ends where the fewest jobs
+cross.
+
+A job that was given before its piece, and comes back in it, is given once more at the piece's beginning. That can't be
+where an element of the queue is earlier: then the chains of the piece are not judged, and a line says so. If the queue
+has more than 1,000,000 elements, those that no event of the piece names are left out, but for the earliest, which shows
+whatever is wrong because of a later one; sizes are told without them. So each text is legal just if the piece is.
 
 Status: 0; 1 if a history is refused, or the files do not follow one another; 2 if a word is wrong or a file can't be
 read; 3 if there is no `rb_broker`.
@@ -46,28 +50,35 @@ def run(asked: argparse.Namespace) -> int:
     chains = ["--chains", f"--{pace}", str(int(period)), "--attempts", attempts]
     paths: list[Path] = asked.files
     files = sorted(paths, key=lambda it: it.name)
-    queue, first = _opening_of(files[0]), 0
+    queue, given, first = _opening_of(files[0]), Given(), 0
     for events in _pieces(queue.copy(), files, asked.events):
-        opening = [*queue.opening()]
-        came_back = _given_before(queue, events)
-        said = _judged([program, "replay"], [] if came_back else chains, opening, events)
-        print(f"events {first} to {first + len(events) - 1}: {said}" + (
-            f"; {came_back} jobs in them were given before, so their chains are not judged" if came_back else ""))
-        first += len(events)
+        for some, text in _texts(queue, given, events):
+            said = _judged([program, "replay"], chains if text.are_chained else [], text.opening, text.events)
+            print(f"events {first} to {first + len(some) - 1}: {said}{_more(text)}", flush=True)
+            first += len(some)
     return 0
 
 
-def _given_before(queue: FollowedQueue, events: Sequence[bytes]) -> int:
-    """Follows these events. How many jobs come back in them that were given before the first."""
-    given: set[bytes] = set()
-    count = 0
-    for event in events:
-        queue.follow(event)
-        given.update(words.split(b" ", 3)[2] for words in queue.gave)
-        if queue.offered is not None:
-            _, _, origin, _, attempt, _ = queue.offered.split(b" ")
-            count += attempt != b"1" and origin not in given
-    return count
+def _texts(queue: FollowedQueue, given: Given, events: Sequence[bytes]) -> Iterator[tuple[Sequence[bytes], Text]]:
+    """The texts of these events, and what events each is of: half of them, where `replay` can't take all. Follows
+    them."""
+    text = text_of(queue, events, given.gifts)
+    if text.is_too_large and len(events) > 1:
+        yield from _texts(queue, given, events[:len(events) // 2])
+        yield from _texts(queue, given, events[len(events) // 2:])
+        return
+    yield events, text
+    for it in events:
+        queue.follow(it)
+        given.follow(it, queue)
+
+
+def _more(text: Text) -> str:
+    """What else is to be said of a text."""
+    return "".join((
+        f"; {text.given_before} jobs in them were given before" if text.given_before else "",
+        "" if text.are_chained else ", so their chains are not judged",
+        f"; {text.left_out} elements that stay are left out" if text.left_out else ""))
 
 
 def _opening_of(path: Path) -> FollowedQueue:

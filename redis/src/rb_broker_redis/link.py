@@ -21,6 +21,8 @@ class Link(asyncio.Protocol):
 
     def __init__(self, patience: float, heard: Callable[[bytes], None] | None = None) -> None:
         self.lost, self._patience, self._heard = asyncio.Event(), patience, heard
+        self.place = ("", 0)
+        """The host and the port to which it leads."""
         self._answers: deque[Callable[[Answer], None]] = deque()
         self._asked: set[asyncio.Future[Answer]] = set()
         self._reader = reader()
@@ -106,6 +108,7 @@ async def connect(
     loop = asyncio.get_running_loop()
     opening = loop.create_connection(lambda: Link(patience, heard), host, port, ssl=tls_of(address))
     _, link = await answer_of(opening, patience)
+    link.place = (host, port)
     with closed_on_failure(link):
         if address.password:
             await link.ask("AUTH", *([address.username] if address.username else []), address.password)

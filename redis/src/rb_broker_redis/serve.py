@@ -11,8 +11,9 @@ import signal
 import socket
 import ssl
 
+from .address import Kind
 from .ending import Failed
-from .gateway import Gateway
+from .gateway import MOST_REPLICAS, Gateway
 from .history import MOST_EVENTS
 from .protocol import SECOND
 from .queue import Queue, connect
@@ -55,8 +56,9 @@ def add_to(commands: argparse._SubParsersAction[Parser]) -> None:
         help="at SIGTERM, sessions that hold jobs may end these for so long; nothing is fetched (default: 30s)")
     add("--timeout", metavar="TIME", type=duration, default=5 * SECOND,
         help="a Redis that does not answer for so long is given up (default: 5s)")
-    add("--replicas", metavar="N", type=whole(0, 100), default=0,
-        help="replies are sent once N replicas have what was done (default: 0)")
+    add("--replicas", metavar="N", type=replicas_of, default=0,
+        help="replies are sent once N replicas have what was done, or `all` that are up by the Sentinels' word, and with"
+        " the primary a majority (default: 0)")
     kept = parser.add_mutually_exclusive_group()
     kept.add_argument("--no-history", dest="mode", action="store_const", const="silent", default="",
                       help="a queue that is made now keeps no events")
@@ -100,6 +102,8 @@ def check(asked: argparse.Namespace) -> None:
         refuse("--plain is without TLS, and --cert with it")
     if not ipaddress.ip_address(asked.bind).is_loopback and not asked.cert and not asked.plain:
         refuse(f"other machines reach {asked.bind}: serve them over TLS with --cert, or say --plain")
+    if asked.replicas is None and address_in(asked).kind is not Kind.SENTINEL:
+        refuse("--replicas all needs Sentinels, redis+sentinel://HOST:PORT,../MASTER, which say which are up")
     if asked.allow_changes and not asked.http:
         refuse("--allow-changes needs --http")
     if asked.change_policy and not names_policy(asked):
@@ -165,6 +169,11 @@ def show(gateway: Gateway, asked: argparse.Namespace, port: int) -> HttpServer:
     client = connect(address_in(asked))
     queues = [Queue(client, it) for it in shard_names(asked.queue, asked.shards)]
     return Site(gateway, asked.queue, port, queues, asked.allow_changes).begin(*asked.http)
+
+
+def replicas_of(word: str) -> int | None:
+    """A number, or None for `all`."""
+    return None if word == "all" else whole(0, MOST_REPLICAS)(word)
 
 
 def place_of(word: str) -> tuple[str, int]:

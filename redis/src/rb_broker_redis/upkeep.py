@@ -19,6 +19,7 @@ from .leases import Leases
 from .library import load_functions, name_of
 from .link import Link, closed_on_failure, is_set_in_time
 from .place import connect_to_queue
+from .replicas import Replicas
 from .resp import ErrorAnswer
 from .words import NO_POLICY
 
@@ -29,6 +30,8 @@ LOG = logging.getLogger(__name__)
 
 SECONDS_BETWEEN_TRIES = 0.2
 SECONDS_BETWEEN_PINGS = 5.0
+SECONDS_BETWEEN_LOOKS = 0.5
+"""At what the Sentinels say of the replicas."""
 
 
 class Upkeep:
@@ -69,7 +72,9 @@ class Upkeep:
             await link.lost.wait()
             raise
         self._link = link
-        tasks = self._keep_link(link), self._keep_subscribed(), self._keep_lease(), self._watch()
+        tasks = [self._keep_link(link), self._keep_subscribed(), self._keep_lease(), self._watch()]
+        if self._gateway.asks_all_replicas:
+            tasks.append(self._follow_replicas())
         self._tasks = [asyncio.ensure_future(it) for it in tasks]
 
     async def stop(self) -> None:
@@ -107,8 +112,8 @@ class Upkeep:
                 raise ErrorAnswer(f"EVICTS {found[1].decode()}")
 
     async def _warn_of_replicas(self, link: Link) -> None:
-        """Says it where replies wait for some of the replicas: another that takes over may not have what was done."""
-        if self._calls.replicas:
+        """Says it where replies don't wait for all replicas: another that takes over may not have what was done."""
+        if not self._gateway.asks_all_replicas:
             found = re.search(rb"^connected_slaves:(\d+)", await link.ask("INFO", "replication"), re.M)
             if found and int(found[1]) > self._calls.replicas:
                 LOG.warning("--replicas %d, but the Redis of queue %s has %d: a fail-over to another may lose what was"
@@ -245,6 +250,20 @@ class Upkeep:
             await asyncio.sleep(0.5)
             if self._calls.is_late():
                 self._close_link()
+
+    async def _follow_replicas(self) -> None:
+        """Lets replies wait for all replicas that are up, and leaves a primary that the Sentinels have replaced."""
+        replicas = Replicas(self._address)
+        try:
+            while True:
+                await replicas.look()
+                if replicas.wanted is not None:
+                    self._calls.replicas = replicas.wanted
+                if self._link and replicas.primary not in (None, self._link.place):
+                    self._link.close()
+                await asyncio.sleep(SECONDS_BETWEEN_LOOKS)
+        finally:
+            await replicas.close()
 
     async def _until_done(self, make: Callable[[], Awaitable[Link]]) -> Link:
         told = ""

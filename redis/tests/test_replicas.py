@@ -1,0 +1,68 @@
+"""How many replicas are waited for, by what Sentinels say."""
+from __future__ import annotations
+
+import unittest
+
+from rb_broker_redis.address import read_address
+from rb_broker_redis.replicas import Replica, Replicas, Told
+
+ONE, TWO, THREE = (("127.0.0.1", port) for port in (7001, 7002, 7003))
+
+
+def follows(place: tuple[str, int]) -> Replica:
+    return Replica(place, is_down=False, follows=True)
+
+
+def down(place: tuple[str, int]) -> Replica:
+    return Replica(place, is_down=True, follows=True)
+
+
+def apart(place: tuple[str, int]) -> Replica:
+    """One that is up, and is no replica, or has not got all yet."""
+    return Replica(place, is_down=False, follows=False)
+
+
+class ReplicasTest(unittest.TestCase):
+    def setUp(self) -> None:
+        self.replicas = Replicas(read_address("redis+sentinel://a,b,c/main"))
+
+    def assert_wanted(self, count: int | None, *told: Told) -> None:
+        """So many have to have what is done, once Sentinels say this; a single one stands for three."""
+        self.replicas.take(told * 3 if len(told) == 1 else told)
+        self.assertEqual(self.replicas.wanted, count)
+
+    def test_nothing_is_known_before_a_majority_has_said_it(self) -> None:
+        self.replicas.take([Told(ONE, [follows(TWO)])])
+        self.assertEqual((self.replicas.wanted, self.replicas.primary), (None, None))
+        self.assert_wanted(2, Told(ONE, [follows(TWO), follows(THREE)]))
+        self.replicas.take([Told(TWO, [down(ONE), down(THREE)])])
+        self.assertEqual((self.replicas.wanted, self.replicas.primary), (2, ONE))
+
+    def test_one_that_is_down_is_not_waited_for_until_it_follows_again(self) -> None:
+        up, gone = Told(ONE, [follows(TWO), follows(THREE)]), Told(ONE, [follows(TWO), down(THREE)])
+        self.assert_wanted(2, up)
+        self.assert_wanted(2, gone, up, up)
+        self.assert_wanted(1, gone, gone, up)
+        self.assert_wanted(1, Told(ONE, [follows(TWO), apart(THREE)]))
+        self.assert_wanted(2, up)
+
+    def test_never_fewer_than_a_majority_with_the_primary(self) -> None:
+        self.assert_wanted(1, Told(ONE, [down(TWO), down(THREE)]))
+        self.assert_wanted(1, Told(ONE, [down(TWO)]))
+        self.assert_wanted(0, Told(ONE, []))
+
+    def test_a_primary_that_does_not_know_that_it_is_replaced_answers_nothing(self) -> None:
+        """It has lost the replica that takes its place, and waits for both, until the Sentinels name the new one."""
+        self.assert_wanted(2, Told(ONE, [follows(TWO), follows(THREE)]))
+        self.assert_wanted(2, Told(ONE, [apart(TWO), follows(THREE)]))
+        promoted = Told(TWO, [apart(TWO), follows(THREE)])
+        before = Told(ONE, [apart(TWO), follows(THREE)]), Told(ONE, [follows(TWO), follows(THREE)])
+        self.assert_wanted(2, promoted, *before)
+        self.assert_wanted(1, Told(TWO, [apart(ONE), follows(THREE)]))
+        self.assertEqual(self.replicas.primary, TWO)
+        self.assert_wanted(2, Told(TWO, [follows(ONE), follows(THREE)]))
+
+    def test_one_that_has_just_stood_still_is_not_waited_for_either(self) -> None:
+        self.assert_wanted(2, Told(ONE, [follows(TWO), follows(THREE)]))
+        self.assert_wanted(1, Told(TWO, [down(ONE), follows(THREE)]))
+        self.assert_wanted(1, Told(TWO, [apart(ONE), follows(THREE)]))
