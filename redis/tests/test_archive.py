@@ -148,7 +148,7 @@ class FilesTest(ArchiveTest):
             self.source = ListSource(EVENTS[:1], "full")
             file = self.folder / f"full-{0:012}.txt"
             self.assertEqual(self.take(), [f"full: 1 events in {file}; more than 1,000,000 elements are left at its end,"
-                                           " so `replay --chains` refuses the next file"])
+                                           " so `judge` takes the next file, and `replay --chains` does not"])
         self.assertEqual(self.source.list, [])
 
     def test_the_last_file_opens_the_next_run(self) -> None:

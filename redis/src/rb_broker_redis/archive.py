@@ -41,7 +41,7 @@ class Archive:
             why = (f"more than {MOST_KEPT:,} elements are left at its end" if cut.is_too_large else
                    f"{cut.crossed} jobs that were in hand at its end came back later" if cut.crossed else "")
             yield f"{self._source.name}: {file.count} events in {file.path}" + (
-                f"; {why}, so `replay --chains` refuses the next file" if why else "")
+                f"; {why}, so `judge` takes the next file, and `replay --chains` does not" if why else "")
             position = self._source.position()
 
     def _settle(self) -> Iterator[str]:

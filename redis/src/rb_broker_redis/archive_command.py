@@ -28,7 +28,7 @@ folder.
 
 A job that is in hand may still come back, and its return belongs in the file with the event that gave it. So the latest
 events stay in the Redis until it is known what becomes of their jobs. If twice --events are there and no good place for
-a cut, the best one is taken, and a line says that `replay --chains` refuses the next file. It takes one policy, so it
+a cut, the best one is taken, and a line says that only `judge` takes the next file. Either takes one policy, so it
 refuses a file within which --change-policy changed that: take the events out before, while no job is in hand.
 
 If the Redis itself comes back without events that are in a file already, that file is renamed to NAME-NUMBER.lost-1,

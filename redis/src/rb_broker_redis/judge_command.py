@@ -100,7 +100,7 @@ def _pieces(queue: FollowedQueue, files: Sequence[Path], most: int) -> Iterator[
     at_cut = queue.copy()  # the queue in front of those that wait
     for path in files:
         with open(path, "rb") as file:
-            if _opening_lines(path, file) != [it[:-1] for it in queue.opening()]:
+            if next(file, b"") != HEADER or any(next(file, b"") != it for it in queue.opening()):
                 raise Failed(f"{path}: it does not begin with what the one before it left")
             for line in file:
                 if line.startswith(b"end "):
