@@ -88,11 +88,11 @@ class Processes:
             elif task in hung:
                 self._fail(task, "it took too long, and was ended with its process")
             else:
-                self._app._store.release(task, self._app._now())
+                self._app._store.release(task)
                 self._app._offer(task)
 
     def _hung(self, child: _Child) -> list[StoredTask]:
-        now, tasks = self._app._now(), self._app._tasks
+        now, tasks = self._app._store.now(), self._app._tasks
         return [it for began, it in self._app._store.running(child.owner)
                 if it.name in tasks and now - began > tasks[it.name].timeout]
 

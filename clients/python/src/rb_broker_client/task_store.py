@@ -3,10 +3,12 @@
 import os
 import sqlite3
 import threading
+import time
 import uuid
-from collections.abc import Iterator
+from collections.abc import Callable, Iterator
 from contextlib import contextmanager
 from dataclasses import dataclass, replace
+from typing import Any
 
 from .job import Greeting
 
@@ -37,13 +39,7 @@ _OVERDUE = f"""
     ) RETURNING {_COLUMNS}
 """
 # What was offered to a server that does not greet, too.
-_IN_DOUBT = """
-    UPDATE tasks SET state = 'new', touched = 0 WHERE state = 'waiting' AND (run = 0 OR run >= ?)
-"""
-_REVIVED = f"""
-    UPDATE tasks SET state = 'new', turn = turn + 1, failures = 0, due = :now, touched = :now
-    WHERE id = :id AND state = 'dead' RETURNING {_COLUMNS}
-"""
+_IN_DOUBT = "UPDATE tasks SET state = 'new', touched = 0 WHERE state = 'waiting' AND (run = 0 OR run >= ?)"
 
 
 @dataclass(frozen=True)
@@ -63,29 +59,23 @@ class StoredTask:
 
 
 class Store:
-    """The tasks of one file, which threads and processes of one machine may use. Each method is a transaction, which is
-    on the disk when it returns."""
+    """The tasks of one file, which threads and processes of one machine may use. Each method is a transaction, which no
+    kill of a process takes back. What was added, is done or has failed is on the disk, too, when the method returns."""
 
-    def __init__(self, path: str | os.PathLike[str]) -> None:
+    def __init__(self, path: str | os.PathLike[str], now: Callable[[], float] = time.time) -> None:
         """Raises `sqlite3.Error` if the file can't be used."""
-        self._path = path
+        self._path, self.now = path, now
         self._opened: list[tuple[int, sqlite3.Connection]] = []  # and by which process
-        with self._transaction() as db:
-            db.execute("INSERT INTO file (id) SELECT ? WHERE NOT EXISTS (SELECT 1 FROM file)", [uuid.uuid4().hex[:8]])
-            (self.file,) = db.execute("SELECT id FROM file").fetchone()
+        self._do("INSERT INTO file (id) SELECT :id WHERE NOT EXISTS (SELECT 1 FROM file)", id=uuid.uuid4().hex[:8])
+        ((self.file,),) = self._do("SELECT id FROM file")
 
-    def add(self, name: str, arguments: str, key: str | None, due: float, now: float) -> StoredTask | None:
+    def add(self, name: str, arguments: str, key: str | None, due: float) -> StoredTask | None:
         """Adds a task, unless there is one of this key that is not dead."""
-        task = StoredTask(uuid.uuid4().hex[:16], name, arguments, key, due, 1, 0, "", "new")
-        try:
-            with self._transaction() as db:
-                db.execute("INSERT INTO tasks (id, name, arguments, key, due, touched) VALUES (?, ?, ?, ?, ?, ?)",
-                           [task.id, name, arguments, key, due, now])
-        except sqlite3.IntegrityError:
-            return None
-        return task
+        return self._one(f"""INSERT INTO tasks (id, name, arguments, key, due, touched) VALUES (:id, :name, :arguments,
+            :key, :due, :now) ON CONFLICT DO NOTHING RETURNING {_COLUMNS}""", id=uuid.uuid4().hex[:16], name=name,
+            arguments=arguments, key=key, due=due)
 
-    def sent(self, task: StoredTask, greeting: Greeting | None, now: float) -> None:
+    def sent(self, task: StoredTask, greeting: Greeting | None) -> None:
         """The turn of a task was offered, in the run of this greeting. It stays `new` if that run is lost already."""
         with self._transaction() as db:
             run, lost = db.execute("SELECT run, lost FROM file").fetchone()
@@ -94,7 +84,7 @@ class Store:
             elif greeting is not None and greeting.run < run and greeting.lost != lost:
                 return
             db.execute("UPDATE tasks SET state = 'waiting', touched = ?, run = ? WHERE id = ? AND turn = ? "
-                       "AND state = 'new'", [now, greeting.run if greeting else 0, task.id, task.turn])
+                       "AND state = 'new'", [self.now(), greeting.run if greeting else 0, task.id, task.turn])
 
     def greeted(self, greeting: Greeting) -> int:
         """The broker has this run. If one was lost since the last that was heard of, what it may have had is `new`.
@@ -109,12 +99,12 @@ class Store:
             return 0
         return db.execute(_IN_DOUBT, [run if greeting.run > run else 0]).rowcount
 
-    def claim(self, id: str, turn: int, owner: str, now: float) -> StoredTask | None:
+    def claim(self, id: str, turn: int, owner: str) -> StoredTask | None:
         """The task of a turn that is delivered, from now on run by this owner; or, if it is `running`, by another one.
         None if it is done, cancelled or dead, or has another turn."""
         with self._transaction() as db:
-            row = db.execute(f"SELECT {_COLUMNS}, touched FROM tasks WHERE id = ? AND turn = ? AND state != 'dead'",
-                             [id, turn]).fetchone()
+            row, now = db.execute(f"SELECT {_COLUMNS}, touched FROM tasks WHERE id = ? AND turn = ? AND "
+                                  "state != 'dead'", [id, turn]).fetchone(), self.now()
             if row is None:
                 return None
             *columns, touched = row
@@ -127,73 +117,74 @@ class Store:
 
     def done(self, task: StoredTask) -> None:
         """The task was done, and is forgotten."""
-        with self._transaction() as db:
-            db.execute("DELETE FROM tasks WHERE id = ? AND turn = ?", [task.id, task.turn])
+        self._do("DELETE FROM tasks WHERE id = :id AND turn = :turn", **vars(task))
 
-    def retry(self, task: StoredTask, due: float, error: str, now: float) -> StoredTask:
+    def retry(self, task: StoredTask, due: float, error: str) -> StoredTask:
         """The task failed, and is due again at this moment."""
-        self._change(task, "state = 'new', turn = turn + 1, failures = failures + 1, due = ?, error = ?, touched = ?",
-                     [due, error, now])
+        self._change(task, "state = 'new', turn = turn + 1, failures = failures + 1, due = :due, error = :error",
+                     due=due, error=error)
         return replace(task, turn=task.turn + 1, due=due)
 
-    def bury(self, task: StoredTask, error: str, now: float) -> None:
+    def bury(self, task: StoredTask, error: str) -> None:
         """The task failed for the last time."""
-        self._change(task, "state = 'dead', failures = failures + 1, error = ?, touched = ?", [error, now])
+        self._change(task, "state = 'dead', failures = failures + 1, error = :error", error=error)
 
-    def release(self, task: StoredTask, now: float) -> None:
+    def release(self, task: StoredTask) -> None:
         """The task was not run to its end, and is offered again soon, unless it was already."""
-        self._change(task, "state = 'new', touched = ?", [now])
+        self._change(task, "state = 'new'", is_synced=False)
 
     def cancel(self, key: str) -> bool:
         """Takes out the task of this key, if it waits. Gives whether it did."""
-        with self._transaction() as db:
-            return db.execute("DELETE FROM tasks WHERE key = ? AND state IN ('new', 'waiting')", [key]).rowcount > 0
+        return bool(self._do("DELETE FROM tasks WHERE key = :key AND state IN ('new', 'waiting') RETURNING 1", key=key))
 
     def dead(self) -> list[StoredTask]:
         """The tasks that failed for the last time, in the order in which they did."""
-        with self._transaction() as db:
-            rows = db.execute(f"SELECT {_COLUMNS} FROM tasks WHERE state = 'dead' ORDER BY touched, id")
-            return [StoredTask(*it) for it in rows]
+        rows = self._do(f"SELECT {_COLUMNS} FROM tasks WHERE state = 'dead' ORDER BY touched, id")
+        return [StoredTask(*it) for it in rows]
 
-    def revive(self, id: str, now: float) -> StoredTask | None:
+    def revive(self, id: str) -> StoredTask | None:
         """A dead task is due now, as if it had never failed. None if it is not dead, or another has its key."""
-        try:
-            with self._transaction() as db:
-                row = db.execute(_REVIVED, {"id": id, "now": now}).fetchone()
-        except sqlite3.IntegrityError:
-            return None
-        return row and StoredTask(*row)
+        return self._one(f"""UPDATE OR IGNORE tasks SET state = 'new', turn = turn + 1, failures = 0, due = :now,
+            touched = :now WHERE id = :id AND state = 'dead' RETURNING {_COLUMNS}""", id=id)
 
-    def beat(self, owner: str, now: float) -> None:
+    def beat(self, owner: str) -> None:
         """This owner is alive, and so are the tasks that it runs."""
-        with self._transaction() as db:
-            db.execute("UPDATE tasks SET touched = ? WHERE owner = ? AND state = 'running'", [now, owner])
+        self._do("UPDATE tasks SET touched = :now WHERE owner = :owner AND state = 'running'", is_synced=False,
+                 owner=owner)
 
     def running(self, owner: str) -> list[tuple[float, StoredTask]]:
         """The tasks that this owner runs, each with the moment at which it began."""
-        with self._transaction() as db:
-            rows = db.execute(f"SELECT began, {_COLUMNS} FROM tasks WHERE state = 'running' AND owner = ?", [owner])
-            return [(began, StoredTask(*it)) for began, *it in rows]
+        rows = self._do(f"SELECT began, {_COLUMNS} FROM tasks WHERE state = 'running' AND owner = :owner",
+                        is_synced=False, owner=owner)
+        return [(began, StoredTask(*it)) for began, *it in rows]
 
-    def overdue(self, overdue: float, now: float) -> list[StoredTask]:
+    def overdue(self, overdue: float) -> list[StoredTask]:
         """The tasks that are to be offered again: those that were not offered, those whose owner is dead, and those
         that are so many seconds overdue, or twice as many, and so on, after each time."""
-        words = {"now": now, "overdue": overdue, "unsent": UNSENT, "stale": STALE, "most": AT_ONCE}
-        with self._transaction() as db:
-            return [StoredTask(*it) for it in db.execute(_OVERDUE, words).fetchall()]
+        rows = self._do(_OVERDUE, is_synced=False, overdue=overdue, unsent=UNSENT, stale=STALE, most=AT_ONCE)
+        return [StoredTask(*it) for it in rows]
 
-    def _change(self, task: StoredTask, change: str, words: list[object], condition: str = "state = 'running'") -> None:
-        with self._transaction() as db:
-            db.execute(f"UPDATE tasks SET {change} WHERE id = ? AND turn = ? AND {condition}",
-                       [*words, task.id, task.turn])
+    def _change(self, task: StoredTask, change: str, is_synced: bool = True, **words: Any) -> None:
+        # Of one that is run.
+        self._do(f"UPDATE tasks SET {change}, touched = :now WHERE id = :id AND turn = :turn AND state = 'running'",
+                 is_synced, **{**vars(task), **words})
+
+    def _one(self, statement: str, **words: Any) -> StoredTask | None:
+        rows = self._do(statement, **words)
+        return StoredTask(*rows[0]) if rows else None
+
+    def _do(self, statement: str, is_synced: bool = True, **words: Any) -> list[Any]:
+        with self._transaction(is_synced) as db:
+            return db.execute(statement, {**words, "now": self.now()}).fetchall()  # once the file is this one's
 
     @contextmanager
-    def _transaction(self) -> Iterator[sqlite3.Connection]:
+    def _transaction(self, is_synced: bool = False) -> Iterator[sqlite3.Connection]:
         with _USING:
             if not self._opened or self._opened[-1][0] != os.getpid():  # no process may close what another has opened
                 db = sqlite3.connect(self._path, timeout=30, isolation_level=None, check_same_thread=False)
                 db.executescript("PRAGMA journal_mode = WAL; PRAGMA synchronous = FULL;" + _TABLES)
                 self._opened.append((os.getpid(), db))
             with self._opened[-1][1] as db:  # which commits, or takes back what was done before an exception
+                db.execute(f"PRAGMA synchronous = {'FULL' if is_synced else 'NORMAL'}")
                 db.execute("BEGIN IMMEDIATE")
                 yield db

@@ -23,12 +23,12 @@ class Testing:
 
     def __enter__(self) -> Self:
         app = self._app
-        self._kept = app._store, app._now, app._send
-        app._store, app._now, app._send = Store(":memory:"), lambda: self._now, self._keep
+        self._kept = app._store, app._send
+        app._store, app._send = Store(":memory:", lambda: self._now), self._keep
         return self
 
     def __exit__(self, *fault: object) -> None:
-        self._app._store, self._app._now, self._app._send = self._kept
+        self._app._store, self._app._send = self._kept
 
     def pass_by(self, delay: Duration | str = 0) -> None:
         """Lets this time pass, and runs what falls due, in order."""

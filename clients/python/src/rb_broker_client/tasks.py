@@ -9,7 +9,6 @@ import os
 import random
 import ssl
 import threading
-import time
 import traceback
 import uuid
 from collections.abc import Callable, Iterator
@@ -95,7 +94,7 @@ class Task:
         """The same at a moment, which must have a time zone. One that has passed is now."""
         if moment.tzinfo is None:
             raise ValueError(f"a moment has a time zone: {moment}")
-        return self.later(max(moment.timestamp() - self._app._now(), 0), *words, key=key, **options)
+        return self.later(max(moment.timestamp() - self._app._store.now(), 0), *words, key=key, **options)
 
 
 class Tasks:
@@ -117,7 +116,6 @@ class Tasks:
         self._place: Any = {"port": port, "host": host, "tls": tls}
         self._send: Callable[[str, float], Greeting | None] = lambda payload, delay: self._producer.offer(
             payload, delay=delay).greeting
-        self._now: Callable[[], float] = time.time
         self._tasks: dict[str, Task] = {}
         self._middleware: list[Middleware] = []
         self._owner, self._is_over = "", threading.Event()
@@ -157,7 +155,7 @@ class Tasks:
 
     def again(self, *ids: str) -> int:
         """Offers dead tasks again, with all their attempts. Gives how many: not one whose key another task has."""
-        revived = [it for it in (self._store.revive(id, self._now()) for id in ids) if it is not None]
+        revived = [it for it in (self._store.revive(id) for id in ids) if it is not None]
         for it in revived:
             self._offer(it)
         return len(revived)
@@ -204,19 +202,18 @@ class Tasks:
                 it.join()
 
     def _add(self, name: str, arguments: str, key: str | None, delay: float) -> str | None:
-        now = self._now()
-        task = self._store.add(name, arguments, key, now + delay, now)
+        task = self._store.add(name, arguments, key, self._store.now() + delay)
         if task is not None:
             self._offer(task)
         return task.id if task else None
 
     def _offer(self, task: StoredTask) -> bool:
         try:
-            greeting = self._send(f"{self._store.file}.{task.id}.{task.turn}", max(task.due - self._now(), 0))
+            greeting = self._send(f"{self._store.file}.{task.id}.{task.turn}", max(task.due - self._store.now(), 0))
         except (BrokerError, OSError) as fault:
             log.warning("task %s of %s is offered later, from the file: %s", task.id, task.name, fault)
             return False
-        self._store.sent(task, greeting, self._now())
+        self._store.sent(task, greeting)
         return True
 
     def _greeted(self, greeting: Greeting) -> None:
@@ -235,7 +232,7 @@ class Tasks:
         except Exception as raised:
             fault = raised
         except BaseException:  # such as a cancellation
-            await kind.apart(partial(self._store.release, task, self._now()))
+            await kind.apart(partial(self._store.release, task))
             raise
         await kind.apart(partial(self._fail, task, fault) if fault else partial(self._store.done, task))
 
@@ -275,7 +272,7 @@ class Tasks:
         id, _, turn = rest.partition(".")
         if file != self._store.file or not turn.isdecimal():
             raise LookupError(f"{job.payload} is no task of this file, and is left for another worker")
-        task = self._store.claim(id, int(turn), self._owner, self._now())
+        task = self._store.claim(id, int(turn), self._owner)
         if task is None:
             return None  # it was done, or is cancelled, or was offered more than once
         if task.state == "running":  # elsewhere: if that was killed nobody else would come back to it so soon
@@ -284,8 +281,8 @@ class Tasks:
         if task.name in self._tasks:
             return task
         log.warning("task %s is left for another worker: no function here is named %s", task.id, task.name)
-        self._store.release(task, self._now())
-        self._store.sent(task, self._send(job.payload, STALE), self._now())
+        self._store.release(task)
+        self._store.sent(task, self._send(job.payload, STALE))
         return None
 
     def _fail(self, task: StoredTask, fault: Exception) -> None:
@@ -293,20 +290,20 @@ class Tasks:
         failures, error = task.failures + 1, "".join(traceback.format_exception(fault))
         if failures >= function.attempts:
             log.error("task %s of %s failed in its last attempt, %d\n%s", task.id, task.name, failures, error)
-            self._store.bury(task, error, self._now())
+            self._store.bury(task, error)
             return
         delay = fault.delay if isinstance(fault, RetryLater) else function.backoff(failures)
         log.warning("attempt %d of task %s of %s failed; the next is in %.1f seconds\n%s", failures, task.id, task.name,
                     delay, error)
-        self._offer(self._store.retry(task, self._now() + delay, error, self._now()))
+        self._offer(self._store.retry(task, self._store.now() + delay, error))
 
     def _keep_alive(self) -> None:
         while not self._is_over.wait(STALE / 5):
-            self._store.beat(self._owner, self._now())
+            self._store.beat(self._owner)
 
     def _keep_offered(self) -> None:
         while True:
-            while found := self._store.overdue(self._overdue, self._now()):
+            while found := self._store.overdue(self._overdue):
                 if self._is_over.is_set() or not all(self._offer(it) for it in found):
                     break  # the rest later
             if self._is_over.wait(STALE / 2):

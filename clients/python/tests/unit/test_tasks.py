@@ -80,16 +80,34 @@ class TasksTest(ScriptedTest):
     def test_a_task_is_in_the_file_before_it_is_offered_and_only_one_process_runs_it(self):
         """There is no server, and the file is read as other processes would."""
         id = self.note.later(0, 17, key="one")
-        store, now = Tasks(self.path, free_port())._store, time.time()
-        self.assertEqual([it.id for it in store.overdue(60, now + 6)], [id])
-        self.assertEqual([store.claim(id, 1, it, now).state for it in ("this", "other")], ["claimed", "running"])
+        after = self.moments(Tasks(self.path, free_port())._store)
+        self.assertEqual([it.id for it in after(6).overdue(60)], [id])
+        self.assertEqual([after(0).claim(id, 1, it).state for it in ("this", "other")], ["claimed", "running"])
         self.assertFalse(self.app.cancel("one"))
-        store.beat("this", now + 9)
-        self.assertEqual(store.overdue(60, now + 18), [])
-        self.assertEqual([it.id for it in store.overdue(60, now + 20)], [id])
-        done = store.claim(id, 1, "other", now + 20)
-        store.done(done)
-        self.assertIsNone(store.claim(id, 1, "this", now + 20))
+        after(9).beat("this")
+        self.assertEqual(after(18).overdue(60), [])
+        self.assertEqual([it.id for it in after(20).overdue(60)], [id])
+        done = after(20).claim(id, 1, "other")
+        after(20).done(done)
+        self.assertIsNone(after(20).claim(id, 1, "this"))
+
+    def test_a_moment_is_read_once_the_file_can_be_written(self):
+        """A process that waited long for others is not taken for a dead one."""
+        id, store = self.note.later(0, 17), self.app._store
+        store.now = lambda: time.time() + 6 * store._opened[-1][1].in_transaction
+        store.claim(id, 1, "this")
+        self.assertGreater(store.running("this")[0][0], time.time() + 5)
+        self.assertEqual(store.claim(id, 1, "other").state, "running")
+
+    def moments(self, store):
+        """Gives the store so many seconds from now."""
+        now = time.time()
+
+        def after(seconds):
+            store.now = lambda: now + seconds
+            return store
+
+        return after
 
     def test_a_function_that_is_not_known_and_a_task_of_another_file_are_left_for_others(self):
         with self.app.testing() as moments:
@@ -102,22 +120,23 @@ class TasksTest(ScriptedTest):
 
     def test_after_a_lost_run_what_is_not_known_to_wait_is_offered_again(self):
         """Each task is named by the run that it was offered in, or is done, dead or runs."""
-        store, now, ids = self.app._store, time.time(), {}
+        store, ids = self.app._store, {}
+        after = self.moments(store)
         for name, run in {"7": 7, "8": 8, "done": 8, "runs": 8, "dead": 8, "none": None, "9": 9}.items():
-            task = store.add("note", "[]", name, now, now)
+            task = after(0).add("note", "[]", name, time.time())
             ids[task.id] = name
-            store.sent(task, run and Greeting(run, 4 + (run > 8), 0), now)
-            claimed = store.claim(task.id, 1, "other", now) if name in ("done", "runs", "dead") else None
+            store.sent(task, run and Greeting(run, 4 + (run > 8), 0))
+            claimed = store.claim(task.id, 1, "other") if name in ("done", "runs", "dead") else None
             if name == "done":
                 store.done(claimed)
             elif name == "dead":
-                store.bury(claimed, "", now)
-        self.assertEqual({ids[it.id] for it in store.overdue(60, now)}, {"8", "none"})
-        late = store.add("note", "[]", None, now, now)
-        store.sent(late, Greeting(8, 4, 0), now)  # which was lost before it was known to be accepted
-        self.assertEqual([it.id for it in store.overdue(60, now + 6) if it.state == "new"][-1], late.id)
-        self.assertEqual([store.greeted(Greeting(*it, 0)) for it in ((9, 5), (10, 5), (12, 5))], [0, 0, 0])
-        self.assertEqual((store.greeted(Greeting(1, 0, 0)), {ids[it.id] for it in store.overdue(60, now)}),
+                store.bury(claimed, "")
+        self.assertEqual({ids[it.id] for it in store.overdue(60)}, {"8", "none"})
+        late = store.add("note", "[]", None, time.time())
+        store.sent(late, Greeting(8, 4, 0))  # which was lost before it was known to be accepted
+        self.assertIn(late.id, [it.id for it in after(6).overdue(60)])
+        self.assertEqual([after(0).greeted(Greeting(*it, 0)) for it in ((9, 5), (10, 5), (12, 5))], [0, 0, 0])
+        self.assertEqual((store.greeted(Greeting(1, 0, 0)), {ids[it.id] for it in store.overdue(60)}),
                          (2, {"7", "9"}))  # another service
 
     def test_coroutine_functions(self):
@@ -182,7 +201,8 @@ class TasksTest(ScriptedTest):
             self.app.stop()
 
         with unittest.mock.patch.object(self.app, "_run", self.run_from_file), \
-                unittest.mock.patch("rb_broker_client.task_store.AT_ONCE", 1):
+                unittest.mock.patch("rb_broker_client.task_store.AT_ONCE", 1), \
+                unittest.mock.patch("rb_broker_client.task_store.UNSENT", 0):
             threading.Thread(target=stop, daemon=True).start()
             self.assertEqual(self.app.run(2, processes=2), Report(done=2))
         self.assertTrue(is_done())
@@ -193,8 +213,8 @@ class TasksTest(ScriptedTest):
     def run_from_file(self, threads, owner):
         def work():
             while not self.app._is_over.wait(0.01):
-                for it in self.app._store.overdue(60, time.time() + 6):
-                    task = self.app._store.claim(it.id, it.turn, owner, time.time())
+                for it in self.app._store.overdue(60):
+                    task = self.app._store.claim(it.id, it.turn, owner)
                     waiting.run(self.app._attempt(waiting.Blocking, task))
 
         workers = [threading.Thread(target=work, daemon=True) for _ in range(threads)]
@@ -205,9 +225,8 @@ class TasksTest(ScriptedTest):
         return Report(done=1)
 
     def test_dead_tasks_by_the_command(self):
-        store, now = self.app._store, time.time()
-        id = self.note.later(0, 17)
-        store.bury(store.claim(id, 1, "one", now), "Traceback\nValueError: last\n", now)
+        store, id = self.app._store, self.note.later(0, 17)
+        store.bury(store.claim(id, 1, "one"), "Traceback\nValueError: last\n")
         told = f"{id} note [[17], {{}}] 1 ValueError: last\n"
         self.assertEqual(run("tasks", "dead", "test_tasks:app"), (0, told, ""))
         self.assertEqual(run("tasks", "again", "test_tasks:app", id)[:2], (0, "offered 1\n"))
