@@ -21,6 +21,7 @@ from .run import Run
 log = logging.getLogger("rb_broker_client.worker")
 
 BESIDE = 5  # while jobs run a wait lasts this part: what ends meanwhile is told only behind it
+REST = 5.0  # seconds for which an old session waits for its jobs
 
 Asked = tuple[Request[Any], Callable[[Any], None]]  # a request, and what takes its answer
 
@@ -63,16 +64,13 @@ class Work:
         """Whether the session is to be left once no job is in hand."""
         return self.is_used_up or monotonic() >= self._end
 
-    @property
-    def is_lingering(self) -> bool:
-        """Whether it is to be left, and jobs are in hand."""
-        return bool(self._held) and self.is_old
-
-    def ask(self, free: int, running: int, is_stopping: bool, stays: bool = False) -> list[Request[Any]]:
+    def ask(self, free: int, running: int, is_stopping: bool) -> list[Request[Any]]:
         """What is to be sent now. `free` is how many more jobs can be started at once, and `running` how many run. An
-        old session fetches no more, unless it `stays` since no other can take its place. One that can be left, since
-        nothing is to be fetched, held, or answered, is left."""
+        old session fetches no more, so that it ends with the jobs in hand, and is left then. If these take long, it
+        goes on for as long as before, unless its server has said that it ends."""
         self._looked = monotonic()
+        if self.greeting is None and self._looked >= self._end + REST:
+            self._end = self._looked + self._limit
         if self._refused and (is_stopping or self._looked >= self._next_try):
             self._try_again(is_stopping)
         asked, self._ended = self._ended, []
@@ -81,7 +79,7 @@ class Work:
         elif (is_stopping or self.is_old) and not (self._held or self._asked):
             self._is_leaving = True
             asked.append((Request.quit(), self._left))
-        elif free > 0 and not (is_stopping or self.is_used_up or self.is_old and not stays) and self._may_fetch():
+        elif free > 0 and not (is_stopping or self.is_old) and self._may_fetch():
             asked += self._fetch(free, running)
         self._asked.extend([take for _, take in asked])
         return [request for request, _ in asked]
@@ -126,7 +124,7 @@ class Work:
     def pause(self) -> float:
         """Within how many seconds something is to be done though nothing happens, which was not to be done when it was
         asked last."""
-        moments = [it for it in (self._next_try, self._end) if it > self._looked]
+        moments = [it for it in (self._next_try, self._end, self._end + REST) if it > self._looked]
         return max(min(moments) - monotonic(), 0) if moments else math.inf
 
     def _try_again(self, is_stopping: bool) -> None:

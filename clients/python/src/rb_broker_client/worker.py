@@ -25,7 +25,6 @@ from .work import Work
 
 log = logging.getLogger(__name__)
 
-BESIDE = 1.0  # seconds within which a session is to be connected beside another, whose jobs may end
 LONG = 60.0  # seconds after which a handler that runs is logged, and may hang
 SOON = 0.01  # seconds after which what the connection did not take is tried again
 
@@ -88,7 +87,7 @@ class BaseWorker(Generic[Handler, OnDead]):
         self._limit, self._is_first = math.inf if session is None else seconds(session), True
         self._turns = self._turns_of(concurrency > 1 or timeout is not None)
         self._has_run = self._is_stopping = self._is_connecting = False
-        self._visits: dict[Work, Session] = {}  # two at most, the older one first
+        self._visit: tuple[Work, Session] | None = None
         self._next_visit = 0.0  # when the next may begin
         self._calls: set[_Call] = set()  # that run
         self._ends: deque[tuple[_Call, bool | None]] = deque()  # whether the job is done, or None if it ends the worker
@@ -124,8 +123,7 @@ class BaseWorker(Generic[Handler, OnDead]):
             await self._turns.run(self._turn)
         finally:
             is_over.set()
-            for work in [*self._visits]:
-                self._end(work)
+            self._end()
             await self._turns.close()
         return self.report
 
@@ -140,7 +138,8 @@ class BaseWorker(Generic[Handler, OnDead]):
 
     def _turn(self) -> float | None:
         self._settle()
-        for work, session in [*self._visits.items()]:
+        if self._visit is not None:
+            work, session = self._visit
             try:
                 self._receive(work, session)
                 if not self._turns.has_started:
@@ -148,26 +147,21 @@ class BaseWorker(Generic[Handler, OnDead]):
             except OSError as fault:
                 if work.greeting is None or work.is_holding or not isinstance(fault, ConnectionError):
                     self._run_known.away("the session at %s was lost: %s", fault)
-                self._end(work, self._pauses.next())
+                self._end(self._pauses.next())
         if self._may_connect():
             self._is_connecting = True
             self._turns.begin(self._connect())
             self._settle()  # what it raised, if it has ended
-        is_over = self._is_stopping and not (self._visits or self._is_connecting)
+        is_over = self._is_stopping and not (self._visit or self._is_connecting)
         return None if is_over and all(it.is_told for it in self._calls) else self._pause()
 
     def _may_connect(self) -> bool:
-        # If there is no session, or the one that there is fetches no more since it is old, and waits for jobs that may
-        # take long.
-        if self._visits and not (len(self._visits) == 1 and [*self._visits][0].is_lingering):
-            return False
-        return not (self._is_stopping or self._is_connecting or len(self._calls) >= self._concurrency
+        return not (self._visit or self._is_stopping or self._is_connecting or len(self._calls) >= self._concurrency
                     or time.monotonic() < self._next_visit)
 
     async def _connect(self) -> None:
-        patience = min(self._patience, BESIDE) if self._visits else self._patience
         try:
-            session = self._session_at(patience)
+            session = self._session_at(self._patience)
             with ExitStack() as undo:
                 undo.callback(session.close)
                 await session._connect()
@@ -177,7 +171,7 @@ class BaseWorker(Generic[Handler, OnDead]):
                 session.post(*work.ask(0, 0, False))
                 undo.pop_all()
             self._turns.watch(session)
-            self._visits[work] = session
+            self._visit = work, session
         except OSError as fault:
             self._run_known.away("no server at %s: %s", fault)
             self._next_visit = time.monotonic() + self._pauses.next()
@@ -191,9 +185,8 @@ class BaseWorker(Generic[Handler, OnDead]):
         pause = min([FOR_EVER, *(it.began + self._timeout - now for it in self._limited())])
         if self._next_visit > now:
             pause = min(self._next_visit - now, pause)
-        if len(self._visits) == 2:
-            pause = min(pause, BESIDE)  # the older one may fetch on once its jobs take long
-        for work, session in self._visits.items():
+        if self._visit is not None:
+            work, session = self._visit
             pause = min(self._late(work, session) - now, work.pause(), pause if session.is_sent else SOON)
         return max(pause, 0)
 
@@ -222,29 +215,20 @@ class BaseWorker(Generic[Handler, OnDead]):
 
     def _attend(self, work: Work, session: Session) -> None:
         running = len(self._calls)
-        free = self._concurrency - running - sum(it.fetching for it in self._visits)
-        questions = work.ask(free, running, self._is_stopping, self._stays(work))
+        questions = work.ask(self._concurrency - running - work.fetching, running, self._is_stopping)
         if questions or not session.is_sent:
             session.post(*questions)
         if work.is_left or self._is_stopping and not work.is_served:
-            self._end(work, self._pauses.next() if work.is_used_up else 0)
+            self._end(self._pauses.next() if work.is_used_up else 0)
 
-    def _stays(self, work: Work) -> bool:
-        # Though a session is old it fetches on if there are two already, or if the next one is not served and this one
-        # can't end soon: others would not have its place either.
-        if len(self._visits) < 2:
-            return False
-        _, last = self._visits
-        limit = time.monotonic() - LONG
-        return work is last or not last.is_served and any(
-            it.work is work and not it.is_told and it.began <= limit for it in self._calls)
-
-    def _end(self, work: Work, pause: float = 0) -> None:
-        work.lost()
-        self._bury(work)
-        session = self._visits.pop(work)
-        session.close()
-        self._next_visit = max(self._next_visit, time.monotonic() + pause)
+    def _end(self, pause: float = 0) -> None:
+        visit, self._visit = self._visit, None
+        if visit is not None:
+            work, session = visit
+            work.lost()
+            self._bury(work)
+            session.close()
+            self._next_visit = max(self._next_visit, time.monotonic() + pause)
 
     def _start(self, function: Function, job: Job, work: Work | None) -> None:
         call = _Call(function, job, work, time.monotonic())
@@ -290,7 +274,7 @@ class BaseWorker(Generic[Handler, OnDead]):
                 else:
                     call.work.ended(call.job, is_done)
                     self._bury(call.work)
-        if self._fault is not None and not (self._calls or any(it.is_holding for it in self._visits)):
+        if self._fault is not None and not (self._calls or self._visit and self._visit[0].is_holding):
             raise self._fault
         for it in self._limited():
             if it.work and it.began <= time.monotonic() - self._timeout:
@@ -324,14 +308,14 @@ class Worker(BaseWorker[Callable[[Job], None], Callable[[Job], None]]):
     With a `concurrency` of 1 and no `timeout` the handler runs in the thread of `run`, and else in up to 64 threads of
     its own: it must bear to be called by several at a time.
 
-    It has one session at a time. One that is older than `session` fetches no more and ends with its last job; if that
-    may take long the next begins beside it. So a server which is to be replaced can end, and other clients have their
-    turn. Where others may be waiting a session is left after three seconds. When a session is lost the worker connects
-    again, after pauses that grow while no server answers. So a job may be handled more than once, even if its handler
-    returned: when the session is lost before the server has read that the job is done, it comes back as its next
-    attempt.
+    It has one session at a time, which keeps one of the server's workers busy. A server that greets says when it is to
+    be left. At another one, a session that is older than `session` fetches no more and ends with its last job, or goes
+    on after five seconds; where others may be waiting it is old after three. So a server which is to be replaced can
+    end, and other clients have their turn. When a session is lost the worker connects again, after pauses that grow
+    while no server answers. So a job may be handled more than once, even if its handler returned: when the session is
+    lost before the server has read that the job is done, it comes back as its next attempt.
 
-    It never fetches more jobs than it can start at once. Each session keeps one of the server's workers busy.
+    It never fetches more jobs than it can start at once.
     """
 
     _session_of, _turns_of = Broker, ThreadTurns
