@@ -69,7 +69,7 @@ class Processes:
         def watch() -> None:
             while os.getppid() == parent:
                 time.sleep(LOOK)
-            self._app.stop()
+            os._exit(1)  # the parent was killed, and nobody would end this process if it hangs
 
         threading.Thread(target=watch, daemon=True).start()
         report.send(self._app._run(self._threads, owner))

@@ -1,6 +1,7 @@
 """Tasks in this process, at moments that the tests set, and what is in their file."""
 import asyncio
 import os
+import signal
 import threading
 import time
 import unittest.mock
@@ -209,6 +210,33 @@ class TasksTest(ScriptedTest):
         self.assertEqual({it.error.strip().splitlines()[-1] for it in self.app.dead()}, {
             "TimeoutError: it took too long, and was ended with its process",
             "TimeoutError: its process ended with status 3"})
+
+    def test_a_process_ends_with_the_one_that_watches_it(self):
+        """Whatever its tasks do."""
+        pids, hangs = f"{self.path}.pids", lambda threads, owner: (self.write_pid(pids), time.sleep(60))
+        with unittest.mock.patch.object(self.app, "_run", hangs):
+            parent = os.fork() or self.run_processes(pids)
+        deadline, told = time.monotonic() + PATIENCE, ()
+        while len(told) < 2 and time.monotonic() < deadline:
+            time.sleep(0.05)
+            told = [int(it) for it in open(pids).read().split()] if os.path.exists(pids) else ()
+        os.kill(parent, signal.SIGKILL)
+        os.waitpid(parent, 0)
+        lives = lambda: os.path.exists(path := f"/proc/{told[1]}/stat") and open(path).read().split(") ")[1][0] != "Z"
+        while lives() and time.monotonic() < deadline:
+            time.sleep(0.05)
+        self.assertFalse(lives())
+
+    def run_processes(self, pids):
+        try:
+            self.write_pid(pids)
+            self.app.run(1, processes=1)
+        finally:
+            os._exit(0)
+
+    def write_pid(self, path):
+        with open(path, "a") as file:
+            file.write(f"{os.getpid()} ")
 
     def run_from_file(self, threads, owner):
         def work():
