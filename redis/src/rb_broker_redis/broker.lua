@@ -102,6 +102,8 @@ local MOST_WORK = 512 -- the same, in calls and in jobs that they give or let fa
 local WORK_BETWEEN_LOOKS = 16
 local NEVER = '~' -- above every moment
 local MOST_DROPPED = 50000 -- events that go at once
+local READ_AHEAD = 16 -- elements that are read at once from the front of due
+local MOST_NEW = 64 -- elements of a step that due does not have yet
 local ENDED = '0' -- in the place of a score: the gateway's sessions are ended
 
 -- What stands before a number of so many digits. A library that is loaded may not use string.rep.
@@ -109,8 +111,13 @@ local ZEROS = { [20] = '' }
 for digits = 19, 0, -1 do ZEROS[digits] = ZEROS[digits + 1] .. '0' end
 
 local function pad(number) return ZEROS[#number] .. number end
-local function plain(digits) return string.match(digits, '^0*(%d+)$') end
 local function whole(number) return string.format('%d', number) end
+local function padded(number) return string.format('%020d', number) end
+
+local function plain(digits)
+    local place = string.find(digits, '[1-9]')
+    return place and string.sub(digits, place) or '0'
+end
 
 -- The sum as 20 digits, or nil if it passes 2^64 - 1.
 local function add(a, b)
@@ -139,7 +146,9 @@ end
 
 local function moment_of(microsecond) return pad(whole(microsecond) .. '000') end
 
--- The queue as a step sees it. Events, counters and the wake are written by `close`, once for all calls of a step.
+-- The queue as a step sees it. Events, counters and the wake are written by `close`, once for all calls of a step; what
+-- changes in due and ids by `settle`, and in held by `settle_held`, at the end or before somebody looks for it there. So
+-- an element that is given in the step that offers it is never in due.
 local FIELDS = { 'next', 'at', 'calls', 'fetched', 'wake', 'pace', 'period', 'attempts', 'limit', 'history', 'loading',
     'format', 'most' }
 
@@ -151,7 +160,8 @@ local function open(keys, moment)
     if state[11] then return nil, is_loading() end
     if (state[12] or FORMAT) ~= FORMAT then return nil, is_later(state[12]) end
     if not state[6] then return nil, redis.error_reply('NOQUEUE there is no such queue') end
-    local clock, at = moment == '' and moment_of(microseconds()) or moment, state[2]
+    local now = microseconds()
+    local clock, at = moment == '' and moment_of(now) or moment, state[2]
     if clock > at then at = clock end
     local asked = moment == '' and at or moment
     return {
@@ -161,7 +171,8 @@ local function open(keys, moment)
         pace = state[6], period = state[7], attempts = tonumber(state[8]), limit = tonumber(state[9] or '1e300'),
         silent = state[10] == 'no', brief = state[10] == 'brief', lines = {}, counts = {},
         at_before = state[2], calls_before = tonumber(state[3]), wake_before = state[5], work = 0,
-        returned = 0, died = 0,
+        returned = 0, died = 0, began = now,
+        heads = {}, first = 1, popped = 0, ahead = 1, new = {}, taken = {}, holds = {}, held_now = {},
         most = tonumber(string.match(state[13] or '', '^%d+')), refuses = string.find(state[13] or '', 'refuse'),
     }
 end
@@ -182,7 +193,35 @@ local function append(queue)
     queue.lines = {}
 end
 
+-- Writes what the step did to the elements.
+local function settle(queue)
+    local keys, new = queue.keys, queue.new
+    if queue.popped > 0 then
+        redis.call('ZREMRANGEBYRANK', keys[1], 0, queue.popped - 1)
+        redis.call('HDEL', keys[2], unpack(queue.taken))
+    end
+    if #new > 0 then
+        local members, ids = {}, {}
+        for place, member in ipairs(new) do
+            members[2 * place - 1], members[2 * place] = 0, member
+            ids[2 * place - 1], ids[2 * place] = plain(string.sub(member, 22, 41)), string.sub(member, 1, 20)
+        end
+        redis.call('ZADD', keys[1], unpack(members))
+        redis.call('HSET', keys[2], unpack(ids))
+    end
+    queue.heads, queue.first, queue.popped, queue.is_all = {}, 1, 0, nil
+    queue.new, queue.least, queue.taken = {}, nil, {}
+end
+
+-- Writes what the step let sessions hold.
+local function settle_held(queue)
+    if #queue.holds > 0 then redis.call('ZADD', queue.keys[3], unpack(queue.holds)) end
+    queue.holds, queue.held_now = {}, {}
+end
+
 local function close(queue)
+    if queue.popped > 0 or #queue.new > 0 then settle(queue) end
+    if #queue.holds > 0 then settle_held(queue) end
     append(queue)
     for _, field in ipairs({ 'returned', 'died' }) do
         if queue[field] > 0 then redis.call('HINCRBY', queue.keys[4], field, whole(queue[field])) end
@@ -212,22 +251,42 @@ end
 
 local function is_full(queue) return queue.calls >= queue.limit end
 
--- The earliest member of due, or false if the queue is empty.
+-- The place of the earliest of the new elements, if there is one.
+local function least_new(queue)
+    local new, least = queue.new, queue.least
+    if not least and #new > 0 then
+        least = 1
+        for place = 2, #new do
+            if new[place] < new[least] then least = place end
+        end
+        queue.least = least
+    end
+    return least
+end
+
+-- The member of the earliest element, and its place if it is a new one; nothing if the queue is empty.
 local function head_of(queue)
-    if queue.head == nil then queue.head = redis.call('ZRANGE', queue.keys[1], 0, 0)[1] or false end
-    return queue.head
+    local head = queue.heads[queue.first]
+    if not head and not queue.is_all then
+        queue.heads = redis.call('ZRANGE', queue.keys[1], queue.popped, queue.popped + queue.ahead - 1)
+        queue.first, queue.is_all = 1, #queue.heads < queue.ahead
+        head = queue.heads[1]
+    end
+    local least = least_new(queue)
+    if least and (not head or queue.new[least] < head) then return queue.new[least], least end
+    return head
 end
 
 -- Inserts an element, and records its offer. A first attempt has no origin yet.
 local function insert(queue, seat, expiry, origin, first, attempt, payload)
-    local id = whole(queue.next)
-    queue.next = queue.next + 1
-    local shown = plain(expiry)
+    local id, shown = whole(queue.next), plain(expiry)
     local rest = (origin or id) .. ' ' .. (first or shown) .. ' ' .. attempt .. ' ' .. payload
-    local member = expiry .. ':' .. pad(id) .. ' ' .. rest
-    redis.call('ZADD', queue.keys[1], 0, member)
-    redis.call('HSET', queue.keys[2], id, expiry)
-    if queue.head ~= nil and (not queue.head or member < queue.head) then queue.head = member end
+    local member = expiry .. ':' .. padded(queue.next) .. ' ' .. rest
+    queue.next = queue.next + 1
+    if #queue.new == MOST_NEW then settle(queue) end
+    local new = queue.new
+    new[#new + 1] = member
+    if queue.least and member < new[queue.least] then queue.least = #new end
     if expiry < queue.wake then
         queue.wake = expiry
         if not queue.earlier or expiry < queue.earlier then queue.earlier = expiry end
@@ -249,18 +308,27 @@ end
 
 -- Takes out the earliest element, if it has expired, and lets the session hold it. -> its id and its ITEM line
 local function fetch(queue, seat)
-    local head = head_of(queue)
-    if not head or string.sub(head, 1, 20) > queue.at then return nil end
-    local expiry, id, attempt, payload = string.match(head, '^(%d+):(%d+) %d+ %d+ (%d+) (.*)$')
+    local head, place = head_of(queue)
+    local expiry = head and string.sub(head, 1, 20)
+    if not head or expiry > queue.at then return nil end
+    local id, rest = string.sub(head, 22, 41), string.sub(head, 43)
     local shown = plain(id)
-    redis.call('ZPOPMIN', queue.keys[1])
-    redis.call('HDEL', queue.keys[2], shown)
-    queue.head = nil
-    queue.fetched, queue.work = queue.fetched + 1, queue.work + 1
-    redis.call('ZADD', queue.keys[3], 0, pad(seat) .. ':' .. id .. ' ' .. pad(whole(queue.fetched)) .. ' ' .. expiry
-        .. ' ' .. string.sub(head, 43))
+    if place then
+        local new = queue.new
+        new[place] = new[#new]
+        new[#new] = nil
+        queue.least = nil
+    else
+        queue.first, queue.popped = queue.first + 1, queue.popped + 1
+        queue.taken[queue.popped] = shown
+    end
     queue.counts[seat] = count_of(queue, seat) + 1
-    return shown, 'ITEM ' .. shown .. ' ' .. plain(expiry) .. ' ' .. attempt .. ' ' .. payload .. '\n'
+    queue.fetched, queue.work = queue.fetched + 1, queue.work + 1
+    local holds = queue.holds
+    holds[#holds + 1] = 0
+    holds[#holds + 1] = pad(seat) .. ':' .. id .. ' ' .. padded(queue.fetched) .. ' ' .. expiry .. ' ' .. rest
+    queue.held_now[shown] = true
+    return shown, 'ITEM ' .. shown .. ' ' .. plain(expiry) .. ' ' .. string.match(rest, '^%d+ %d+ (.*)$') .. '\n'
 end
 
 -- When a wait that finds nothing has to be tried again.
@@ -309,6 +377,7 @@ end
 
 -- Ends a session: what it holds fails in the order of the fetches. -> how many jobs are lost
 local function end_session(queue, seat)
+    settle_held(queue)
     local prefix = pad(seat)
     local members = redis.call('ZRANGEBYLEX', queue.keys[3], '[' .. prefix .. ':', '(' .. prefix .. ';')
     local jobs, lost = {}, 0
@@ -391,12 +460,12 @@ end
 
 function requests.REMOVE(queue, seat, id)
     if is_full(queue) then return FULL end
+    settle(queue)
     local expiry = redis.call('HGET', queue.keys[2], id)
     if expiry then
         local member = expiry .. ':' .. pad(id)
         redis.call('ZREMRANGEBYLEX', queue.keys[1], '[' .. member .. ' ', '(' .. member .. '!')
         redis.call('HDEL', queue.keys[2], id)
-        queue.head = nil
     end
     local answer = expiry and 'yes' or 'no'
     record(queue, seat, 'remove ' .. id .. ' ' .. answer)
@@ -419,20 +488,21 @@ end
 
 function requests.CLEAR(queue, seat)
     if is_full(queue) then return FULL end
+    settle(queue)
     redis.call('UNLINK', queue.keys[1], queue.keys[2])
-    queue.head = false
     record(queue, seat, 'clear')
     return 'CLEARED\n'
 end
 
 function requests.SIZE(queue, seat)
     if is_full(queue) then return FULL end
-    local count = whole(redis.call('ZCARD', queue.keys[1]))
+    local count = whole(redis.call('ZCARD', queue.keys[1]) - queue.popped + #queue.new)
     record(queue, seat, 'size ' .. count)
     return 'SIZE ' .. count .. '\n'
 end
 
 function requests.DONE(queue, seat, id)
+    if queue.held_now[id] then settle_held(queue) end
     local member = pad(seat) .. ':' .. pad(id)
     local ended = redis.call('ZREMRANGEBYLEX', queue.keys[3], '[' .. member .. ' ', '(' .. member .. '!')
     if ended == 0 then return NOT_HELD end
@@ -441,6 +511,7 @@ function requests.DONE(queue, seat, id)
 end
 
 function requests.FAIL(queue, seat, id)
+    if queue.held_now[id] then settle_held(queue) end
     local member = pad(seat) .. ':' .. pad(id)
     member = redis.call('ZRANGEBYLEX', queue.keys[3], '[' .. member .. ' ', '(' .. member .. '!')[1]
     if not member then return NOT_HELD end
@@ -480,14 +551,14 @@ local function perform(keys, args, spare)
     local queue, fault = open(keys, args[1])
     if not queue then return fault end
     if args[2] ~= '' and not has_lease(keys, args[2]) then return lease_is_over() end
-    queue.spare = spare
-    local replies, began, next_look = {}, microseconds(), WORK_BETWEEN_LOOKS
+    queue.spare, queue.ahead = spare, math.min(#args - 2, READ_AHEAD)
+    local replies, next_look = {}, WORK_BETWEEN_LOOKS
     for place = 3, #args do
         local seat, word, number, rest = string.match(args[place], '^(%d+) (%u+) ?(%S*) ?(%S*)$')
         replies[place - 2] = requests[word](queue, seat, number, rest)
         queue.work = queue.work + 1
         if queue.work >= next_look then
-            if queue.work >= MOST_WORK or microseconds() - began >= MOST_MICROSECONDS then break end
+            if queue.work >= MOST_WORK or microseconds() - queue.began >= MOST_MICROSECONDS then break end
             next_look = queue.work + WORK_BETWEEN_LOOKS
         end
     end
