@@ -7,7 +7,7 @@ RB_BROKER_ROUNDS how often a Redis dies with each setting of its durability (onc
 
 They need redis-server, redis-sentinel and redis-cli of version 7, and the package redis for Python, 4.3.4 or later:
 that of this Python, or of /usr/bin/python3. If one of these is missing, all tests are skipped, and a line names what is
-missing. So are some tests where there is no cc, javac, mypy, openssl, hiredis or uvloop.
+missing. So are some tests where there is no cc, javac, mypy, openssl, chromium, promtool, hiredis, uvloop or yaml.
 """
 import importlib.util
 import os
