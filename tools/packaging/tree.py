@@ -31,10 +31,11 @@ FOR_READERS = (
 
 # The tools that become commands, each with the folder of its modules, and what several of them import.
 COMMANDS = {"service": "servicing", "report": "reporting", "verify": "verifying", "load": "loading"}
-SHARED = ("common", "histories", "watching")
+SHARED = ("common", "histories")
 
 # The packages for Python, below this repository's folder.
 PACKAGES = ("clients/python/src/rb_broker_client", "redis/src/rb_broker_redis")
+WATCHING = "rb_broker_redis/watching"  # the part of the second that tools use, too
 
 
 def write(path: Path, content: bytes, is_command: bool = False) -> None:
@@ -77,9 +78,10 @@ def lay_out_tools(top: Path, root: Path) -> None:
         copy(top / "tools" / name, root / TOOLS / name)
     for package in PACKAGES:
         copy(top / package, root / PYTHON / Path(package).name)
-    _link(root / TOOLS / "watching", root / PYTHON / "rb_broker_redis/watching")
-    # Where tools look for the client package, so that they find it whatever python3 is the first on the path.
-    _link(root / PYTHON / "rb_broker_client", root / "usr/share/rb_broker" / PACKAGES[0])
+    copy(top / "redis/src" / WATCHING, root / PYTHON / WATCHING)
+    # Where tools look for these packages, so that they find them whatever python3 is the first on the path.
+    for package in PACKAGES:
+        _link(root / PYTHON / Path(package).name, root / "usr/share/rb_broker" / package)
 
 
 def _link(target: Path, path: Path) -> None:

@@ -7,7 +7,7 @@ from datetime import datetime, timedelta, timezone
 from decimal import Decimal
 from typing import NamedTuple
 
-from watching.units import SECOND
+from rb_broker_redis.watching.units import SECOND
 
 EPOCH = datetime(1970, 1, 1, tzinfo=timezone.utc)
 LIMIT = datetime(9001, 1, 1, tzinfo=timezone.utc)  # 2^64 nanoseconds later a year still has four digits

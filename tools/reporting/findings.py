@@ -10,7 +10,7 @@ from typing import Iterator, NamedTuple, Sequence
 from histories.acts import CLEAR, GIVES, POLL, POLL_NONE
 from histories.history import NONE, History
 from reporting.depth import Depth
-from watching.units import counted, percent, span
+from rb_broker_redis.watching.units import counted, percent, span
 
 AT_ONCE, JOBS_AT_ONCE = 1_000_000, 10  # nanoseconds from a return until it is due, and jobs that came back so soon
 IDLE_POLLS, IDLE_SHARE = 100, 0.9  # this many polls, of which this share found nothing

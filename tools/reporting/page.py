@@ -14,9 +14,9 @@ from reporting.jobs import lives
 from reporting.plots import Plot, plots_of
 from reporting.report_tables import LIFE, head_of, life_rows, tables_of
 from reporting.svg import HEIGHT
-from watching.head import STYLE, head
-from watching.tables import Table, grid
-from watching.units import counted, number
+from rb_broker_redis.watching.head import STYLE, head
+from rb_broker_redis.watching.tables import Table, grid
+from rb_broker_redis.watching.units import counted, number
 
 # A page has the lives of jobs of about this many elements, which are 3 MB.
 MOST_ELEMENTS = 20_000

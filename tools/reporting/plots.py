@@ -8,7 +8,7 @@ from reporting.depth import Depth
 from reporting.figures import Figures
 from reporting.lateness import rank
 from reporting.time_axis import DATE_STEPS, TimeAxis
-from watching.units import counted, mark, number, span
+from rb_broker_redis.watching.units import counted, mark, number, span
 
 
 class Plot(NamedTuple):

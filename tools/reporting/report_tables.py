@@ -8,8 +8,8 @@ from reporting.depth import Depth
 from reporting.figures import Figures
 from reporting.jobs import lives
 from reporting.lateness import ranks
-from watching.tables import Table
-from watching.units import counted, number, percent, span
+from rb_broker_redis.watching.tables import Table
+from rb_broker_redis.watching.units import counted, number, percent, span
 
 MOST_ATTEMPTS, MOST_JOBS = 20, 12
 MOST_LISTED = 1000  # jobs that were asked for, or had their last attempt

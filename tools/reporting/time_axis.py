@@ -9,7 +9,7 @@ from histories.history import History
 from reporting import svg
 from reporting.dates import Clock
 from reporting.svg import SHARES, Scale, Tick
-from watching.units import SECOND, span, unit_of
+from rb_broker_redis.watching.units import SECOND, span, unit_of
 
 MINUTE, HOUR, DAY = 60 * SECOND, 3600 * SECOND, 86_400 * SECOND
 MOST_BUCKETS = 200

@@ -14,8 +14,8 @@ from servicing.server import Server
 from servicing.sockets import Connection, Unwatchable
 from servicing.state import Phase, Reason, Run
 from servicing.visits import Visits
-from watching.metrics import span_of
-from watching.units import SECOND
+from rb_broker_redis.watching.metrics import span_of
+from rb_broker_redis.watching.units import SECOND
 
 LOOK, LAST_LOOK = 1.0, 0.1  # seconds between two looks, and while the run ends
 BEGINNING = 5.0  # seconds of a run in which clients that outnumbered the workers of the one before come back

@@ -5,7 +5,7 @@ from http import HTTPStatus
 from typing import Any, Callable, Mapping
 
 from servicing.unix import bind_for_owner, user_of
-from watching.http import Answer, HttpServer
+from rb_broker_redis.watching.http import Answer, HttpServer
 
 
 class OwnerServer(HttpServer):

@@ -4,7 +4,7 @@ from typing import Any, Iterator
 
 from servicing.sockets import SILENT_FROM
 from servicing.state import State
-from watching.metrics import Number, metric, metrics_of
+from rb_broker_redis.watching.metrics import Number, metric, metrics_of
 
 # The name of each number, which attribute of the state it is, and what it means.
 NUMBERS: tuple[tuple[str, str, str], ...] = (

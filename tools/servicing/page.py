@@ -4,7 +4,7 @@ from typing import Iterable, Sequence
 
 from servicing.shown import attention, headline, since, tables
 from servicing.state import LOST_JOBS, LOST_RUN, Phase, State
-from watching.page import Shown, page_of, section
+from rb_broker_redis.watching.page import Shown, page_of, section
 
 
 def page(state: State) -> str:

@@ -11,7 +11,7 @@ from servicing.settings import Settings
 from servicing.showing import Showing
 from servicing.saying import Signals
 from servicing.state import DISK
-from watching.units import SECOND
+from rb_broker_redis.watching.units import SECOND
 
 AGAIN = 1.0  # seconds until something that failed is tried again
 

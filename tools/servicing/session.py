@@ -8,7 +8,7 @@ from servicing.clock import up_time
 from servicing.opening import PROBE, PROBE_DELAY
 from servicing.sockets import HOST
 from servicing.state import Queue
-from watching.units import SECOND
+from rb_broker_redis.watching.units import SECOND
 
 PATIENCE = 0.5  # seconds that a look waits for a worker
 REPLY = 2.0  # seconds that it waits for a reply of one

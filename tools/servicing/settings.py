@@ -11,7 +11,7 @@ from typing import Any, Callable
 from common.program import program_named
 from common.words import number, parser_of
 from servicing.keeper import HISTORY, OPENING
-from watching.units import SECOND
+from rb_broker_redis.watching.units import SECOND
 
 TURN = 20_000_000  # nanoseconds that a turn of a wait lasts while nothing happens
 UNITS = {"ns": 1, "us": 1_000, "ms": 1_000_000, "s": SECOND, "m": 60 * SECOND, "h": 3600 * SECOND, "d": 86_400 * SECOND}

@@ -11,8 +11,8 @@ from servicing.saying import notify, say
 from servicing.settings import Settings
 from servicing.shown import headline
 from servicing.state import LOST_JOBS, LOST_RUN, Alert, Board, Phase, Reason, Run, Traffic
-from watching.metrics import span_of
-from watching.units import counted
+from rb_broker_redis.watching.metrics import span_of
+from rb_broker_redis.watching.units import counted
 
 MANY_ELEMENTS = 900_000
 DAY = 86_400

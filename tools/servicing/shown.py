@@ -5,9 +5,9 @@ from typing import Iterator
 from servicing.metrics import numbers
 from servicing.sockets import Connection
 from servicing.state import Reason, Run, State
-from watching.metrics import date, span_of, told
-from watching.tables import Table
-from watching.units import counted, number
+from rb_broker_redis.watching.metrics import date, span_of, told
+from rb_broker_redis.watching.tables import Table
+from rb_broker_redis.watching.units import counted, number
 
 MOST_CLIENTS, MOST_RUNS, MOST_HELD_BY = 32, 100, 2  # that are told one by one; and of those who held up one run
 LATE = 1.0  # seconds from which on lateness is told

@@ -26,7 +26,7 @@ from servicing.saying import say
 from servicing.shown import text
 from servicing.state import Board, Run
 from servicing.unix import short_name
-from watching.http import Answer, HttpServer, is_loopback
+from rb_broker_redis.watching.http import Answer, HttpServer, is_loopback
 
 SOCKET = "status"  # in the folder
 ACKNOWLEDGE = "/acknowledge"  # asked for there, it ends the alerts of what is lost

@@ -2,7 +2,7 @@
 import collections
 
 from verifying.record import Exchange
-from watching.units import counted
+from rb_broker_redis.watching.units import counted
 
 # The kinds of faults, each with the sentence that it breaks.
 KINDS: dict[str, str] = {

@@ -12,7 +12,7 @@ from verifying.loose import place_loose
 from verifying.placing import place_named
 from verifying.record import Exchange
 from verifying.shards import parts_of
-from watching.units import counted
+from rb_broker_redis.watching.units import counted
 
 Exchanges = Iterable[tuple[str, Exchange]]
 

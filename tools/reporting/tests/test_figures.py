@@ -6,7 +6,7 @@ from reporting.depth import depth_of
 from reporting.jobs import NoJob, jobs_named
 from reporting.lateness import rank, ranks
 from reporting.tests.support import figures
-from watching.units import SECOND, mark, percent, span
+from rb_broker_redis.watching.units import SECOND, mark, percent, span
 
 
 class FiguresTest(unittest.TestCase):

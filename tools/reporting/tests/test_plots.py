@@ -9,7 +9,7 @@ from reporting.plots import depth_plot, lateness_in, lateness_plot, plots_of
 from reporting.svg import Scale
 from reporting.tests.support import figures
 from reporting.time_axis import DATE_STEPS, TimeAxis
-from watching.units import SECOND, mark
+from rb_broker_redis.watching.units import SECOND, mark
 
 EIGHT = "2026-11-26T08:00:00Z"
 

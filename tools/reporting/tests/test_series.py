@@ -4,7 +4,7 @@ from histories.files import read_series
 from histories.tests.support import offer, text_of
 from reporting.dates import Clock, nanoseconds_of
 from reporting.tests.support import ReportTest, counts
-from watching.units import SECOND
+from rb_broker_redis.watching.units import SECOND
 
 # Three runs in which job 0 has an attempt each, the last of which is given at the very end.
 RUNS = ["""history 3

@@ -8,7 +8,7 @@ from servicing.shown import attention, headline, since, tables
 from servicing.site import answer_of
 from servicing.state import Alert, Board, Phase, Queue, Reason, State
 from servicing.tests.support import AT, HELD, connection, first_state, state, troubled_state
-from watching.http import HttpServer
+from rb_broker_redis.watching.http import HttpServer
 
 WIDTHS, SCHEMES = (420, 1200), ("light", "dark")
 

@@ -10,7 +10,7 @@ from servicing.showing import Showing
 from servicing.sockets import Connection
 from servicing.state import Board, Phase, Queue
 from servicing.tests.support import connection, record, state
-from watching.units import SECOND
+from rb_broker_redis.watching.units import SECOND
 
 
 class HealthTest(unittest.TestCase):

@@ -9,8 +9,8 @@ from concurrent.futures import ThreadPoolExecutor
 from http import HTTPStatus
 from unittest import mock
 
-from watching import http as served
-from watching.http import Answer, HttpServer
+from rb_broker_redis.watching import http as served
+from rb_broker_redis.watching.http import Answer, HttpServer
 
 LONG = "x" * 8_000_000  # more than a connection holds by itself
 PATIENCE = 10.0

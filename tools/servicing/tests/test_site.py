@@ -22,7 +22,7 @@ from servicing.site import answer_of, print_status, serve_pages
 from servicing.state import Board, Phase
 from servicing.tests.support import ENDED, FULL_DISK, HELD, LOST, connection, first_state, state, troubled_state
 from servicing.unix import short_name
-from watching.http import Answer
+from rb_broker_redis.watching.http import Answer
 
 
 class PathsTest(RoomTest):

@@ -1,5 +1,5 @@
 """What shows people and Prometheus how something goes: a server of pages, their layout and the text of metrics, and how
-numbers are told. `rb_broker_redis` has this folder as a part of it, so it imports nothing of the other tools.
+numbers are told. tools/ has its pages of this folder too, so it imports nothing of this package.
 
     units.py, tables.py                      numbers as people read them, and tables of them
     head.py, style.css                       what a page begins with, and how it looks
