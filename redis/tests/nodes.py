@@ -183,6 +183,7 @@ class Replicas(Nodes):
 
     def __init__(self, folder: Path, count: int, options: Sequence[object] = ALWAYS,
                  environment: dict[str, str] | None = None) -> None:
+        options = [*options, "--repl-diskless-sync-delay", 0]  # it need not wait for more replicas
         self.primary = Node(folder / "primary", options)
         to = ("--replicaof", HOST, self.primary.port)
         self.replicas = [Node(folder / f"replica-{it}", [*options, *to], environment) for it in range(count)]

@@ -245,7 +245,10 @@ class TwoReplicasTest(LostTest):
             dead.kill()
             self.await_offers()
             dead.start()
-            wait_until(lambda: sentinels.primary().replication()["connected_slaves"] == 2, "it does not follow again")
+            wait_until(lambda: not any(it["is_sdown"] for port in sentinels.ports for it in redis.Redis(
+                HOST, port).sentinel_slaves(sentinels.name)), "the Sentinels do not find it again")
+            time.sleep(1)  # in which the gateway looks, too
+            self.await_offers()
             self.fail_over(sentinels)
 
         total = self.tried("2 replicas, --replicas all, one dies and comes back, SENTINEL FAILOVER",

@@ -38,12 +38,14 @@ class ReplicasTest(unittest.TestCase):
         self.replicas.take([Told(TWO, [down(ONE), down(THREE)])])
         self.assertEqual((self.replicas.wanted, self.replicas.primary), (2, ONE))
 
-    def test_one_that_is_down_is_not_waited_for_until_it_follows_again(self) -> None:
+    def test_one_that_is_down_is_not_waited_for_until_a_sentinel_reaches_it(self) -> None:
+        """That may let it take over, by what it knew of it before."""
         up, gone = Told(ONE, [follows(TWO), follows(THREE)]), Told(ONE, [follows(TWO), down(THREE)])
         self.assert_wanted(2, up)
-        self.assert_wanted(2, gone, up, up)
-        self.assert_wanted(1, gone, gone, up)
-        self.assert_wanted(1, Told(ONE, [follows(TWO), apart(THREE)]))
+        self.assert_wanted(2, gone, gone, up)
+        self.assert_wanted(1, gone, gone)
+        self.assert_wanted(1, gone)
+        self.assert_wanted(2, gone, gone, Told(ONE, [follows(TWO), apart(THREE)]))
         self.assert_wanted(2, up)
 
     def test_never_fewer_than_a_majority_with_the_primary(self) -> None:

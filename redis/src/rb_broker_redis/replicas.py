@@ -1,9 +1,9 @@
 """How many replicas have to have what is done, before it is answered, so that none that takes over lacks it.
 
-All have to, since each of them may take over. One that a majority of the Sentinels has found down, or has replaced as
-the primary, need not until it follows again: meanwhile the Sentinels prefer another, which has more. A primary that is
-replaced, and does not know it yet, has lost the replica that replaces it, which was not found down: so it can answer
-nothing any more.
+All have to that a Sentinel can reach, since each of those may take over: also one that is back, and has not got all yet,
+since a Sentinel may know of its state before that. A primary that is replaced, and does not know it yet, has lost the
+replica that replaces it: so it can answer nothing any more. It need not have what is done itself before it follows the
+new one: the Sentinels know that it has less.
 """
 from __future__ import annotations
 
@@ -49,8 +49,8 @@ class Replicas:
         """The node that a majority named last."""
         self.wanted: int | None = None
         """How many replicas have to have what is done, as a majority said last."""
-        self._behind: set[Place] = set()
-        """Those that have been down or replaced, and do not follow yet."""
+        self._replaced: set[Place] = set()
+        """Those that were the primary, and do not follow yet."""
 
     async def look(self) -> None:
         """Asks them."""
@@ -63,15 +63,14 @@ class Replicas:
         for primary, votes in Counter(it.primary for it in told).items():
             if votes >= least:
                 if self.primary and self.primary != primary:
-                    self._behind.add(self.primary)
+                    self._replaced.add(self.primary)
                 self.primary = primary
         if len(told) >= least:
             replicas = [it for one in told for it in one.replicas]
-            down = Counter(it.place for it in replicas if it.is_down)
-            self._behind -= {it.place for it in replicas if it.follows and not it.is_down}
-            self._behind |= {it for it in down if down[it] >= least}
+            self._replaced -= {it.place for it in replicas if it.follows and not it.is_down}
             known = {it.place for it in replicas} - {self.primary}
-            self.wanted = max((len(known) + 1) // 2, len(known - self._behind))
+            reached = {it.place for it in replicas if not it.is_down} - {self.primary}
+            self.wanted = max((len(known) + 1) // 2, len(reached - self._replaced))
 
     async def _told_by(self, sentinel: Redis[bytes]) -> Told:
         async with asyncio.timeout(SECONDS_TO_ANSWER):

@@ -57,8 +57,8 @@ def add_to(commands: argparse._SubParsersAction[Parser]) -> None:
     add("--timeout", metavar="TIME", type=duration, default=5 * SECOND,
         help="a Redis that does not answer for so long is given up (default: 5s)")
     add("--replicas", metavar="N", type=replicas_of, default=0,
-        help="replies are sent once N replicas have what was done, or `all` that are up by the Sentinels' word, and with"
-        " the primary a majority (default: 0)")
+        help="replies are sent once N replicas have what was done, or `all` that a Sentinel reaches, which are a majority"
+        " with the primary (default: 0)")
     kept = parser.add_mutually_exclusive_group()
     kept.add_argument("--no-history", dest="mode", action="store_const", const="silent", default="",
                       help="a queue that is made now keeps no events")
