@@ -42,6 +42,9 @@ class ListSource:
     def opening(self) -> FollowedQueue | None:
         return FollowedQueue.of_opening(self.kept) if self.kept else None
 
+    def lost_opening(self) -> int | None:
+        return None
+
     def events(self, start: int, count: int) -> list[bytes]:
         return self.list[start:start + count]
 
