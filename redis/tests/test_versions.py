@@ -64,7 +64,7 @@ class VersionsTest(GatewayTest):
                     session = Session(ports[1])
                 replies.append(reply)
             rounds += 1
-        session.quit()
+        session.hang_up()
         return replies
 
     def test_a_queue_of_a_later_format_is_refused(self) -> None:
