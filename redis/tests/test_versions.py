@@ -2,6 +2,7 @@
 from __future__ import annotations
 
 import os
+import re
 import shutil
 import threading
 from concurrent.futures import ThreadPoolExecutor
@@ -14,6 +15,8 @@ from rb_broker_redis.library import SOURCE, VERSION
 from serving.session import Session
 
 CLIENTS = 4
+REPLY = re.compile("[A-Z]+ ")
+"""What is heard may be nothing, or a fault, too."""
 
 
 class VersionsTest(GatewayTest):
@@ -59,7 +62,7 @@ class VersionsTest(GatewayTest):
             left -= ended.is_set()
             for request in (f"OFFER 0 {number}-{rounds}", "TAKE", "DONE {}"):
                 request = request.format(replies[-1].split(" ")[1] if replies else "")
-                while not (reply := session.heard(request)):
+                while not REPLY.match(reply := session.heard(request)):
                     session.hang_up()
                     session = Session(ports[1])
                 replies.append(reply)
