@@ -67,9 +67,9 @@ class Work:
     def ask(self, free: int, running: int, is_stopping: bool) -> list[Request[Any]]:
         """What is to be sent now. `free` is how many more jobs can be started at once, and `running` how many run. An
         old session fetches no more, so that it ends with the jobs in hand, and is left then. If these take long, it
-        goes on for as long as before, unless its server has said that it ends."""
+        goes on for as long as before."""
         self._looked = monotonic()
-        if self.greeting is None and self._looked >= self._end + REST:
+        if self._looked >= self._end + REST:
             self._end = self._looked + self._limit
         if self._refused and (is_stopping or self._looked >= self._next_try):
             self._try_again(is_stopping)
@@ -181,10 +181,8 @@ class Work:
         self.given += jobs
 
     def _not_fetched(self, refused: BrokerError, asked: float) -> None:
-        if isinstance(refused, StoppedError) and self.greeting:
-            if not self._asked:  # nothing was sent behind this wait that could have ended it: the run is to end
-                self._end = monotonic()
-                self.is_used_up = self._end < self._began + 1.0  # or no wait lasts here, and there is to be a pause
+        if isinstance(refused, StoppedError) and self.greeting is not None and self._asked:
+            pass  # the server looks what was sent behind a wait
         elif isinstance(refused, (StoppedError, OutOfMemoryError)):
             if asked < self._next_try:
                 return  # one that was asked before it was refused, too

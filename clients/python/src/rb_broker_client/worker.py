@@ -308,8 +308,8 @@ class Worker(BaseWorker[Callable[[Job], None], Callable[[Job], None]]):
     With a `concurrency` of 1 and no `timeout` the handler runs in the thread of `run`, and else in up to 64 threads of
     its own: it must bear to be called by several at a time.
 
-    It has one session at a time, which keeps one of the server's workers busy. A server that greets says when it is to
-    be left. At another one, a session that is older than `session` fetches no more and ends with its last job, or goes
+    It has one session at a time, which keeps one of the server's workers busy. A server that greets ends it when its
+    run is to end. At another one, a session that is older than `session` fetches no more and ends with its last job, or goes
     on after five seconds; where others may be waiting it is old after three. So a server which is to be replaced can
     end, and other clients have their turn. When a session is lost the worker connects again, after pauses that grow
     while no server answers. So a job may be handled more than once, even if its handler returned: when the session is

@@ -124,7 +124,7 @@ class WorkerTest(WorkerCase):
     def test_a_server_that_greets_ends_a_session_and_the_worker_goes_on_at_the_next(self):
         greets = GREETS.format(7, 2, 5)
         with self.logged("WARNING") as said:
-            self.assert_reports(Report(done=3, again=1), f"{greets}; {A}; WAIT > STOPPED; QUIT",
+            self.assert_reports(Report(done=3, again=1), f"{greets}; {A}; WAIT > STOPPED; > hangs up",
                                 f"{greets}; WAIT > ITEM 1 0 1 a; DONE 1; WAIT > STOPPED; > hangs up",
                                 f"{greets}; WAIT > ITEM 2 0 1 b; FAIL 2 > AGAIN 3 5; WAIT > ITEM 4 0 1 a; DONE 4; "
                                 f"{LAST}")

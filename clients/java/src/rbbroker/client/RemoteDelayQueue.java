@@ -33,10 +33,10 @@ import rbbroker.client.Session.Use;
  *
  * <p><b>Sessions.</b> The queue connects when it is first used. It keeps a session for each thread that waits, up to a
  * number that is set, and one for calls that do not wait. Each keeps one of the server's workers busy, and holds up to
- * 64 jobs. The server of a service says when it is to be left; at another one, a session that has lasted for half a
- * minute is left as soon as it holds no job, even if the queue lies idle. So servers can be replaced. A held job must
- * be answered on its own session: if another thread waits there at the time, the answer takes up to {@link
- * Builder#longestWait}.
+ * 64 jobs. The server of a service ends a session that holds no job when its run is to end; at another one, a
+ * session that has lasted for half a minute is left as soon as it holds no job, even if the queue lies idle. So servers
+ * can be replaced. A held job must be answered on its own session: if another thread waits there at the time, the
+ * answer takes up to {@link Builder#longestWait}.
  *
  * <p><b>Lost servers.</b> If there is no server, or its run is full, a call is made again until the
  * {@linkplain Builder#patience patience} is over; it then throws a {@link ServerLostException} or a
@@ -445,12 +445,6 @@ public final class RemoteDelayQueue extends AbstractQueue<Job> implements Blocki
 
     /** The job that a session was given by a call that takes one, or null if it was given none. */
     private Job taken(Session session, Element element) {
-        if (element == Request.STOPPED) {
-            if (session.isGreeted()) { // whose server gives a wait up at the end of its run
-                session.end();
-            }
-            return null;
-        }
         Job job = element == null ? null : given(session, element);
         if (job != null && options.acknowledge() == Acknowledge.ON_TAKE) {
             settle(session, List.of(Request.answer(element.id(), true)));

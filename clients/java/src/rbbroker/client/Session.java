@@ -67,8 +67,6 @@ final class Session {
     private final AtomicLong longest;
     /** Whether it has ended. If not, it may be lost all the same. */
     volatile boolean isClosed;
-    /** Whether the server's run is full, or is to end, as a wait showed that the server gave up. */
-    private volatile boolean isOver;
 
     private final Options options;
     private final ChannelSocket channel = new ChannelSocket();
@@ -107,7 +105,9 @@ final class Session {
             send(Request.GREETING.line() + "\n");
             Greeting greeting = Request.GREETING.receive(input);
             begun = System.nanoTime();
-            if (begun - sent >= WAIT) {
+            if (greeting != null) {
+                longest.set(Long.MAX_VALUE / 2); // its server ends it
+            } else if (begun - sent >= WAIT) {
                 shorten(LONGEST_TURN);
             }
             contact = runs.begin(greeting);
@@ -169,7 +169,7 @@ final class Session {
         }
         if (refusal != null) {
             if (refusal.reason() == Reason.FULL) {
-                end();
+                shorten(0);
             }
             throw refusal;
         }
@@ -201,28 +201,23 @@ final class Session {
         return isClosed;
     }
 
-    /** Whether it is to be left as soon as it holds no job: a server that greets says so, and else its age does. */
+    /** Whether it is to be left as soon as it holds no job. */
     boolean isToBeLeft() {
-        return isGreeted() ? isOver : System.nanoTime() - begun >= longest();
+        return System.nanoTime() - begun >= longest();
     }
 
+    /** Whether its server greets, and so ends it. */
     boolean isGreeted() {
         return isServed() && contact.greeting != null;
     }
 
-    /** Nothing more comes of the server's run. */
-    void end() {
-        isOver = true;
-        shorten(0);
-    }
-
     /**
      * Whether it is to be left, and ends with the jobs that it holds. If they keep it for long, it takes others again,
-     * and then none again. Beside one whose server greets no other would be served.
+     * and then none again.
      */
     boolean isLeaving() {
         long over = System.nanoTime() - begun - longest();
-        return over >= 0 && !isGreeted() && !held.isEmpty() && over / LAST_JOBS % 2 == 0;
+        return over >= 0 && !held.isEmpty() && over / LAST_JOBS % 2 == 0;
     }
 
     /** Hangs up. */
