@@ -51,7 +51,7 @@ class Run:
             return
         self._tell(self.on_greeting, now)
         if last is not None and (now.lost != last.lost or now.run < last.run):
-            is_same = now.run > last.run and now.at_ns >= last.at_ns  # service: its clock goes on
+            is_same = now.run > last.run and now.at_ns >= last.at_ns  # or else another service
             lost = LostRun(last.at_ns, now.at_ns) if is_same else _ALL
             self._log.warning("the server at %s has lost a run: what it accepted in the %.1f seconds before its run %d "
                               "is in doubt", self.place, (lost.until_ns - lost.since_ns) / 1e9, now.run)

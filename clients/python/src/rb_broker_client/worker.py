@@ -309,9 +309,9 @@ class Worker(BaseWorker[Callable[[Job], None], Callable[[Job], None]]):
     its own: it must bear to be called by several at a time.
 
     It has one session at a time, which keeps one of the server's workers busy. A server that greets ends it when its
-    run is to end. At another one, a session that is older than `session` fetches no more and ends with its last job, or goes
-    on after five seconds; where others may be waiting it is old after three. So a server which is to be replaced can
-    end, and other clients have their turn. When a session is lost the worker connects again, after pauses that grow
+    run is to end. At another one, a session that is older than `session` fetches no more and ends with its last job, or
+    goes on after five seconds; where others may be waiting it is old after three. So a server which is to be replaced
+    can end, and other clients have their turn. When a session is lost the worker connects again, after pauses that grow
     while no server answers. So a job may be handled more than once, even if its handler returned: when the session is
     lost before the server has read that the job is done, it comes back as its next attempt.
 
