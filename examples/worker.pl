@@ -55,6 +55,7 @@ sub ask {
         my $read = sysread $socket, $reply, 4096, length $reply;
         next if !defined $read and $!{EINTR};
         return unless $read;
+        $reply =~ s/\ARUN .*\n//;    # what a service says first
     }
     chomp $reply;
     return $reply;
