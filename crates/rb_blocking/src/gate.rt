@@ -1,4 +1,4 @@
-ghost use Rattle.std.specs.Prelude.{◌↔◌, ℕ, Bool};
+ghost use Rattle.std.specs.Prelude.{◌≡◌, ◌↔◌, ℕ, Bool, false};
 
 /// What may end a wait.
 ///
@@ -12,4 +12,15 @@ pub trait Gate {
     fn turn(&mut self, turns: u64) -> bool
         ensures answers { answers self.old turns result }
         ensures same { (n : ℕ) (goes_on : Bool) → answers self.new n goes_on ↔ answers self.old n goes_on };
+
+    /// Whether a wait may begin, asked before its first try.
+    fn begins(&self) -> bool
+        ensures kept_out { result ≡ false → answers self.now 0 false }
+    {
+        true
+    }
+
+    /// Hears how its session stands, before each request and each read: whether it holds jobs, and whether bytes that it
+    /// has read are not served yet.
+    fn hear(&self, _holds: bool, _has_more: bool) {}
 }

@@ -1,7 +1,7 @@
 -- An answered call at a desk over a shared queue is one more event with its reply, and a refused one is
 -- none. No public clause cites this module.
 use Rattle.std.proofs.Common.{◌≡◌, ℕ, ◌≤◌, ◌==◌, Bool, true, false, cond, List, [], ◌∷◌, ◌++◌, refl, sym, ap, subst}
-use Rattle.std.proofs.Common.{◌∙◌, arith, eq-eqb, Option, Some, Result, Ok, Err, length, length-append, drop, suc}
+use Rattle.std.proofs.Common.{◌∙◌, ◌⊎◌, inl, inr, arith, eq-eqb, Option, Some, Result, Ok, Err, length, length-append, drop, suc}
 use Rattle.std.proofs.lemmas.List.{drop-append-le, nil_from_length, append-nil, append_cancel_right}
 use Rattle.std.proofs.lemmas.List.Elements.{filter-append}
 use Rattle.std.specs.Prelude.{filter}
@@ -14,14 +14,14 @@ use Rattle.rb_queue.specs.declared.reply.Reply.{Reply}
 use Rattle.rb_lock.specs.Passes.{PassState, IsSoundPass, Learns, log_at}
 use Rattle.rb_lock.specs.SharedCalls.{Replied}
 use Rattle.rb_lock.proofs.LongerHistories.{events_of-append}
-use Rattle.rb_blocking.specs.WaitingCalls.{try_of}
+use Rattle.rb_blocking.specs.WaitingCalls.{try_of, IsStopped}
 use Rattle.rb_blocking.specs.WaitLaws.{stopped_unmade}
 use Rattle.rb_retry.specs.Made.{Made, made_after, made_by, GivesOnce}
-use Rattle.rb_retry.specs.Asked.{MayGet, IsMomentOf, Makes}
+use Rattle.rb_retry.specs.Asked.{MayGet, MayWait, IsMomentOf, Makes}
 use Rattle.rb_retry.specs.RecordLaws.{recorded_reply, may_wait, made_after-more}
 use Rattle.rb_retry.specs.GivenLaws.{times_given-drop, times_given-filter, legal_gives_once}
 use Rattle.rb_shared_desk.specs.WaitRules.{WaitRules}
-use Rattle.rb_shared_desk.specs.SharedSteps.{SharedState, SharedSteps, SetsShared, made_through, name_of}
+use Rattle.rb_shared_desk.specs.SharedSteps.{SharedState, SharedSteps, IsKeptOut, SetsShared, made_through, name_of}
 use Rattle.rb_retry.specs.declared.desk_fault.DeskFault.{DeskFault}
 use Rattle.rb_retry.specs.declared.desk_fault.DeskFault.TheVariants.{Full, Memory, Stopped}
 
@@ -127,15 +127,21 @@ module _ {C G : Type 0} (rules : WaitRules C G) (old new : SharedState C G) (han
         legal_gives_once new.pass.opening new.pass.seen steps.learns.sound.legal id,
       )
 
+  -- a wait that was stopped made no call
+  stops_unmade : IsStopped (rules.gives old.clock) (rules.answers old.gate) old.pass new.pass ask
+      ⊎ IsKeptOut (rules.answers old.gate) old.pass new.pass ask → MayWait ask × (new.pass.mine ≡ old.pass.mine)
+  stops_unmade (inl stopped) = (
+    may_wait ask _ stopped.last.waits.waits,
+    stopped_unmade (rules.gives old.clock) (rules.answers old.gate) old.pass new.pass ask stopped,
+  )
+  stops_unmade (inr kept_out) = (kept_out.waits, kept_out.mine)
+
   pub shared_refuses : (fault : DeskFault) → SharedSteps rules old handed ask (Err fault) new
       → MayGet ask fault × (made_through new ≡ made_through old)
   shared_refuses Full steps = (tt, none_more (Err Full) steps steps.ends.mine)
   shared_refuses Memory steps = (steps.ends.2, none_more (Err Memory) steps steps.ends.0)
-  shared_refuses Stopped steps = (
-    may_wait ask _ steps.ends.last.waits.waits,
-    none_more (Err Stopped) steps
-        (stopped_unmade (rules.gives old.clock) (rules.answers old.gate) old.pass new.pass ask steps.ends),
-  )
+  shared_refuses Stopped steps =
+      let (waits, same) = stops_unmade steps.ends in (waits, none_more (Err Stopped) steps same)
 
 pub shared_stays : {C G : Type 0} (old new : SharedState C G) (moment : ℕ) (result : Option ℕ)
     → SetsShared old moment result new → made_through new ≡ made_through old

@@ -1,5 +1,5 @@
 -- What a desk over a shared queue does.
-use Rattle.std.specs.Prelude.{◌≡◌, ◌↔◌, ℕ, ◌≤◌, Bool, List, length, drop, Option, None, Result, Ok, Err}
+use Rattle.std.specs.Prelude.{◌≡◌, ◌↔◌, ℕ, ◌≤◌, Bool, false, ◌⊎◌, List, length, drop, Option, None, Result, Ok, Err}
 use Rattle.atomic_table.specs.Seated.{TableId}
 use Rattle.rb_queue.specs.declared.ask.Ask.{Ask}
 use Rattle.rb_queue.specs.declared.opening.Opening.{Opening}
@@ -11,7 +11,7 @@ use Rattle.rb_lock.specs.SharedCalls.{Replied}
 use Rattle.rb_lock.specs.declared.pass_record.PassRecord.{PassRecord}
 use Rattle.rb_blocking.specs.WaitingCalls.{try_of, IsStopped, EndsFull}
 use Rattle.rb_retry.specs.Made.{Made, made_by}
-use Rattle.rb_retry.specs.Asked.{IsMomentOf}
+use Rattle.rb_retry.specs.Asked.{IsMomentOf, MayWait}
 use Rattle.rb_retry.specs.declared.desk_fault.DeskFault.{DeskFault}
 use Rattle.rb_retry.specs.declared.desk_fault.DeskFault.TheVariants.{Full, Memory, Stopped}
 use Rattle.rb_shared_desk.specs.WaitRules.{WaitRules}
@@ -34,6 +34,12 @@ pub record SharedName : Type 0 where
   pub capacity : ℕ
   pub opening : Opening
   pub folded : List PassRecord
+
+-- The gate said no before the first try, and the pass has made no further call.
+pub record IsKeptOut (answers : ℕ → Bool → Type 0) (old new : PassState) (ask : Ask) : Type 0 where
+  pub waits : MayWait ask
+  pub stopped : answers 0 false
+  pub mine : new.mine ≡ old.mine
 
 module _ {C G : Type 0} where
   abbrev pub name_of : SharedState C G → SharedName
@@ -66,6 +72,7 @@ module _ {C G : Type 0} where
         (new.pass.mine ≡ old.pass.mine) × HasRoom (log_of new.pass) × TakesMemory ask
     Ends old handed ask (Err Stopped) new =
         IsStopped (rules.gives old.clock) (rules.answers old.gate) old.pass new.pass ask
+        ⊎ IsKeptOut (rules.answers old.gate) old.pass new.pass ask
 
     -- The ask ended in this way, and the pass has learned. The gate's answers are as before, and nothing else has
     -- changed.

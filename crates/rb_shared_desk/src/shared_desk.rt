@@ -118,12 +118,19 @@ impl<'a, T: Timer, C: Clock, G: Gate, R: Wait + time::Clock> Desk for SharedDesk
         None
     }
 
+    fn hear(&self, holds: bool, has_more: bool) {
+        self.gate.hear(holds, has_more);
+    }
+
     #[tactic(auto, using(crate::proofs::SharedEndings::call_endings))]
     fn call(&mut self, asked: u64, ask: Ask) -> Result<Reply, DeskFault> {
         // For the proof: the pass has seen a legal history.
         let _ = self.pass.name();
         match ask {
             Ask::Take | Ask::PollFor { .. } => {
+                if !self.gate.begins() {
+                    return Err(DeskFault::Stopped);
+                }
                 call_and_wait(self.rt, &self.waiter, self.pass, self.gate, &ask).map_err(
                     |fault| match fault {
                         WaitFault::Full => DeskFault::Full,
