@@ -52,6 +52,10 @@ pub trait Desk {
     fn set(&mut self, moment: u64) -> Option<u64>
         ensures sets { Sets (state self.old) moment result (state self.new) };
 
+    /// Hears how the session stands, before each request and each read: whether it holds jobs, and whether bytes that it
+    /// has read are not served yet.
+    fn hear(&self, _holds: bool, _has_more: bool) {}
+
     /// Makes one call. A take and a timed poll are made at readings of the desk's clock, and any other
     /// call at the moment `asked`, in nanoseconds, which those two ignore.
     ///

@@ -64,6 +64,11 @@ impl HeldJobs {
         })
     }
 
+    /// Whether no job is held.
+    pub(crate) fn is_empty(&self) -> bool {
+        self.count == 0
+    }
+
     /// How many more may be held.
     pub(crate) fn free(&self) -> usize
         ensures free { result ≡ MOST_HELD - length self.now }

@@ -69,12 +69,14 @@ impl Session {
     {
         loop {
             let Some(reading) = self.buffer.next_request() else {
+                desk.hear(!self.held.is_empty(), false);
                 let Some(stop) = read_more(&mut self.buffer, reader, outlet)? else {
                     continue;
                 };
                 outlet.hand_on()?;
                 return Ok(stop);
             };
+            desk.hear(!self.held.is_empty(), self.buffer.has_rest());
             outlet.before_line(&reading)?;
             let quits = matches!(reading, Ok(Request::Quit));
             let reply = answer(desk, &mut self.held, policy, reading);
