@@ -13,6 +13,7 @@ use rb_timer::ListTimer;
 use std::alloc::Global;
 use std::process::Abort;
 use std::sync::Wait;
+use std::sync::atomic::{AtomicBool, Ordering};
 use std::test::Fail;
 use std::thread::{Threads, join};
 use std::time;
@@ -106,6 +107,65 @@ fn a_shared_desk_waits_by_its_gate(rt: HostRuntime) {
     expect_run(&rt, &shared, &mut pass, &mut gate, &bell);
     expect_same(&rt, (gate.asked, bell.count(&rt), pass.calls()), (2, 1, 4));
     expect_history(&rt, closed(&rt, shared, pass).history());
+}
+
+// A gate that lets no wait begin, and would let it go on. It hears whether jobs are held.
+#[derive(Drop)]
+struct ClosedGate {
+    holds: AtomicBool,
+}
+
+impl Gate for ClosedGate {
+    ghost answers = { λ gate turns goes_on. Unit {0} };
+
+    fn turn(&mut self, _turns: u64) -> bool {
+        true
+    }
+
+    fn begins(&self) -> bool {
+        false
+    }
+
+    fn hear(&self, holds: bool, has_more: bool) {
+        self.holds.store(holds && !has_more, Ordering::SeqCst);
+    }
+}
+
+// An element that is expired is not taken by calls that may wait, and by others it is.
+fn expect_kept_out<D: Desk>(rt: &impl Abort, desk: &mut D) {
+    offer(rt, desk, 3, 7);
+    expect(rt, desk, 7, Ask::Take, Err(DeskFault::Stopped));
+    let (start, timeout) = (7, 0);
+    let ask = Ask::PollFor { start, timeout };
+    expect(rt, desk, 7, ask, Err(DeskFault::Stopped));
+    expect(rt, desk, 7, Ask::Poll, Ok(Some(0)));
+    desk.hear(true, false);
+}
+
+fn expect_closed<R: Wait + time::Clock + Abort>(
+    rt: &R,
+    shared: &ListShared,
+    pass: &mut ListPass,
+    gate: &mut ClosedGate,
+    bell: &Bell,
+)
+    requires { pass.old.table ≡ shared.now }
+{
+    let clock = FixedClock(7);
+    let mut desk = SharedDesk::new(rt, shared, pass, &clock, gate, bell);
+    expect_kept_out(rt, &mut desk);
+}
+
+#[test]
+fn a_gate_lets_no_wait_begin(rt: HostRuntime) {
+    let (shared, mut pass) = opened(&rt, rt.alloc(), 4);
+    let bell = Bell::new();
+    let mut gate = ClosedGate {
+        holds: AtomicBool::new(false),
+    };
+    expect_closed(&rt, &shared, &mut pass, &mut gate, &bell);
+    expect_same(&rt, pass.calls(), 2);
+    expect_holds(&rt, gate.holds.load(Ordering::SeqCst));
 }
 
 // What became of a failed job, in numbers: the id and the expiry of its next attempt, or its own

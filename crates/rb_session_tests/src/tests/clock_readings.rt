@@ -17,11 +17,13 @@ use std::cell::Cell;
 use std::process::Abort;
 use std::test::Fail;
 
-/// A kept desk that counts how often its clock is read.
+/// A kept desk that counts how often its clock is read, and notes what it hears.
 #[derive(Drop)]
 pub struct CountingDesk<'a, T: Timer> {
     desk: KeptDesk<'a, T>,
     readings: Cell<u64>,
+    // What was heard, one digit each behind a 1: 1 if there is more to serve, and 2 more if jobs are held.
+    heard: Cell<u64>,
 }
 
 impl<'a, T: Timer> Desk for CountingDesk<'a, T> {
@@ -44,6 +46,12 @@ impl<'a, T: Timer> Desk for CountingDesk<'a, T> {
     fn now(&self) -> u64 {
         self.readings.set(self.readings.get().saturating_add(1));
         self.desk.now()
+    }
+
+    fn hear(&self, holds: bool, has_more: bool) {
+        let digit = 2 * u64::from(holds) + u64::from(has_more);
+        self.heard
+            .set(self.heard.get().saturating_mul(10).saturating_add(digit));
     }
 
     fn set(&mut self, moment: u64) -> Option<u64> {
@@ -71,12 +79,13 @@ impl<'a, T: Timer> Desk for CountingDesk<'a, T> {
     ghost sets_no_name = { kept_sets_no_name };
 }
 
-// The outcome of a session, and the number of times that it read the desk's clock.
+// The outcome of a session, the number of times that it read the desk's clock, and what it told the desk.
 #[derive(Drop)]
 struct Outcome {
     ended: Result<Ended, SessionFault>,
     text: Vec<u8>,
     readings: u64,
+    heard: u64,
 }
 
 fn ran(rt: &impl Abort, alloc: Global, script: &[u8]) -> Result<Outcome, Fail> {
@@ -97,12 +106,14 @@ fn ran_over(
     let mut desk = CountingDesk {
         desk: KeptDesk::new(kept, tally),
         readings: Cell::new(0),
+        heard: Cell::new(1),
     };
     let ended = run_session(alloc, &mut reader, &mut writer, &mut desk, policy);
     Outcome {
         ended,
         text: writer.bytes,
         readings: desk.readings.get(),
+        heard: desk.heard.get(),
     }
 }
 
@@ -152,4 +163,17 @@ fn a_job_that_is_held_at_the_end_reads_the_clock_once(rt: HostRuntime) -> Result
         b"OFFERED 0 0\nOFFERED 1 1\nNOW 1\nDRAINED 2\nITEM 0 0 1 a\nITEM 1 1 1 b\n".as_slice();
     let ended = Ended::EndOfInput { lost: 0 };
     expect_readings(&rt, rt.alloc(), (script, replies), ended, 6)
+}
+
+fn expect_heard(rt: &impl Abort, alloc: Global, script: &[u8], heard: u64) -> Result<(), Fail> {
+    expect_number(rt, ran(rt, alloc, script)?.heard, heard, 0);
+    Ok(())
+}
+
+// Once before each read, and once before each request: the job is held from the second request to the third, and
+// behind each of them more was read.
+#[test]
+fn a_desk_hears_how_its_session_stands(rt: HostRuntime) -> Result<(), Fail> {
+    expect_heard(&rt, rt.alloc(), b"OFFERAT 0 a\nPOLL\nDONE 0\nSI", 101_130)?;
+    expect_heard(&rt, rt.alloc(), b"OFFERAT 0 a\nPOLL\n", 10_102)
 }
