@@ -7,7 +7,7 @@ use Rattle.clap.specs.declared.builder.value_parser.ValueParser.TheVariants.{Uns
 use Rattle.rb_delayed.specs.declared.element.TheConstants.{GREATEST_ATTEMPT}
 use Rattle.rb_delayed.specs.declared.moment.TheConstants.{GREATEST_MOMENT}
 use Rattle.rb_kept.specs.declared.kept.TheConstants.{MOST_CALLS}
-use Rattle.rb_options.specs.declared.serve_options.TheConstants.{GREATEST_PORT, MOST_SESSIONS, MOST_TURNS}
+use Rattle.rb_options.specs.declared.serve_options.TheConstants.{GREATEST_PORT, GREATEST_SOCKET, LEAST_SOCKET, MOST_SESSIONS, MOST_TURNS}
 use Rattle.rb_options.specs.declared.server_run_options.TheConstants.{MOST_WORKERS}
 
 -- `--calls N`: from 1 to 1,000,000, and 10,000 if it is not given
@@ -102,6 +102,43 @@ turns_option = record (new_rule (codes "turns")) {
   value_names = 1;
   defaults = codes "10000" ∷ [];
   parser = Some (Unsigned 0 MOST_TURNS);
+}
+
+-- `--socket N`: from 3 to 1,023
+abbrev pub socket_option : Rule
+socket_option = record (new_rule (codes "socket")) {
+  long = Some (codes "socket");
+  value_names = 1;
+  parser = Some (Unsigned LEAST_SOCKET GREATEST_SOCKET);
+}
+
+-- `--until-input-ends`
+abbrev pub until_input_ends_flag : Rule
+until_input_ends_flag = record (new_rule (codes "until-input-ends")) {
+  long = Some (codes "until-input-ends");
+  action = Some SetTrue;
+}
+
+-- `--greeting LINE`
+abbrev pub greeting_option : Rule
+greeting_option = record (new_rule (codes "greeting")) {
+  long = Some (codes "greeting");
+  value_names = 1;
+}
+
+-- `--attentive`
+abbrev pub attentive_flag : Rule
+attentive_flag = record (new_rule (codes "attentive")) {
+  long = Some (codes "attentive");
+  action = Some SetTrue;
+}
+
+-- `--silent N`: from 1 to 2^64 - 1 nanoseconds
+abbrev pub silent_option : Rule
+silent_option = record (new_rule (codes "silent")) {
+  long = Some (codes "silent");
+  value_names = 1;
+  parser = Some (Unsigned 1 GREATEST_MOMENT);
 }
 
 -- `--chains`

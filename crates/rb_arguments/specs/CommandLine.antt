@@ -1,5 +1,5 @@
 -- What the command line takes, and what its words give.
-use Rattle.std.specs.Prelude.{◌≡◌, ◌≢◌, ℕ, ◌≤◌, Bool, true, false, ◌&&◌, List, Option, Some, None, MatchBool}
+use Rattle.std.specs.Prelude.{◌≡◌, ◌≢◌, ◌↔◌, IsTrue, ℕ, ◌≤◌, Bool, true, false, ◌&&◌, List, Option, Some, None, MatchBool}
 use Rattle.std.specs.Prelude.{option_map, codes, String, string_bytes}
 use Rattle.std.specs.declared.alloc.Global.{Global}
 use Rattle.std.specs.Borrow.{Bor}
@@ -16,6 +16,8 @@ use Rattle.rb_retry.specs.declared.policy.Policy.{Policy}
 use Rattle.rb_arguments.specs.Arguments.{AreTimerNames, attempts_option, calls_option, chains_flag, delay_option}
 use Rattle.rb_arguments.specs.Arguments.{file_argument, from_option, history_option, port_option, rate_option}
 use Rattle.rb_arguments.specs.Arguments.{sessions_option, timer_option, turns_option, workers_option}
+use Rattle.rb_arguments.specs.Arguments.{attentive_flag, greeting_option, silent_option, socket_option}
+use Rattle.rb_arguments.specs.Arguments.{until_input_ends_flag}
 use Rattle.rb_options.specs.TimerKind.{timer_name}
 use Rattle.rb_options.specs.declared.script_options.ScriptOptions.{ScriptOptions}
 use Rattle.rb_options.specs.declared.serve_options.ServeOptions.{ServeOptions}
@@ -39,6 +41,12 @@ with_run app = with_policy (with_rule (with_rule app history_option) from_option
 abbrev pub with_server : App → App
 with_server app = with_rule (with_rule (with_rule app workers_option) sessions_option) turns_option
 
+-- a command with the options of a server that is attended, and of how it treats its clients
+abbrev pub with_manners : App → App
+with_manners app =
+    with_rule (with_rule (with_rule (with_rule (with_rule app socket_option) until_input_ends_flag)
+    greeting_option) attentive_flag) silent_option
+
 -- `script` with its options
 abbrev pub script_command : Bor (List (Bor Text)) → App
 script_command names = with_run (with_queue names (new_app (codes "script")))
@@ -49,7 +57,8 @@ replay_command = with_policy (with_rule (with_rule (new_app (codes "replay")) fi
 
 -- `serve` with its options
 abbrev pub serve_command : Bor (List (Bor Text)) → App
-serve_command names = with_run (with_server (with_queue names (with_rule (new_app (codes "serve")) port_option)))
+serve_command names =
+    with_run (with_manners (with_server (with_queue names (with_rule (new_app (codes "serve")) port_option))))
 
 -- the command, which wants a subcommand
 abbrev pub with_required_subcommand : App → App
@@ -115,12 +124,20 @@ pub record GivesServerRun (rows : List Row) (options : ServerRunOptions) : Type 
   pub calls : number_in (one_of (codes "calls") rows) ≡ Some options.calls
   pub policy : GivesPolicy rows options.policy
 
--- The values of `serve` give its options. Each that is left out is the default.
+-- a flag is set exactly if its value says so
+abbrev pub GivesFlag : Text → List Row → Bool → Type 0
+GivesFlag id rows set = IsTrue set ↔ (first_of id rows ≡ Some (codes "true"))
+
+-- The values of `serve` give its options. Each that is left out is the default, or none.
 pub record GivesServeOptions (rows : List Row) (options : ServeOptions) : Type 0 where
   pub port : number_in (one_of (codes "port") rows) ≡ Some options.port
   pub timer : first_of (codes "timer") rows ≡ Some (timer_name options.timer)
   pub sessions : number_in (one_of (codes "sessions") rows) ≡ Some options.sessions
   pub turns : number_in (one_of (codes "turns") rows) ≡ Some options.turns
+  pub socket : number_in (one_of (codes "socket") rows) ≡ options.socket
+  pub until_input_ends : GivesFlag (codes "until-input-ends") rows options.until_input_ends
+  pub attentive : GivesFlag (codes "attentive") rows options.attentive
+  pub silent : number_in (one_of (codes "silent") rows) ≡ options.silent
   pub run : GivesServerRun rows options.run
 
 -- the values name the file that a run's history is written to, and the one that it continues
@@ -140,8 +157,9 @@ IsAskedBy name rows (Script options history from) =
 IsAskedBy name rows (Replay options file) =
     (name ≡ codes "replay") × GivesChains rows options.chains
     × (first_of (codes "file") rows ≡ Some (string_bytes file))
-IsAskedBy name rows (Serve options history from) =
-    (name ≡ codes "serve") × GivesServeOptions rows options × GivesFiles rows history from
+IsAskedBy name rows (Serve options greeting history from) =
+    (name ≡ codes "serve") × GivesServeOptions rows options
+    × (option_map string_bytes greeting ≡ first_of (codes "greeting") rows) × GivesFiles rows history from
 
 -- a subcommand was met that asks for this, and its values do not have both a delay and a rate
 pub record SubcommandAsks (met : Option (Text × List Row)) (asked : Words) : Type 0 where

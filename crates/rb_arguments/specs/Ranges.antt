@@ -4,7 +4,8 @@ use Rattle.rb_kept.specs.declared.kept.TheConstants.{MOST_CALLS}
 use Rattle.rb_retry.specs.Retry.{AreAttempts}
 use Rattle.rb_options.specs.declared.script_options.ScriptOptions.{ScriptOptions}
 use Rattle.rb_options.specs.declared.serve_options.ServeOptions.{ServeOptions}
-use Rattle.rb_options.specs.declared.serve_options.TheConstants.{GREATEST_PORT, MOST_SESSIONS, MOST_TURNS}
+use Rattle.rb_options.specs.declared.serve_options.TheConstants.{GREATEST_PORT, GREATEST_SOCKET, LEAST_SOCKET}
+use Rattle.rb_options.specs.declared.serve_options.TheConstants.{MOST_SESSIONS, MOST_TURNS}
 use Rattle.rb_options.specs.declared.server_run_options.ServerRunOptions.{ServerRunOptions}
 use Rattle.rb_options.specs.declared.server_run_options.TheConstants.{MOST_WORKERS}
 use Rattle.rb_arguments.specs.declared.words.Words.{Words}
@@ -30,10 +31,12 @@ pub record IsServerInRange (options : ServeOptions) : Type 0 where
   pub port : IsFromOneTo GREATEST_PORT options.port
   pub sessions : IsFromOneTo MOST_SESSIONS options.sessions
   pub turns : options.turns ≤ MOST_TURNS
+  pub socket : IfSome options.socket (λ socket. (LEAST_SOCKET ≤ socket) × (socket ≤ GREATEST_SOCKET))
+  pub silent : IfSome options.silent (λ silent. 1 ≤ silent)
   pub run : IsServerRunInRange options.run
 
 -- all numbers that the words give are in range
 abbrev pub AreInRange : Words → Type 0
 AreInRange (Script options history from) = IsScriptInRange options
 AreInRange (Replay options file) = IfSome options.chains (λ policy. AreAttempts policy.attempts)
-AreInRange (Serve options history from) = IsServerInRange options
+AreInRange (Serve options greeting history from) = IsServerInRange options

@@ -4,13 +4,17 @@ ghost use Rattle.clap.specs.Words.{rule_of};
 ghost use Rattle.rb_arguments.specs.Arguments.{AreTimerNames, attempts_option, calls_option, chains_flag};
 ghost use Rattle.rb_arguments.specs.Arguments.{delay_option, file_argument, from_option, history_option};
 ghost use Rattle.rb_arguments.specs.Arguments.{port_option, rate_option, sessions_option, timer_option};
-ghost use Rattle.rb_arguments.specs.Arguments.{turns_option, workers_option};
+ghost use Rattle.rb_arguments.specs.Arguments.{attentive_flag, greeting_option, silent_option, socket_option};
+ghost use Rattle.rb_arguments.specs.Arguments.{turns_option, until_input_ends_flag, workers_option};
 
 use clap::builder::ValueParser;
 use clap::{Arg, ArgAction};
 use rb_delayed::{GREATEST_ATTEMPT, GREATEST_MOMENT};
 use rb_kept::MOST_CALLS;
-use rb_options::{GREATEST_PORT, MOST_SESSIONS, MOST_TURNS, MOST_WORKERS, TimerKind};
+use rb_options::{
+    GREATEST_PORT, GREATEST_SOCKET, LEAST_SOCKET, MOST_SESSIONS, MOST_TURNS, MOST_WORKERS,
+    TimerKind,
+};
 use std::alloc::Global;
 
 /// `--calls N`
@@ -149,6 +153,63 @@ pub(crate) fn turns_option<'a>(alloc: Global) -> Arg<'a>
         .help("how many turns TAKE and POLLFOR wait before they answer STOPPED")
         .value_parser(ValueParser::Unsigned(0, MOST_TURNS))
         .default_value("10000")
+}
+
+/// `--socket N`
+pub(crate) fn socket_option<'a>(alloc: Global) -> Arg<'a>
+    ensures rule { rule_of result ≡ socket_option }
+    ensures local { result.global ≡ false }
+{
+    Arg::new(alloc, "socket")
+        .long("socket")
+        .value_name("N")
+        .help("the descriptor of a listener at that port, which the server is handed")
+        .value_parser(ValueParser::Unsigned(LEAST_SOCKET, GREATEST_SOCKET))
+}
+
+/// `--until-input-ends`
+pub(crate) fn until_input_ends_flag<'a>(alloc: Global) -> Arg<'a>
+    ensures rule { rule_of result ≡ until_input_ends_flag }
+    ensures local { result.global ≡ false }
+{
+    Arg::new(alloc, "until-input-ends")
+        .long("until-input-ends")
+        .help("drains when something comes on standard input, and ends when that ends")
+        .action(ArgAction::SetTrue)
+}
+
+/// `--greeting LINE`
+pub(crate) fn greeting_option<'a>(alloc: Global) -> Arg<'a>
+    ensures rule { rule_of result ≡ greeting_option }
+    ensures local { result.global ≡ false }
+{
+    Arg::new(alloc, "greeting")
+        .long("greeting")
+        .value_name("LINE")
+        .help("the line that each client is sent first")
+}
+
+/// `--attentive`
+pub(crate) fn attentive_flag<'a>(alloc: Global) -> Arg<'a>
+    ensures rule { rule_of result ≡ attentive_flag }
+    ensures local { result.global ≡ false }
+{
+    Arg::new(alloc, "attentive")
+        .long("attentive")
+        .help("ends a wait whose client sends something or hangs up")
+        .action(ArgAction::SetTrue)
+}
+
+/// `--silent N`
+pub(crate) fn silent_option<'a>(alloc: Global) -> Arg<'a>
+    ensures rule { rule_of result ≡ silent_option }
+    ensures local { result.global ≡ false }
+{
+    Arg::new(alloc, "silent")
+        .long("silent")
+        .value_name("N")
+        .help("nanoseconds of silence after which a session is ended")
+        .value_parser(ValueParser::Unsigned(1, GREATEST_MOMENT))
 }
 
 /// `--chains`

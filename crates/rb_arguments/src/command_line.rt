@@ -6,14 +6,15 @@ ghost use Rattle.clap.specs.declared.error.kind.ErrorKind.TheVariants.{OutOfMemo
 ghost use Rattle.rb_arguments.specs.Arguments.{AreTimerNames};
 ghost use Rattle.rb_arguments.specs.CommandLine.{Asks, SubcommandAsks, names_both, program, replay_command};
 ghost use Rattle.rb_arguments.specs.CommandLine.{script_command, serve_command, with_commands, with_policy};
-ghost use Rattle.rb_arguments.specs.CommandLine.{with_queue, with_run};
+ghost use Rattle.rb_arguments.specs.CommandLine.{with_manners, with_queue, with_run};
 ghost use Rattle.rb_arguments.specs.Ranges.{AreInRange};
 ghost use Rattle.rb_arguments.specs.RightValues.{AreRightFor};
 ghost use Rattle.rb_arguments.specs.RightWords.{AreWrongWords, AskForHelp, IsHelp, IsRefusal, ShowsHelp};
 
 use crate::arguments::{
-    attempts_option, calls_option, chains_flag, delay_option, file_argument, from_option,
-    history_option, port_option, rate_option, sessions_option, timer_option, turns_option,
+    attempts_option, attentive_flag, calls_option, chains_flag, delay_option, file_argument,
+    from_option, greeting_option, history_option, port_option, rate_option, sessions_option,
+    silent_option, socket_option, timer_option, turns_option, until_input_ends_flag,
     workers_option,
 };
 use crate::given_words::asked_by;
@@ -188,7 +189,21 @@ fn serve_command<'a>(alloc: Global) -> Result<Command<'a>, AllocError>
     let workers = with_option(queue, workers_option(alloc))?;
     let sessions = with_option(workers, sessions_option(alloc))?;
     let turns = with_option(sessions, turns_option(alloc))?;
-    with_run(alloc, turns)
+    let manners = with_manners(alloc, turns)?;
+    with_run(alloc, manners)
+}
+
+// The command with the options of a server that is attended, and of how it treats its clients.
+fn with_manners<'a>(alloc: Global, command: Command<'a>) -> Result<Command<'a>, AllocError>
+    ensures app { IfOk result (λ wider. app_of wider ≡ with_manners (app_of command.entry)) }
+    ensures local { (out-Command command.entry).has_globals ≡ false
+        → IfOk result (λ wider. (out-Command wider).has_globals ≡ false) }
+{
+    let socket = with_option(command, socket_option(alloc))?;
+    let until = with_option(socket, until_input_ends_flag(alloc))?;
+    let greeting = with_option(until, greeting_option(alloc))?;
+    let attentive = with_option(greeting, attentive_flag(alloc))?;
+    with_option(attentive, silent_option(alloc))
 }
 
 // The command with the options of a queue.

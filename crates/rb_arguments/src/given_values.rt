@@ -77,8 +77,8 @@ fn pace(given: &ArgMatches<'_>) -> Option<Pace>
     }
 }
 
-// Whether an option has a value, given or the default.
-fn has_value(given: &ArgMatches<'_>, id: &str) -> bool
+/// Whether an option has a value, given or the default.
+pub(crate) fn has_value(given: &ArgMatches<'_>, id: &str) -> bool
     ensures row { result ≡ has_row id.now (given_rows given.now) }
     ensures none { result ≡ false → one_of id.now (given_rows given.now) ≡ None }
 {
@@ -120,8 +120,8 @@ pub(crate) fn text(
     }
 }
 
-// The first value of an option, as it was written.
-fn first<'a>(given: &ArgMatches<'a>, id: &str) -> Option<&'a str>
+/// The first value of an option, as it was written.
+pub(crate) fn first<'a>(given: &ArgMatches<'a>, id: &str) -> Option<&'a str>
     ensures { option_map (λ text. text.now) result ≡ first_of id.now (given_rows given.now) }
 {
     given.get_str(id)

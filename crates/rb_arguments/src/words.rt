@@ -20,6 +20,8 @@ pub enum Words {
     /// Serve clients over TCP.
     Serve {
         options: ServeOptions,
+        /// The line that each client is sent first, if any, without its line feed.
+        greeting: Option<String>,
         /// The file that the run's history is written to, if any.
         history: Option<String>,
         /// The file with the history that the run continues, if any.

@@ -12,11 +12,12 @@
 //! |---|
 //! | `script timer T calls N POLICY FILES` |
 //! | `replay "FILE"`, and ` chains POLICY` if retries are checked |
-//! | `serve port N timer T workers N sessions N turns N calls N POLICY FILES` |
+//! | `serve port N timer T workers N sessions N turns N calls N POLICY MANNERS FILES` |
 //! | `refused KIND STATUS` or `shown KIND STATUS`: clap's kind of error, and the exit status |
 //!
-//! A POLICY is `delay N attempts N` or `rate N attempts N`. FILES are ` history "FILE"` and ` from "FILE"`, each only
-//! if it was given. There is no set-up.
+//! A POLICY is `delay N attempts N` or `rate N attempts N`. MANNERS are ` socket N`, ` until-input-ends`,
+//! ` attentive`, ` silent N` and ` greeting "LINE"`. FILES are ` history "FILE"` and ` from "FILE"`, each only
+//! if it was given, as those are. There is no set-up.
 
 use crate::finding::Finding;
 use crate::flaw::Flaw;
@@ -104,10 +105,13 @@ fn tell_words(asked: &Words, came: &mut Told) -> Result<(), Flaw> {
         }
         Words::Serve {
             options,
+            greeting,
             history,
             from,
         } => {
             tell_serve(options, came)?;
+            tell_manners(options, came)?;
+            tell_file("greeting", greeting, came)?;
             tell_file("history", history, came)?;
             tell_file("from", from, came)
         }
@@ -140,6 +144,22 @@ fn tell_serve(options: &ServeOptions, came: &mut Told) -> Result<(), Flaw> {
     came.named("turns", options.turns)?;
     came.named("calls", options.run.calls)?;
     tell_policy(options.run.policy, came)
+}
+
+fn tell_manners(options: &ServeOptions, came: &mut Told) -> Result<(), Flaw> {
+    if let Some(socket) = options.socket {
+        came.named("socket", u64::from(socket))?;
+    }
+    if options.until_input_ends {
+        came.word("until-input-ends")?;
+    }
+    if options.attentive {
+        came.word("attentive")?;
+    }
+    match options.silent {
+        Some(silent) => came.named("silent", silent),
+        None => Ok(()),
+    }
 }
 
 fn tell_policy(policy: Policy, came: &mut Told) -> Result<(), Flaw> {

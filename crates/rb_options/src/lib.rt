@@ -14,6 +14,9 @@ mod timer_kind;
 pub use laws::option_limits_have_their_values;
 pub use replay_options::ReplayOptions;
 pub use script_options::ScriptOptions;
-pub use serve_options::{GREATEST_PORT, MOST_SESSIONS, MOST_TURNS, ServeOptions};
+pub use serve_options::{
+    GREATEST_PORT, GREATEST_SOCKET, LEAST_SOCKET, MOST_GREETING, MOST_SESSIONS, MOST_TURNS,
+    ServeOptions,
+};
 pub use server_run_options::{MOST_WORKERS, ServerRunOptions};
 pub use timer_kind::TimerKind;

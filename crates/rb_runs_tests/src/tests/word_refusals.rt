@@ -35,10 +35,17 @@ fn answer_of(read: &Result<Words, Error>) -> Option<Answer> {
         Ok(
             Words::Serve {
                 options,
+                greeting,
                 history,
                 from,
             },
-        ) => with_files(Answer::Serve(*options), history, from),
+        ) => {
+            if is_text(greeting, "hello") {
+                with_files(Answer::Serve(*options), history, from)
+            } else {
+                None
+            }
+        }
         Ok(Words::Replay { options, file }) => {
             if file.as_str() == "run.txt" {
                 Some(Answer::Replay(*options))
@@ -104,7 +111,7 @@ const REPLAY: [&'static str; 6] = [
     "--attempts=9",
 ];
 
-const SERVE: [&'static str; 12] = [
+const SERVE: [&'static str; 17] = [
     "rb_broker",
     "serve",
     "--port=7011",
@@ -112,6 +119,11 @@ const SERVE: [&'static str; 12] = [
     "--workers=2",
     "--sessions=5",
     "--turns=11",
+    "--socket=4",
+    "--until-input-ends",
+    "--greeting=hello",
+    "--attentive",
+    "--silent=13",
     "--calls=7",
     "--from=a b",
     "--history=run.txt",
@@ -139,6 +151,10 @@ fn a_refused_allocation_is_answered(rt: HostRuntime) {
     };
     let serve = ServeOptions {
         port: 7011,
+        socket: Some(4),
+        until_input_ends: true,
+        attentive: true,
+        silent: Some(13),
         timer: TimerKind::Pairing,
         sessions: 5,
         turns: 11,

@@ -1,8 +1,8 @@
--- The port comes first, then the options of a queue, three of the server, and those of a run.
+-- The port comes first, then the options of a queue, three of the server, those of its manners, and those of a run.
 use Rattle.std.proofs.Common.{◌≡◌, ◌∙◌, ap, ap₂, codes}
 use Rattle.std.proofs.lemmas.Result.{IfOk-weaker}
 use Rattle.clap.specs.Words.{app_of, new_app, with_rule}
-use Rattle.rb_arguments.specs.CommandLine.{with_queue, with_run}
+use Rattle.rb_arguments.specs.CommandLine.{with_manners, with_queue, with_run}
 use Rattle.rb_arguments.proofs.command_line.serve_command.Goals as goal
 
 pub returns-clause-app : goal.returns-clause-app
@@ -14,4 +14,5 @@ returns-clause-app c =
     let workers = c.in_ok-workers.ensures.app ∙ ap₂ with_rule queue c.workers_option.ensures.rule in
     let sessions = c.in_ok-sessions.ensures.app ∙ ap₂ with_rule workers c.sessions_option.ensures.rule in
     let turns = c.in_ok-turns.ensures.app ∙ ap₂ with_rule sessions c.turns_option.ensures.rule in
-    IfOk-weaker c.with_run.result _ _ (λ command wider. (names, names_are, wider ∙ ap with_run turns)) c.with_run.ensures.app
+    let manners = c.in_ok-manners.ensures.app ∙ ap with_manners turns in
+    IfOk-weaker c.with_run.result _ _ (λ command wider. (names, names_are, wider ∙ ap with_run manners)) c.with_run.ensures.app
