@@ -10,3 +10,4 @@ pub mod Terms
 pub mod VisitCounts
 pub mod Visits
 pub mod Serving
+pub mod TcpReasons

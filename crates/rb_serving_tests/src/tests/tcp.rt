@@ -9,7 +9,7 @@ use crate::tests::devices::{
 use rb_blocking::{Clock, MachineClock};
 use rb_options::ServerRunOptions;
 use rb_queue::Opening;
-use rb_serving::{TcpDoor, serve_door};
+use rb_serving::{Ending, TcpDoor, TcpManners, serve_door};
 use rb_timer::ListTimer;
 use std::alloc::Global;
 use std::io::{Read, Write};
@@ -43,7 +43,7 @@ fn sent(alloc: Global, mut stream: TcpStream) -> Result<Vec<u8>, Fail> {
 fn served<R: Threads + Wait + time::Clock + Abort + Sync>(
     rt: &R,
     alloc: Global,
-    door: &TcpDoor,
+    door: &TcpDoor<'_>,
     workers: u64,
 ) -> Counts
     requires some { 1 ≤ workers }
@@ -79,6 +79,16 @@ fn port_of_the_system() -> SocketAddr {
     SocketAddr::V4(SocketAddrV4::new(Ipv4Addr::LOCALHOST, 0))
 }
 
+// A door for so many sessions, each of whose waits ends after 200 turns, that does nothing more.
+fn plain_door<'a>(
+    alloc: Global,
+    listener: TcpListener,
+    sessions: u64,
+    clock: &'a MachineClock<'a, HostRuntime>,
+) -> Result<TcpDoor<'a>, Fail> {
+    Ok(TcpDoor::new(alloc, listener, sessions, 200, TcpManners::default(), clock)?)
+}
+
 #[test]
 fn two_clients_share_a_queue(rt: HostRuntime) -> Result<(), Fail> {
     let listener = TcpListener::bind(&rt, port_of_the_system())?;
@@ -86,10 +96,11 @@ fn two_clients_share_a_queue(rt: HostRuntime) -> Result<(), Fail> {
     let taker = client(&rt, server, b"TAKE\nDONE 0\nQUIT\n")?;
     let giver = client(&rt, server, b"OFFER 0 a\nQUIT\n")?;
     let alloc = rt.alloc();
+    let clock = MachineClock::new(&rt);
     expect_report(
         &rt,
         alloc,
-        served(&rt, alloc, &TcpDoor::new(listener, 2, 200), 2),
+        served(&rt, alloc, &plain_door(alloc, listener, 2, &clock)?, 2),
     );
     expect_sent(&rt, alloc, taker, b"ITEM 0 7 1 a\nDONE 0\nBYE\n")?;
     expect_sent(&rt, alloc, giver, b"OFFERED 0 7\nBYE\n")
@@ -100,7 +111,7 @@ fn two_clients_share_a_queue(rt: HostRuntime) -> Result<(), Fail> {
 fn served_within<R: Threads + Wait + time::Clock + Abort + Sync>(
     rt: &R,
     alloc: Global,
-    door: &TcpDoor,
+    door: &TcpDoor<'_>,
 ) -> (Counts, u64) {
     let watch = MachineClock::new(rt);
     let counts = served(rt, alloc, door, 1);
@@ -120,7 +131,55 @@ fn expect_refused(rt: &impl Abort, found: (Counts, u64)) {
 fn sessions_are_not_used_up_at_once(rt: HostRuntime) -> Result<(), Fail> {
     let listener = TcpListener::bind(&rt, port_of_the_system())?;
     listener.set_nonblocking(true)?;
-    let door = TcpDoor::new(listener, 5, 200);
+    let clock = MachineClock::new(&rt);
+    let door = plain_door(rt.alloc(), listener, 5, &clock)?;
     expect_refused(&rt, served_within(&rt, rt.alloc(), &door));
     Ok(())
+}
+
+// A server is handed a client, greets it, and ends a session that says nothing. The job that this holds comes back.
+#[test]
+fn a_silent_client_is_greeted_and_ended(rt: HostRuntime) -> Result<(), Fail> {
+    let listener = TcpListener::bind(&rt, port_of_the_system())?;
+    let server = listener.local_addr()?;
+    let taker = client(&rt, server, b"OFFER 0 a\nTAKE\n")?;
+    let alloc = rt.alloc();
+    let manners = TcpManners {
+        greeting: b"HELLO\n",
+        silent: Some(1_000_000),
+        ..TcpManners::default()
+    };
+    let clock = MachineClock::new(&rt);
+    let door = TcpDoor::new(alloc, listener, 1, 200, manners, &clock)?;
+    expect_comes_back(&rt, served(&rt, alloc, &door, 1));
+    expect_sent(&rt, alloc, taker, b"HELLO\nOFFERED 0 7\nITEM 0 7 1 a\n")
+}
+
+fn expect_comes_back(rt: &impl Abort, counts: Counts) {
+    expect_counts(rt, counts, 1, 0, 0);
+    expect_number(rt, counts.audit.offered, 2);
+}
+
+// The input of a server ends before anybody comes: nobody is let in, though a client waits.
+#[test]
+fn a_server_whose_input_has_ended_lets_nobody_in(rt: HostRuntime) -> Result<(), Fail> {
+    let listener = TcpListener::bind(&rt, port_of_the_system())?;
+    let server = listener.local_addr()?;
+    let _waits = client(&rt, server, b"SIZE\n")?;
+    let alloc = rt.alloc();
+    let ending = Ending::new();
+    ending.follow(&rt, &mut b"".as_slice());
+    let manners = TcpManners {
+        ending: Some(&ending),
+        ..TcpManners::default()
+    };
+    let clock = MachineClock::new(&rt);
+    let door = TcpDoor::new(alloc, listener, 5, 200, manners, &clock)?;
+    expect_nobody(&rt, served(&rt, alloc, &door, 2));
+    Ok(())
+}
+
+fn expect_nobody(rt: &impl Abort, counts: Counts) {
+    expect_counts(rt, counts, 0, 0, 0);
+    expect_number(rt, counts.audit.calls, 0);
 }

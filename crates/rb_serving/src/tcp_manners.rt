@@ -1,0 +1,14 @@
+use crate::ending::Ending;
+
+/// How a TCP door treats its clients, beside what every one does.
+#[derive(Clone, Copy, Debug, Default)]
+pub struct TcpManners<'a> {
+    /// What whoever is let in is sent first: a line with its line feed, or nothing.
+    pub greeting: &'a [u8],
+    /// Whether a wait also ends when its client has sent something or hung up.
+    pub attentive: bool,
+    /// After how many nanoseconds of silence a session is ended, if it is, at least 1.
+    pub silent: Option<u64>,
+    /// What may end the door's sessions, if anything.
+    pub ending: Option<&'a Ending>,
+}

@@ -1,0 +1,120 @@
+ghost use Rattle.std.specs.Io.{ReadsAtMost};
+
+use crate::ending::{Ending, InputRead, shown_drain};
+use crate::patience::{Patience, is_timeout};
+use crate::standing::Standing;
+use rb_blocking::Clock;
+use std::alloc::Global;
+use std::fmt::{self, Debug, Formatter};
+use std::io::{self, Read};
+use std::net::TcpStream;
+use std::sync::{Arc, OnceToken};
+
+/// What a session over TCP reads: what its client sends. If told so, it also ends when the server is to drain or to end,
+/// or when the client has been silent for too long.
+#[derive(Drop)]
+pub struct TcpReader<'a> {
+    pub(crate) stream: TcpStream,
+    pub(crate) patience: Option<Patience<'a>>,
+    pub(crate) standing: Option<Arc<Standing, Global>>,
+    // Whether it has read what had come when the server was to drain.
+    pub(crate) has_left: bool,
+}
+
+/// What a read may do.
+#[derive(Drop)]
+pub(crate) enum Stance<'a> {
+    /// It waits for the client.
+    Waits,
+    /// It takes what has come, and waits for nothing, since the server is to drain or to end, which this shows.
+    Takes(OnceToken<'a, InputRead>),
+    /// It takes nothing more, for the same reasons, or since nobody is waited for any longer.
+    IsOver(OnceToken<'a, InputRead>),
+}
+
+impl<'a> TcpReader<'a> {
+    // A session that holds jobs goes on while the server drains. One that holds none reads what has come once more.
+    fn stance(&mut self, ending: Option<&'a Ending>) -> Stance<'a> {
+        let Some(ending) = ending else {
+            return Stance::Waits;
+        };
+        if let Some(token) = ending.leaves() {
+            return Stance::IsOver(token);
+        }
+        if let Some(token) = ending.ends() {
+            return Stance::Takes(token);
+        }
+        match shown_drain(Some(ending)) {
+            Some(token) if !self.holds() => self.farewell(token),
+            _ => Stance::Waits,
+        }
+    }
+
+    // The last read of a session that holds no job takes what has come, and any after it nothing.
+    fn farewell(&mut self, token: OnceToken<'a, InputRead>) -> Stance<'a> {
+        if self.has_left {
+            Stance::IsOver(token)
+        } else {
+            self.has_left = true;
+            Stance::Takes(token)
+        }
+    }
+
+    fn holds(&self) -> bool {
+        match &self.standing {
+            Some(standing) => standing.holds(),
+            None => false,
+        }
+    }
+
+    // Reads what has come, or nothing.
+    fn take(&mut self, buf: &mut [u8]) -> io::Result<usize>
+        ensures { ReadsAtMost result buf.new }
+    {
+        if self.stream.set_nonblocking(true).is_err() {
+            return Ok(0);
+        }
+        let came = self.stream.read(buf);
+        let _ = self.stream.set_nonblocking(false);
+        match came {
+            Err(fault) if is_timeout(&fault) => Ok(0),
+            came => came,
+        }
+    }
+
+    fn read_patiently(&mut self, buf: &mut [u8], patience: Patience<'a>) -> io::Result<usize>
+        ensures { ReadsAtMost result buf.new }
+    {
+        let begun = patience.clock.now();
+        for _ in 0..u64::MAX {
+            match self.stance(patience.ending) {
+                Stance::Waits => {}
+                Stance::Takes(_) => return self.take(buf),
+                Stance::IsOver(_) => return Ok(0),
+            }
+            match self.stream.read(buf) {
+                Err(fault) if is_timeout(&fault) => {}
+                came => return came,
+            }
+            if patience.is_over_since(begun) {
+                break;
+            }
+        }
+        Ok(0)
+    }
+}
+
+impl<'a> Read for TcpReader<'a> {
+    fn read(&mut self, buf: &mut [u8]) -> io::Result<usize> {
+        match self.patience {
+            Some(patience) => self.read_patiently(buf, patience),
+            None => self.stream.read(buf),
+        }
+    }
+}
+
+impl<'a> Debug for TcpReader<'a> {
+    fn fmt<W: fmt::Write>(&self, f: &mut Formatter<W>) -> fmt::Result {
+        f.debug_struct("TcpReader").finish_non_exhaustive()
+    }
+}
