@@ -1,2 +1,3 @@
 pub use Rattle.rb_ending.specs.BrokerFault
 pub mod ExitStatus
+pub mod Greeting

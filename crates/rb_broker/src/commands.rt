@@ -1,5 +1,8 @@
 use crate::files::{check_output, text_of};
+use crate::greeting::greeting_line;
 use crate::history_file::HistoryFile;
+use crate::listener::{address_of, handed_listener};
+use rb_blocking::MachineClock;
 use rb_ending::BrokerFault;
 use rb_history::HistoryRoom;
 use rb_options::{ReplayOptions, ScriptOptions, ServeOptions, ServerRunOptions};
@@ -7,12 +10,13 @@ use rb_protocol::LimitedReader;
 use rb_queue::Opening;
 use rb_runs::{ReadyScript, opening_in, over_timer, run_replay};
 use rb_serving::{
-    Recorder, ServeClock, ServeReport, TcpDoor, end_server, print_listening, serve_door_gathered,
+    Ending, Recorder, ServeClock, ServeReport, TcpDoor, TcpManners, end_server, print_listening,
+    serve_door_gathered,
 };
 use rb_session::{Delivery, Ended, HandsOn};
 use rb_timer::Timer;
 use std::io::Write;
-use std::net::{Ipv4Addr, SocketAddr, SocketAddrV4, TcpListener};
+use std::net::TcpListener;
 use std::sync::Wait;
 use std::thread::Threads;
 use std::time;
@@ -64,9 +68,11 @@ pub fn replay(rt: &HostRuntime, options: &ReplayOptions, file: &str) -> Result<u
     }
 }
 
-/// Serves clients at a port of 127.0.0.1, writes the history of the run, and prints its counts.
+/// Serves clients at a port of 127.0.0.1, each of whom is greeted by this line, until its sessions are used up or it was
+/// asked to end; then writes the history of the run, and prints its counts.
 ///
-/// It reads the file `from` before anything else. It opens the file `history` before it binds the port, and empties it
+/// It reads the file `from` before anything else. It looks at a listener that it is handed before it opens the file
+/// `history`, which would get that number if there was none. It opens that file before it binds the port, and empties it
 /// once all workers have been started, before it lets anybody in: so both may be the same, and neither a port in use,
 /// an output that is full or closed, want of memory nor a worker that can't be started costs an earlier history.
 ///
@@ -75,18 +81,37 @@ pub fn serve<R: Threads + Wait + time::Clock + Sync>(
     rt: &HostRuntime,
     handle: &R,
     options: &ServeOptions,
+    greeting: Option<&str>,
+    ending: Option<&Ending>,
     history: Option<&str>,
     from: Option<&str>,
 ) -> Result<(), BrokerFault> {
+    let alloc = rt.alloc();
     let opening = opening_behind(rt, from)?;
+    let greeting = greeting_line(alloc, greeting)?;
+    let address = address_of(options.port);
+    let handed = match options.socket {
+        Some(number) => Some(handed_listener(number, address)?),
+        None => None,
+    };
     check_output(rt, history)?;
     let history = HistoryFile::create(rt, history)?;
-    let address = SocketAddr::V4(SocketAddrV4::new(Ipv4Addr::LOCALHOST, options.port));
-    let Ok(listener) = TcpListener::bind(rt, address) else {
-        return Err(BrokerFault::Listen);
+    let listener = match handed {
+        Some(listener) => listener,
+        None => TcpListener::bind(rt, address).map_err(|_| BrokerFault::Listen)?,
     };
-    print_listening(rt.alloc(), &mut rt.stdout(), options.port)?;
-    let door = TcpDoor::new(listener, options.sessions, options.turns);
+    let manners = TcpManners {
+        greeting: greeting.as_slice(),
+        attentive: options.attentive,
+        silent: options.silent,
+        ending,
+    };
+    let clock = MachineClock::new(rt);
+    let (sessions, turns) = (options.sessions, options.turns);
+    let door = TcpDoor::new(alloc, listener, sessions, turns, manners, &clock).map_err(
+        |_| BrokerFault::Listen,
+    )?;
+    print_listening(alloc, &mut rt.stdout(), options.port)?;
     let run = &options.run;
     over_timer!(
         options.timer,
@@ -98,7 +123,7 @@ pub fn serve<R: Threads + Wait + time::Clock + Sync>(
 fn serve_over<T: Timer + Send, R: Threads + Wait + time::Clock + Sync>(
     rt: &HostRuntime,
     handle: &R,
-    door: &TcpDoor,
+    door: &TcpDoor<'_>,
     run: &ServerRunOptions,
     opening: Opening,
     history: HistoryFile,

@@ -37,8 +37,8 @@ pub fn check_output(rt: &HostRuntime, history: Option<&str>) -> Result<(), Broke
     }
 }
 
-// Whether a write failed because its descriptor is not open. A full device is another reason.
-fn is_closed(fault: &io::Error) -> bool
+/// Whether a call failed because its descriptor is not open. A full device is another reason.
+pub fn is_closed(fault: &io::Error) -> bool
     ensures { IsTrue result ↔ (raw_os_error fault.now ≡ Some NOT_OPEN) }
 {
     fault.raw_os_error() == Some(NOT_OPEN)

@@ -9,7 +9,9 @@
 
 mod commands;
 mod files;
+mod greeting;
 mod history_file;
+mod listener;
 
 ghost use Rattle.std.specs.Process.{exit_status};
 ghost use Rattle.clap.specs.Words.{kind_of};
@@ -21,23 +23,65 @@ use clap::Error;
 use clap::error::ErrorKind;
 use rb_arguments::{Words, read_words};
 use rb_ending::BrokerFault;
+use rb_serving::Ending;
 use std::alloc::{AllocError, Global};
-use std::io::ErrorKind as ReadKind;
+use std::io::{ErrorKind as ReadKind, Read};
 use std::process::ExitCode;
-use std::sync::Wait;
+use std::sync::{Arc, Wait};
 use std::thread::Threads;
-use std::{env, io, time};
+use std::{env, io, thread, time};
 
 /// The exit status if the command line is refused.
 const WORDS_REFUSED: u8 = 2;
 
 fn main(rt: HostRuntime) -> ExitCode {
-    match command_line(&rt) {
+    let asked = match command_line(&rt) {
         Ok(words) => match lent_words(rt.alloc(), &words) {
-            Ok(words) => run(&rt, &rt, words.as_slice()),
-            Err(AllocError) => exit_with_fault(&rt, BrokerFault::Memory),
+            Ok(words) => read_words(rt.alloc(), words.as_slice()),
+            Err(AllocError) => return exit_with_fault(&rt, BrokerFault::Memory),
         },
-        Err(error) => exit_without_words(&rt, error.kind()),
+        Err(error) => return exit_without_words(&rt, error.kind()),
+    };
+    if !is_attended(&asked) {
+        return run(&rt, &rt, &asked, None);
+    }
+    let Ok((ending, followed)) = endings(rt.alloc()) else {
+        return exit_with_fault(&rt, BrokerFault::Memory);
+    };
+    let is_open = is_input_open(&rt);
+    let follows = thread::spawn(&rt, move || {
+        if is_open {
+            followed.follow(&rt, &mut rt.stdin());
+        } else {
+            followed.end(&rt);
+        }
+    });
+    match follows {
+        Ok(_) => run(&rt, &rt, &asked, Some(&ending)),
+        Err(_) => exit_with_fault(&rt, BrokerFault::Worker),
+    }
+}
+
+/// Whether a server is to end with its input.
+fn is_attended(asked: &Result<Words, Error>) -> bool {
+    match asked {
+        Ok(Words::Serve { options, .. }) => options.until_input_ends,
+        _ => false,
+    }
+}
+
+/// An ending for a server and for who follows its input.
+fn endings(alloc: Global) -> Result<(Arc<Ending, Global>, Arc<Ending, Global>), AllocError> {
+    let ending = Arc::new(alloc, Ending::new())?;
+    let other = Arc::try_clone(&ending)?;
+    Ok((ending, other))
+}
+
+/// Whether standard input is open. If it is not, its descriptor would soon be that of another file.
+fn is_input_open(rt: &HostRuntime) -> bool {
+    match rt.stdin().read(&mut []) {
+        Ok(_) => true,
+        Err(fault) => !files::is_closed(&fault),
     }
 }
 
@@ -56,9 +100,10 @@ fn lent_words<'a>(alloc: Global, words: &'a Vec<String>) -> Result<Vec<&'a str>,
 fn run<R: Threads + Wait + time::Clock + Sync>(
     rt: &HostRuntime,
     handle: &R,
-    words: &[&str],
+    asked: &Result<Words, Error>,
+    ending: Option<&Ending>,
 ) -> ExitCode {
-    match read_words(rt.alloc(), words) {
+    match asked {
         Ok(
             Words::Script {
                 options,
@@ -67,23 +112,32 @@ fn run<R: Threads + Wait + time::Clock + Sync>(
             },
         ) => exit_after_run(
             rt,
-            commands::script(rt, &options, history.as_deref(), from.as_deref()),
+            commands::script(rt, options, history.as_deref(), from.as_deref()),
         ),
         Ok(
             Words::Serve {
                 options,
+                greeting,
                 history,
                 from,
             },
         ) => exit_after_run(
             rt,
-            commands::serve(rt, handle, &options, history.as_deref(), from.as_deref()),
+            commands::serve(
+                rt,
+                handle,
+                options,
+                greeting.as_deref(),
+                ending,
+                history.as_deref(),
+                from.as_deref(),
+            ),
         ),
         Ok(Words::Replay { options, file }) => exit_after_replay(
             rt,
-            commands::replay(rt, &options, &file),
+            commands::replay(rt, options, file),
         ),
-        Err(error) => exit_for_refused_words(rt, &error),
+        Err(error) => exit_for_refused_words(rt, error),
     }
 }
 
