@@ -7,7 +7,7 @@ import socket
 import subprocess
 import threading
 import time
-from typing import NamedTuple, Self, Sequence
+from typing import Any, NamedTuple, Self, Sequence
 
 from common.program import tested_program
 from serving import HOST, PATIENCE
@@ -28,10 +28,11 @@ class Ended(NamedTuple):
     errors: str
 
 
-def started(words: Sequence[str], folder: str = ".") -> subprocess.Popen[str]:
-    """A process of these words in a folder, with pipes for what it writes. It does not outlive this one."""
+def started(words: Sequence[str], folder: str = ".", **how: Any) -> subprocess.Popen[str]:
+    """A process of these words in a folder, with pipes for what it writes, and what else it gets. It does not outlive
+    this one."""
     pipe = subprocess.PIPE
-    process = subprocess.Popen(words, cwd=folder, stdout=pipe, stderr=pipe, encoding="utf-8")
+    process = subprocess.Popen(words, cwd=folder, stdout=pipe, stderr=pipe, encoding="utf-8", **how)
     atexit.register(process.kill)
     return process
 
@@ -51,11 +52,14 @@ class Server:
 
     patience = PATIENCE  # seconds in which it has to end
 
-    def __init__(self, options: Sequence[object] = (), program: str | None = None, port: int | None = None) -> None:
-        """Starts the program, the one that is tested unless another one is given."""
+    def __init__(
+        self, options: Sequence[object] = (), program: str | None = None, port: int | None = None, **how: Any
+    ) -> None:
+        """Starts the program, the one that is tested unless another one is given, with what else its process gets."""
         for _ in range(TRIES):
             self.port = port or random.choice(PORTS)
-            self.process = started([program or tested_program(), "serve", "--port", str(self.port), *map(str, options)])
+            words = [program or tested_program(), "serve", "--port", str(self.port), *map(str, options)]
+            self.process = started(words, **how)
             limit = threading.Timer(2 * PATIENCE, self.process.kill)
             limit.daemon = True  # a signal may end this process meanwhile
             limit.start()

@@ -21,7 +21,7 @@ BEFORE = "history 3\nopen 0 0 0\n0 0 0 offer 0 5 0 5 1 a\n0 0 0 offer 1 6 1 6 1 
 BEGINS = "history 3\nopen 2 7 1\nkeep 1 6 1 6 1 b\n"  # what continues it
 # What a client asks for. The last element is held at the end.
 REQUESTS = b"OFFER 0 c\nOFFER 100 d\nTAKE\nDONE 1\nDRAIN 9\nREMOVE 9\nSIZE\nOFFER 0 e\nPOLL\n"
-REFUSALS = {"script": 10, "serve": 20, "replay": 5}  # how many calls are at least refused
+REFUSALS = {"script": 10, "serve": 20, "attended server": 22, "replay": 5}  # how many calls are at least refused
 
 
 @dataclass(frozen=True)
@@ -95,6 +95,7 @@ def refused_calls(place: Place) -> Faults:
     for name, words, visit in (
         ("script", "script --calls 50 --from f --history f", script),
         ("serve", serve, server(port, 2)),
+        ("attended server", f"{serve} --until-input-ends --attentive", server(port, 2)),
         ("replay", "replay f", lambda it: it.communicate(timeout=PATIENCE)[0] and b""),
     ):
         number, fault = 0, None

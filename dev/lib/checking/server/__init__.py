@@ -6,14 +6,18 @@ by itself, `replay --chains` must accept its history, and tools/verify must find
 its place among the events of one seat, and no events of nobody. No element may have left twice or been given before its
 expiry, and each job must have been finished, or have come back unless it was given its last attempt. RB_BROKER_SEED is
 what the clients' choices follow from.
+
+Servers that are attended, or told how to treat their clients, are those of attending.py and manners.py.
 """
 import concurrent.futures
 import json
 import os
 import subprocess
 import tempfile
+from pathlib import Path
 from typing import Iterator
 
+from checking.server import attending, manners
 from checking.server.clients import Client, early
 from checking.tally import Tally
 from checking.testing import run_tool
@@ -84,7 +88,20 @@ def jobs_that_differ(history: History, done: set[int]) -> Iterator[str]:
 
 
 def check(tally: Tally) -> None:
-    """Runs the server with its clients, and counts what is right."""
+    """Runs the servers with their clients, and counts what is right."""
+    with tempfile.TemporaryDirectory() as room:
+        for compared in (*attending.CHECKS, *manners.CHECKS):
+            try:
+                for name, fault in compared(Path(room)) if tally.wants(compared.__name__) else ():
+                    tally.count(name, fault)
+            except Exception as strange:  # whatever it is, it is told
+                tally.count(compared.__name__, f"{type(strange).__name__}: {strange}")
+    if tally.wants("clients"):
+        check_clients(tally)
+
+
+def check_clients(tally: Tally) -> None:
+    """Runs the server with 200 clients."""
     with tempfile.TemporaryDirectory() as room:
         words = ["--sessions", SESSIONS, "--workers", WORKERS, "--calls", 1_000_000]
         words += ["--delay", DELAY, "--attempts", ATTEMPTS, "--turns", TURNS, "--history", f"{room}/history"]

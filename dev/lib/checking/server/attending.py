@@ -1,0 +1,230 @@
+"""Servers that are handed their listener, and that end with their input.
+
+A server notices within 20 ms what it was asked for. A busy machine makes that longer, and nothing shorter: so what must
+come is waited for, and what must not come is given some time.
+"""
+import contextlib
+import os
+import socket
+import subprocess
+import threading
+import time
+from pathlib import Path
+
+from checking.server.started import (
+    MANY,
+    SECOND,
+    Faults,
+    attended,
+    differ,
+    drain,
+    end_input,
+    handed,
+    listener,
+    status_and_counts,
+    without_moments,
+)
+from common.program import tested_program
+from serving import HOST, PATIENCE
+from serving.session import Session
+
+NOBODY = "history 3\nopen 0 0 0\nend 0\n"  # the history of a run in which nobody called
+
+
+def is_legal(history: Path, *words: str) -> bool:
+    """Whether a history is accepted, by the policy that these words give."""
+    replay = [tested_program(), "replay", "--chains", *words, str(history)]
+    return subprocess.run(replay, capture_output=True, check=False).returncode == 0
+
+
+def listener_that_is_handed_on(_: Path) -> Faults:
+    """Servers that are handed one listener, one after the other, serve all who connect, before and between them too."""
+    with listener() as it, Session(it.getsockname()[1]) as first, Session(it.getsockname()[1]) as second:
+        second.send("SIZE")
+        with handed(it, "--sessions 1") as server:
+            told = [first.ask("SIZE"), first.ask("QUIT"), server.end().status]
+        with handed(it, "--sessions 1") as server:
+            told += [second.reply()[0], second.ask("QUIT"), server.end().status]
+    yield "a listener that is handed on", differ(told, ["SIZE 0", "BYE", 0] * 2)
+
+
+def what_is_no_listener(room: Path) -> Faults:
+    """What is no listener at the server's address is refused, and the history before is kept."""
+    history = room / "kept"
+    history.write_text("as it was")
+    with contextlib.ExitStack() as stack:
+        enter = stack.enter_context
+        it, everywhere = enter(listener()), enter(socket.create_server(("", 0)))
+        port = it.getsockname()[1]
+        client, datagrams = enter(socket.create_connection((HOST, port))), enter(socket.socket(type=socket.SOCK_DGRAM))
+        it.setblocking(True)
+        datagrams.bind((HOST, port))
+        refused = {
+            "no descriptor": (1000, port),
+            "a file": (enter(open(os.devnull, "rb")).fileno(), port),
+            "a connection": (enter(it.accept()[0]).fileno(), port),
+            "a client's end": (client.fileno(), client.getsockname()[1]),
+            "a socket of datagrams": (datagrams.fileno(), port),
+            "a listener at another port": (it.fileno(), port + 1),
+            "a listener at all addresses": (everywhere.fileno(), everywhere.getsockname()[1]),
+        }
+        for name, (number, where) in refused.items():
+            words = f"--port {where} --socket {number} --history {history}".split()
+            passed = [number] if number < 1000 else []
+            ran = subprocess.run([tested_program(), "serve", *words], pass_fds=passed, capture_output=True, check=False)
+            told = (ran.returncode, ran.stdout, ran.stderr, history.read_text())
+            yield f"{name} as a listener", differ(told, (3, b"", b"rb_broker: cannot listen\n", "as it was"))
+
+
+def draining(room: Path) -> Faults:
+    """Something comes on the input: nobody else is let in, and a session ends once it holds no job."""
+    with listener() as it:
+        port, history = it.getsockname()[1], room / "drained"
+        words = f"--until-input-ends {MANY} --history {history}"
+        with handed(it, words, stdin=subprocess.PIPE) as server, contextlib.ExitStack() as stack:
+            idle, other, holder, waits = (stack.enter_context(Session(port)) for _ in range(4))
+            for client in (idle, other):
+                client.ask("SIZE")
+            for client, job in ((holder, "first"), (waits, "second")):
+                client.ask(f"OFFER 0 {job}")
+                client.ask("TAKE")
+            waits.send("TAKE")
+            time.sleep(0.1)
+            drain(server)
+            told = [idle.rest(), other.rest(), waits.line()]
+            yield "sessions without jobs, and a wait", differ(told, [b"", b"", "STOPPED"])
+            time.sleep(0.5)  # until no worker waits for a client any longer
+            late = Session(port)
+            late.send("SIZE")
+            told = [holder.ask("OFFER 0 third"), holder.ask("TAKE"), holder.ask("SIZE"), holder.ask("POLL")]
+            wanted = ["OFFERED 2", "STOPPED", "SIZE 1", "ITEM 2"]
+            yield "a session with jobs", differ(without_moments(told), wanted)
+            told = [waits.ask("FAIL 1"), waits.rest().decode()]
+            yield "a session whose job failed", differ(without_moments(told), ["AGAIN 3", ""])
+            drain(server)  # which changes nothing
+            time.sleep(0.1)
+            told = [server.process.poll(), holder.ask("DONE 0"), holder.ask("SIZE"), holder.ask("DONE 2")]
+            told += [holder.rest(), server.process.wait(PATIENCE)]
+            yield "the last session", differ(told, [None, "DONE 0", "SIZE 1", "DONE 2", b"", 0])
+            yield "a server that has drained", differ(status_and_counts(server), (0, "sessions 4 faults 0 lost 0", ""))
+        with handed(it, f"--sessions 1 --from {history}") as server, late:
+            told = [late.reply()[0], late.ask("QUIT"), server.end().status]
+            yield "who was not let in", differ(told, ["SIZE 1", "BYE", 0])
+
+
+def ending(room: Path) -> Faults:
+    """The input ends: what was sent is answered, jobs come back, and who reads nothing is left after a second."""
+    history = room / "ended"
+    with attended(f"--delay {SECOND} --history {history}") as server, contextlib.ExitStack() as stack:
+        holder, waits, deaf = (stack.enter_context(Session(server.port)) for _ in range(3))
+        holder.ask("OFFER 0 job")
+        holder.ask("TAKE")
+        waits.send("TAKE", "REMOVE 9", "TAKE")
+        deaf.fill()
+        end_input(server)
+        began = time.monotonic()
+        yield "what was sent", differ(waits.rest(), b"STOPPED\nREMOVED no\nSTOPPED\n")
+        yield "a session that holds a job", differ(holder.rest(), b"")
+        server.process.wait(PATIENCE)
+        lasted = time.monotonic() - began
+        yield "who reads nothing", None if lasted > 0.9 else f"it was left after {lasted}"
+        end = server.end()
+        yield "a server whose input has ended", differ((end.status, end.lines[0]), (0, "sessions 3 faults 1 lost 0"))
+        told = ('"offered":2,' in end.lines[1], '"left":1,' in end.lines[1], is_legal(history, "--delay", str(SECOND)))
+        yield "its history", differ(told, (True, True, True))
+
+
+def input_of_each_kind(room: Path) -> Faults:
+    """Input that ends before anybody comes ends the run, and input that does not wait is no end."""
+    closed = {"stdin": None, "preexec_fn": lambda: os.close(0)}
+    for name, how in {"no input": {"stdin": subprocess.DEVNULL}, "closed input": closed}.items():
+        history = room / "nobody"
+        with attended(f"--history {history}", **how) as server:
+            server.process.wait(PATIENCE)
+            told = (*status_and_counts(server), history.read_text())
+            yield name, differ(told, (0, "sessions 0 faults 0 lost 0", "", NOBODY))
+    read, write = os.pipe()
+    os.set_blocking(read, False)
+    with attended(stdin=read) as server, Session(server.port) as client:
+        os.close(read)
+        time.sleep(0.1)
+        told = [client.ask("SIZE")]
+        os.close(write)
+        told += [client.rest(), server.process.wait(PATIENCE)]
+        yield "input that does not wait", differ(told, ["SIZE 0", b"", 0])
+
+
+def killed_attendants(room: Path) -> Faults:
+    """An attendant that is killed ends the run in good order, whatever its clients do."""
+    clients = {"says nothing": "SIZE", "holds a job": "TAKE", "has a job done": "TAKE, DONE 0"}
+    for name, requests in clients.items():
+        read, write = os.pipe()
+        attendant = subprocess.Popen(["sleep", "1000"], pass_fds=[write])
+        os.close(write)
+        history = room / "killed"
+        with attended(f"--history {history}", stdin=read) as server, Session(server.port) as client:
+            os.close(read)
+            for request in ("OFFER 0 job", *requests.split(", ")):
+                client.ask(request)
+            attendant.kill()
+            attendant.wait()
+            told = [client.rest(), server.process.wait(PATIENCE), is_legal(history)]
+            yield f"a killed attendant, and a client that {name}", differ(told, [b"", 0, True])
+
+
+class Producer(threading.Thread):
+    """A client that offers in pieces of so many until its session ends, and counts the replies that it got."""
+
+    def __init__(self, port: int, piece: int) -> None:
+        super().__init__()
+        self.port, self.piece, self.replies, self.fault = port, piece, 0, ""
+
+    def run(self) -> None:
+        try:
+            with Session(self.port) as client:
+                with contextlib.suppress(BrokenPipeError, ConnectionResetError):
+                    while self.offers(client):
+                        pass
+                self.replies += client.rest().count(b"\n")
+        except Exception as fault:  # whatever it is, it is told
+            self.fault = repr(fault)
+
+    def offers(self, client: Session) -> bool:
+        """Offers once more, and returns whether all was answered."""
+        client.send(*["OFFER 1000000000000 job"] * self.piece)
+        for _ in range(self.piece):
+            if not client.replies.readline().endswith(b"\n"):
+                return False
+            self.replies += 1
+        return True
+
+
+def requests_without_replies(room: Path) -> Faults:
+    """A request that got no reply was not carried out: as many elements were offered as there are replies."""
+    for asks in (drain, end_input):
+        for piece in (1, 7, 500):
+            with attended(f"--history {room}/counted") as server:
+                producers = [Producer(server.port, piece) for _ in range(8)]
+                for it in producers:
+                    it.start()
+                time.sleep(0.2)
+                asks(server)
+                for it in producers:
+                    it.join()
+                server.process.wait(PATIENCE)
+                end = server.end()
+            replies, faults = sum(it.replies for it in producers), [it.fault for it in producers if it.fault]
+            told = (end.status, end.lines[0], f'"offered":{replies},' in end.lines[1], replies > 0, faults)
+            wanted = (0, "sessions 8 faults 0 lost 0", True, True, [])
+            yield f"{asks.__name__}, requests in pieces of {piece}", differ(told, wanted)
+
+
+CHECKS = (
+    listener_that_is_handed_on,
+    what_is_no_listener,
+    draining,
+    ending,
+    input_of_each_kind,
+    killed_attendants,
+    requests_without_replies,
+)
