@@ -12,7 +12,8 @@ from packaging.tests.running import expect, is_there, run
 COMMANDS = {name: options.split() for name, options in {
     "script": "--calls --timer --history --from --delay --rate --attempts",
     "replay": "--chains --delay --rate --attempts",
-    "serve": "--port --calls --timer --workers --sessions --turns --history --from --delay --rate --attempts",
+    "serve": "--port --calls --timer --workers --sessions --turns --socket --until-input-ends --greeting --attentive"
+    " --silent --history --from --delay --rate --attempts",
 }.items()}
 NAMES = {name for names in COMMANDS.values() for name in names}
 ROW = re.compile(r"^ +(?:-h, )?(--[a-z-]+)(?: <([A-Z]+)>)? +(.*)$", re.M)
@@ -45,7 +46,7 @@ class Option(NamedTuple):
 
 def options_in(text: str) -> set[str]:
     """The options that a text names, except those of help."""
-    return set(re.findall(r"--[a-z]+", text)) - OF_HELP
+    return set(re.findall(r"--[a-z]+(?:-[a-z]+)*", text)) - OF_HELP
 
 
 def text_of_page() -> str:
@@ -60,7 +61,7 @@ def options_of(page: str) -> list[Option]:
     for part in page.split("\n.TP\n")[1:]:
         head, _, body = part.partition("\n")
         text = " ".join(re.split(r"^\.(?:PP|SH|SS)", body, flags=re.M)[0].split())
-        named = re.fullmatch(r'\.BI? (--[a-z]+)(?: " ([A-Z]+)")?', head)
+        named = re.fullmatch(r'\.BI? (--[a-z]+(?:-[a-z]+)*)(?: " ([A-Z]+)")?', head)
         if named:
             choices = re.search(r"\.BR ([^.]*?) , default", text)
             default = "" if named[2] == "FILE" else " ".join(re.findall(r"default (?:\.BR )?([a-z0-9]+)", text))
