@@ -7,7 +7,8 @@ its place among the events of one seat, and no events of nobody. No element may 
 expiry, and each job must have been finished, or have come back unless it was given its last attempt. RB_BROKER_SEED is
 what the clients' choices follow from.
 
-Servers that are attended, or told how to treat their clients, are those of attending.py and manners.py.
+Servers that are attended, or told how to treat their clients, are those of attending.py and manners.py, and those with
+many visits those of visiting.py.
 """
 import concurrent.futures
 import json
@@ -17,7 +18,7 @@ import tempfile
 from pathlib import Path
 from typing import Iterator
 
-from checking.server import attending, manners
+from checking.server import attending, manners, visiting
 from checking.server.clients import Client, early
 from checking.tally import Tally
 from checking.testing import run_tool
@@ -90,7 +91,7 @@ def jobs_that_differ(history: History, done: set[int]) -> Iterator[str]:
 def check(tally: Tally) -> None:
     """Runs the servers with their clients, and counts what is right."""
     with tempfile.TemporaryDirectory() as room:
-        for compared in (*attending.CHECKS, *manners.CHECKS):
+        for compared in (*attending.CHECKS, *manners.CHECKS, *visiting.CHECKS):
             try:
                 for name, fault in compared(Path(room)) if tally.wants(compared.__name__) else ():
                     tally.count(name, fault)
