@@ -25,7 +25,7 @@ COPIED = {
 # it lies below this repository's.
 FOR_READERS = (
     "docs/OPERATING.md", "docs/PROTOCOL.md", "docs/HISTORY.md", "docs/DELAYQUEUE.md", "docs/SCALING.md",
-    "clients/python/README.md", "redis/README.md", "redis/users.acl", "docs/*.png", "docs/*.svg", "examples/*",
+    "clients/python/README.md", "redis/README.md", "redis/users.acl", "docs/*.png", "examples/*",
     "clients/python/examples/*.py",
 )
 

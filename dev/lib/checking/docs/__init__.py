@@ -4,17 +4,17 @@
     clauses    each call, clause and definition that docs/PROVED.md names is in the sources
     quotes     docs/HEADLINE.md quotes src/ and specs/ line by line, and what it quotes rests on nothing that it lacks
     uncited    each lemma and definition is named somewhere
-    picture    docs/request.svg shows the hops of the table in docs/ARCHITECTURE.md
+    way        each call on the way of a request in docs/ARCHITECTURE.md is made by the one before, and they are counted
 """
 from pathlib import Path
 
-from checking.docs import clauses, links, picture, quotes, uncited
+from checking.docs import clauses, links, quotes, uncited, way
 from checking.tally import Tally
 from common.program import TOP
 from defining.tree import Unknown
 
 # Each has a function `find`, which gives for all that it looks at below a folder what is wrong with it, or nothing.
-PARTS = {"links": links, "clauses": clauses, "quotes": quotes, "uncited": uncited, "picture": picture}
+PARTS = {"links": links, "clauses": clauses, "quotes": quotes, "uncited": uncited, "way": way}
 
 
 def check(tally: Tally, folder: Path = Path(TOP)) -> None:
