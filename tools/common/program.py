@@ -19,13 +19,19 @@ def built_program(given: str | None = None) -> str:
     """The path of the program to run: the given one, or this checkout's, which ./broker first builds if it has to, or
     that of the package.
 
-    If that fails, ./broker has said why, and this process exits with status 2.
+    If that fails, ./broker has said why, and this process exits with status 2, or 130 after Ctrl-C.
     """
     if given:
         return given
     if not os.path.exists(os.path.join(TOP, "broker")) and os.path.exists(INSTALLED):
         return os.path.abspath(INSTALLED)
-    if subprocess.run([os.path.join(TOP, "broker"), "--help"], stdout=subprocess.DEVNULL, check=False).returncode:
+    building = subprocess.Popen([os.path.join(TOP, "broker"), "--help"], stdout=subprocess.DEVNULL)
+    try:
+        status = building.wait()
+    except KeyboardInterrupt:
+        building.wait()  # Ctrl-C has stopped it too, which it says in its last line
+        sys.exit(130)
+    if status:
         sys.exit(2)
     return PROGRAM
 

@@ -11,14 +11,22 @@ from common.program import PROGRAM, TESTED, TOP, built_program, program_named, t
 
 class ProgramTest(RoomTest):
     def test_a_program_that_is_given_is_taken_and_the_checkouts_is_built(self) -> None:
-        with mock.patch("subprocess.run", return_value=subprocess.CompletedProcess([], 0)) as run:
+        with mock.patch("subprocess.Popen") as build:
             self.assertEqual(built_program("/bin/other"), "/bin/other")
-            self.assertFalse(run.called)
+            self.assertFalse(build.called)
+            build.return_value.wait.return_value = 0
             self.assertEqual(built_program(), PROGRAM)
-            run.return_value.returncode = 126
+            build.return_value.wait.return_value = 126
             with self.assertRaises(SystemExit) as end:
                 built_program()
-        self.assertEqual((end.exception.code, run.call_args.args), (2, ([f"{TOP}/broker", "--help"],)))
+        self.assertEqual((end.exception.code, build.call_args.args), (2, ([f"{TOP}/broker", "--help"],)))
+
+    def test_a_build_that_ctrl_c_stops_has_said_so_itself(self) -> None:
+        with mock.patch("subprocess.Popen") as build:
+            build.return_value.wait.side_effect = [KeyboardInterrupt, -2]
+            with self.assertRaises(SystemExit) as end:
+                built_program()
+        self.assertEqual((end.exception.code, build.return_value.wait.call_count), (130, 2))
 
     def test_a_program_that_is_named(self) -> None:
         path = self.file("program", "")
