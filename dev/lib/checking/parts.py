@@ -24,8 +24,11 @@ class Part:
     tries: str
     steps: Sequence[str]
     needs: Sequence[str] = ()
+    packages: str = ""
     runs_program: bool = True
     is_long: bool = False
+    is_alone: bool = False
+    may_skip: Sequence[str] = ()
 
     def run(self, tally: Tally) -> None:
         """Takes one step after the other."""
