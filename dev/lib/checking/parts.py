@@ -8,7 +8,7 @@ from dataclasses import dataclass
 from pathlib import Path
 from typing import Sequence
 
-from checking.suites import add, tests_below, try_apart, try_side_by_side, try_tests
+from checking.suites import add, tests_below, try_apart, try_pytest, try_side_by_side, try_tests
 from checking.tally import Tally
 from common.program import TOP, tested_program
 from side_by_side import side_by_side
@@ -42,6 +42,8 @@ class Part:
                     folder = f"{TOP}/{folder}"
                     suite = tests_below(f"{folder}/tests", os.path.dirname(folder), tally.only, pattern)
                     try_side_by_side(tally, suite, PROCESSORS)
+                case ["pytest", folder]:
+                    try_pytest(tally, f"{TOP}/{folder}")
                 case ["check", module]:
                     importlib.import_module(module).check(tally)
                 case ["client"]:

@@ -1,4 +1,6 @@
-"""Tests by unittest, counted as everything else is: in this process, or those of each class in a process of its own."""
+"""Tests by unittest and pytest, counted as everything else is: in this process, or those of each class in a process of
+its own."""
+import importlib.util
 import os
 import re
 import subprocess
@@ -14,6 +16,8 @@ from side_by_side import side_by_side
 
 # Where a process finds the ports for its servers, as FIRST-END, and one that tries one class finds that it does.
 PORTS, TRIES_CLASS = "RB_BROKER_PORTS", "RB_BROKER_TRIES_CLASS"
+DEBIANS_PYTHON = "/usr/bin/python3"  # which has pytest, where another is first on the path
+OF_PYTEST = re.compile(r"(\d+) (passed|failed|error|skipped)")
 COUNTS = re.compile(r"(\d+) passed, (\d+) failed(?:, (\d+) skipped)?")
 
 
@@ -38,6 +42,22 @@ def try_tests(tally: Tally, suite: unittest.TestSuite) -> None:
     failed = {getattr(test, "test_case", test) for test, _ in result.failures + result.errors}
     others = failed.union(test for test, _ in result.skipped)
     tally.add(result.testsRun - sum(isinstance(test, unittest.TestCase) for test in others), len(failed))
+
+
+def try_pytest(tally: Tally, folder: str) -> None:
+    """Runs the tests of a folder by pytest, and prints what it says unless all passed."""
+    python = sys.executable if importlib.util.find_spec("pytest") else DEBIANS_PYTHON
+    words = [python, "-B", "-m", "pytest", "-q", "-rs", "--tb=short", "-p", "no:cacheprovider", folder]
+    ran = subprocess.run([*words, *(["-k", " or ".join(tally.only)] if tally.only else [])], cwd=TOP,
+                         stdout=subprocess.PIPE, stderr=subprocess.STDOUT, text=True, errors="replace", check=False)
+    said = ran.stdout.strip()
+    counts = {kind: int(count) for count, kind in OF_PYTEST.findall(said.rpartition("\n")[2])}
+    if ran.returncode:
+        print(said, flush=True)
+    for place, reason in re.findall(r"^SKIPPED \[\d+\] (.*?): (.*)$", said, re.M):
+        print(f"{place}: skipped: {reason}", flush=True)
+    failed = counts.get("failed", 0) + counts.get("error", 0)
+    tally.add(counts.get("passed", 0), max(failed, ran.returncode not in (0, 5)), counts.get("skipped", 0))
 
 
 def try_side_by_side(tally: Tally, suite: unittest.TestSuite, at_once: int, first: Sequence[str] = ()) -> None:

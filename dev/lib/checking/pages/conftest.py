@@ -1,0 +1,38 @@
+"""What tests of pages share: the program, and a folder with the checkout's examples in which it runs."""
+import os
+import subprocess
+import sys
+from pathlib import Path
+from typing import Callable
+
+import pytest
+
+HERE = Path(__file__).resolve()
+# Behind all others, since pytest needs another package of the name `packaging`.
+sys.path += [str(HERE.parents[2]), str(HERE.parents[4] / "tools")]
+
+from common.program import TOP, tested_program  # noqa: E402
+
+PATIENCE = 120  # seconds
+
+Ended = subprocess.CompletedProcess[str]
+Run = Callable[..., Ended]
+
+
+@pytest.fixture
+def program() -> str:
+    return tested_program()
+
+
+@pytest.fixture
+def run(tmp_path: Path, program: str) -> Run:
+    """Runs a line of the shell as a page has it, where `./broker`, `rb_broker` and `tools/` are those that are tested."""
+    os.symlink(f"{TOP}/examples", tmp_path / "examples")
+
+    def ran(line: str, given: str = "") -> Ended:
+        line = line.replace("./broker ", "rb_broker ").replace("tools/", f"{sys.executable} -B {TOP}/tools/")
+        words = ["sh", "-c", f'rb_broker() {{ "{program}" "$@"; }}\n{line}']
+        how = {"cwd": tmp_path, "input": given, "capture_output": True, "timeout": PATIENCE, "encoding": "utf-8"}
+        return subprocess.run(words, check=False, **how)
+
+    return ran

@@ -1,0 +1,134 @@
+"""Dialogues, commands and texts of the pages, run as they stand."""
+import re
+import socket
+from pathlib import Path
+
+import pytest
+
+from checking.pages.conftest import Run
+from checking.pages.reading import blocks, code, page, section, tables
+from common.program import TOP
+from serving.server import Server
+
+PROTOCOL, HISTORY = "docs/PROTOCOL.md", "docs/HISTORY.md"
+REFUSALS = {it[0].strip("`"): it for it in tables(section(PROTOCOL, "Refusals"))[0]}
+HELD = "OFFER 0 a\nPOLL\n"
+
+
+def example(name: str) -> str:
+    return Path(TOP, "examples", name).read_text("ascii")
+
+
+def dialogue(block: str) -> tuple[str, str]:
+    """The requests and the replies of a block in two columns."""
+    pairs = [re.split(r" {2,}", line) for line in block.splitlines()]
+    return "".join(f"{it[0]}\n" for it in pairs), "".join(f"{it[1]}\n" for it in pairs)
+
+
+def test_the_dialogue_of_the_protocol(run: Run) -> None:
+    text = section(PROTOCOL, "Requests")
+    requests, replies = dialogue(blocks(text)[0])
+    command = re.search(r"dialogue of `(.*?)`", text)[1]
+    assert requests == example("first.txt")
+    assert run(command).stdout == replies
+
+
+def test_each_request_is_in_the_table_and_the_grammar() -> None:
+    table = [it[0].strip("`").split()[0] for it in tables(section(PROTOCOL, "Requests"))[0]]
+    grammar = section(PROTOCOL, "Grammar").partition("    line-end")[0]
+    assert table == re.findall(r'%s"([A-Z]+)"', grammar)
+
+
+def test_the_first_look(run: Run) -> None:
+    text = section("README.md", "First look")
+    command = blocks(text)[-1].strip()
+    told = code(text.rpartition("the last replies are")[2])
+    assert run(command).stdout.splitlines()[-len(told):] == told and len(told) == 3
+
+
+def test_the_commands_of_histories(run: Run) -> None:
+    """A run, its replay, and one that continues it."""
+    told = {}
+    for line in blocks(page(HISTORY))[0].splitlines():
+        ran = run(line)
+        told[line] = ran.stdout
+        assert ran.returncode == 0, (line, ran)
+    verdict = code(tables(page(HISTORY))[0][0][0])[0]
+    assert [it.strip() for line, it in told.items() if " replay " in line] == [verdict] * 2
+
+
+@pytest.mark.parametrize("history", [it for it in blocks(page(HISTORY)) if it.startswith("history ")])
+def test_a_history_of_the_page(run: Run, tmp_path: Path, history: str) -> None:
+    (tmp_path / "h").write_text(history, "ascii")
+    assert run("rb_broker replay h --chains").returncode == 0
+
+
+@pytest.mark.parametrize("line", blocks(section(HISTORY, "A report on a history"))[0].splitlines())
+def test_the_commands_of_reports(run: Run, line: str) -> None:
+    for it in blocks(page(HISTORY))[0].splitlines():
+        run(it)
+    ran = run(re.split(r" {2,}", line)[0])
+    assert ran.returncode == 0 and ran.stdout, ran
+
+
+def test_the_history_that_is_chained(run: Run, tmp_path: Path) -> None:
+    text = section(HISTORY, "Why retries are not right")
+    history = blocks(text)[-1]
+    says = re.search(r"With a delay of (\d+) and (\w+) attempts this run is chained. Event (\d) fails with a delay of (\d+) "
+                     r"with `(.*?)`, with one attempt with `(.*?)`, and with `FIRST` changed to (\d) with `(.*?)`\.", text)
+    delay, attempts, event, other, late, many, first, base = says.groups()
+    changed = re.sub(r"^(0 0 0 offer 1 \d+ 0) 0", rf"\1 {first}", history, flags=re.M)
+    for told, words, verdict in (
+        (history, f"--delay {delay} --attempts {('one', 'two', 'three').index(attempts) + 1}", None),
+        (history, f"--delay {other}", late), (history, f"--delay {delay} --attempts 1", many),
+        (changed, f"--delay {delay}", base),
+    ):
+        (tmp_path / "h").write_text(told, "ascii")
+        ran = run(f"rb_broker replay h --chains {words}")
+        wanted = f"unchained {event} {verdict}\n" if verdict else ran.stdout
+        assert (ran.returncode, ran.stdout) == (1 if verdict else 0, wanted)
+
+
+@pytest.mark.parametrize(("reply", "requests", "options"), [
+    *((reply, f"{request}\n", "") for reply in REFUSALS for request in code(REFUSALS[reply][2])
+      if "second" not in REFUSALS[reply][2] and " after " not in REFUSALS[reply][2] and " in it" not in REFUSALS[reply][2]),
+    *((reply, f"{it[2]}\n{it[1]}\n", "") for reply, row in REFUSALS.items()
+      for it in [re.fullmatch("`(.*)` after `(.*)`", row[2])] if it),
+    *((reply, f"{HELD}{it[1]}\n{it[1]}\n" if "DONE" in it[1] else f"{it[1]}\n{it[1]}\n", it[2] or "")
+      for reply, row in REFUSALS.items() for it in [re.fullmatch(r"the second `(.*?)`(?: with `(.*)`)?", row[2])] if it),
+    *((reply, f"{int(it[1]) * 'x'}\n", "") for reply, row in REFUSALS.items()
+      for it in [re.fullmatch(r"a line of (\d+) bytes", row[2])] if it),
+    *((reply, request, "") for reply, row in REFUSALS.items() if row[2] == "a tab or an `é` in it"
+      for request in ("OFFER 0 a\tb\n", "OFFER 0 é\n")),
+])
+def test_a_refusal(run: Run, reply: str, requests: str, options: str) -> None:
+    assert run(f"rb_broker script {options}", requests).stdout.splitlines()[-1] == reply
+
+
+def test_a_line_of_the_greatest_length_is_no_fault(run: Run) -> None:
+    most = int(re.search(r"A line has at most (\d+) bytes", page(PROTOCOL))[1])
+    long, longer = (run("rb_broker script", f"{count * 'x'}\n").stdout for count in (most, most + 1))
+    assert (long, longer) == ("ERR 1 syntax\n", "ERR 8 line\n")
+
+
+def test_the_examples_that_the_protocol_names(run: Run) -> None:
+    assert "`examples/refusals.txt` shows refusals 1 to 4 and 8, and `examples/retries.txt` a job that fails twice and is " \
+           "done, and a `DRAIN` of two jobs." in page(PROTOCOL)
+    refusals, retries = (run(f"./broker script < examples/{it}.txt").stdout for it in ("refusals", "retries"))
+    assert {*re.findall(r"^ERR (\d)", refusals, re.M)} == {"1", "2", "3", "4", "8"}
+    words = [it.split()[0] for it in retries.splitlines() if it.split()[0] != "NOW"]
+    assert words == "OFFERED ITEM AGAIN ITEM AGAIN ITEM DONE OFFERED OFFERED DRAINED ITEM ITEM DONE AGAIN BYE".split()
+
+
+def test_the_end_of_a_run_with_two_clients(program: str) -> None:
+    """The client that takes the job and the one that offers it are those of examples/two_clients.sh."""
+    text = section(PROTOCOL, "Served sessions")
+    worker, giver = re.findall(r"printf '(.*)' >&", example("two_clients.sh"))
+    with Server(["--sessions", "2"], program) as server:
+        with socket.create_connection(("127.0.0.1", server.port)) as one, socket.create_connection(one.getpeername()) as two:
+            one.sendall(worker.encode().decode("unicode_escape").encode())
+            two.sendall(giver.encode().decode("unicode_escape").encode())
+            replies = [it.makefile().read() for it in (one, two)]
+        status, told, _ = server.end()
+    assert (status, "".join(f"{it}\n" for it in told)) == (0, blocks(text)[1]), replies
+    assert "`listening 127.0.0.1:P`" in text

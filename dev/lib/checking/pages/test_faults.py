@@ -1,0 +1,88 @@
+"""What pages say of faults: each text is the program's own, and each of the program's texts is there."""
+import re
+from pathlib import Path
+
+import pytest
+
+from checking.pages.conftest import Run
+from checking.pages.reading import code, page, section, tables
+from common.program import TOP
+
+PROTOCOL, HISTORY, OPERATING = (f"docs/{it}.md" for it in ("PROTOCOL", "HISTORY", "OPERATING"))
+ENDS = [(int(row[0]), "".join(code(row[1])[:1])) for row in tables(section(PROTOCOL, "How a run ends"))[0]]
+# Runs that end by a fault, each with its line.
+RUNS = {
+    "bad opening": "echo x > f; rb_broker script --from f",
+    "cannot read input": "rb_broker script < .",
+    "cannot write output": "echo SIZE | rb_broker script > /dev/full",
+    "cannot read history": "rb_broker script --from nowhere",
+    "cannot write history": "rb_broker script --history /nowhere/f",
+    "cannot listen": "rb_broker serve --port 9 --socket 3 3< /dev/null",
+    "error: ": "rb_broker script --no-such-option",
+}
+
+
+def source(*names: str) -> str:
+    return "\n".join(Path(TOP, it).read_text("utf-8") for it in names)
+
+
+def verdicts() -> set[str]:
+    """The reasons in the verdicts of the case files, which the gate compares with the program's."""
+    files = Path(TOP, "crates/rb_cases/data").glob("*.case")
+    text = "\n".join(it.read_text("utf-8") for it in files)
+    return {*re.findall(r"^verdict \w+ \d+ (.*)$", text, re.M)}
+
+
+def test_the_faults_of_a_run() -> None:
+    file = source("crates/rb_ending/src/broker_fault.rt")
+    texts = dict(re.findall(r'#\[error\("(.*)"\)\]\n    (\w+),', file))
+    status = {"BadOpening": 1, "Memory": 4}
+    wanted = {(status.get(variant, 3), text) for text, variant in texts.items()} | {(0, ""), (2, "error: ")}
+    assert {*ENDS} == wanted
+
+
+@pytest.mark.parametrize("line", RUNS)
+def test_a_fault_of_a_run(run: Run, line: str) -> None:
+    ran = run(RUNS[line])
+    says = line if line == "error: " else f"rb_broker: {line}\n"
+    assert ran.stderr.startswith(says) and (ran.returncode, line) in ENDS, ran
+
+
+def test_the_refusals_of_requests() -> None:
+    texts = re.findall(r'b"(ERR \d [\w-]+)"', source("crates/rb_protocol/src/line_reply.rt"))
+    table = [it[0].strip("`") for it in tables(section(PROTOCOL, "Refusals"))[0]]
+    grammar = re.findall(r'%s"(\d [\w-]+)"', section(PROTOCOL, "Grammar"))
+    assert sorted(table) == sorted(texts) == sorted(f"ERR {it}" for it in grammar)
+
+
+def test_the_reasons_of_replays() -> None:
+    unreadable = {it[0].strip("`") for it in tables(section(HISTORY, "Why a text can't be read"))[0]}
+    rows = tables(section(HISTORY, "Why a history is not legal"))[0] + tables(section(HISTORY, "Why retries are not right"))[0]
+    reasons = {it for row in rows for it in re.findall(r": `([a-z ]+)`|, `([a-z ]+)`", row[1])}
+    assert unreadable | {one or other for one, other in reasons} == verdicts()
+
+
+def test_the_kinds_of_faults_of_verify() -> None:
+    told = dict(re.findall(r'^    "(\w+)": "(.*)",$', source("tools/verifying/faults.py"), re.M))
+    rows = {row[0].strip("`"): row[1] for row in tables(section(HISTORY, "A run judged from outside"))[0]}
+    rows["unrecorded"] = rows["unrecorded"].rpartition(": ")[2]
+    assert rows == told
+
+
+def of_service() -> str:
+    """The sources of the service."""
+    return source("tools/service", *(it.relative_to(TOP).as_posix() for it in Path(TOP, "tools/servicing").glob("*.py")))
+
+
+def test_the_events_of_a_service() -> None:
+    events = {*re.findall(r"event=([a-z-]+)", page(OPERATING))}
+    assert events and not {it for it in events if f'"{it}"' not in of_service()}
+
+
+@pytest.mark.parametrize("line", [line for row in tables(section(OPERATING, "When nothing is served"))[0] for line in code(row[1])])
+def test_the_lines_of_a_service_that_ends(line: str) -> None:
+    """Each piece between what varies, `..`, is a text of the service, or a fault of the program."""
+    texts = re.sub(r'"\s*\n\s*f?"', "", of_service() + source("crates/rb_ending/src/broker_fault.rt"))
+    for piece in re.split(r"\.\.| N\b|event=|: rb_broker: |\bthe service of process\b", line):
+        piece = piece.strip(" ,()")
+        assert piece in texts, piece

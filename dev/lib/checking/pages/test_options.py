@@ -1,0 +1,149 @@
+"""Options that pages name: each is one of --help, with its default there, and its range is what the program accepts."""
+import re
+import subprocess
+import sys
+from functools import cache
+from pathlib import Path
+
+import pytest
+
+from checking.pages.reading import code, page, plain, section, tables
+from common import program
+from common.program import TOP
+
+PROTOCOL, OPERATING = "docs/PROTOCOL.md", "docs/OPERATING.md"
+SERVE = "serve --port 7 --from /nowhere/f"  # a missing file: words that are accepted end by it
+# What PROTOCOL says of an option's range and default: the words before, the range, the default.
+TOLD = re.compile(r"`--([a-z-]+)[^`|]*`(?:(?!`--).)*?\((\d[\d,]*) to (2\^64 - 1|\d[\d,]*\d)(?:, default (\d[\d,]*))?")
+JAVA = {"Duration.ofMillis": "ms", "Duration.ofSeconds": "s"}
+
+
+@cache
+def help_of(*words: str) -> str:
+    environment = {"PYTHONPATH": f"{TOP}/redis/src:{TOP}/clients/python/src", "COLUMNS": "1000", "PATH": "/usr/bin:/bin"}
+    return subprocess.run([*words, "--help"], capture_output=True, text=True, check=True, env=environment).stdout
+
+
+@cache
+def defaults(*words: str) -> dict[str, str]:
+    """The options of a command, each with its default, or nothing."""
+    rows = re.findall(r"^ +(?:-h, )?--([a-z-]+)(?: [^ ].*?)?(?:  +|\n +)(.*)$", help_of(*words), re.M)
+    found = {name: re.search(r"[\[(](?:default: )?([^()\[\] ]+)(?:, if .*?)?[\])](?: \[possible.*)?$", text) for name, text in rows}
+    return {name: it[1] if it else "" for name, it in found.items() if name != "help"}
+
+
+def of_program(command: str) -> dict[str, str]:
+    return defaults(program.tested_program(), command)
+
+
+def of_service() -> dict[str, str]:
+    return defaults(sys.executable, "-B", f"{TOP}/tools/service")
+
+
+def of_gateway() -> dict[str, str]:
+    return defaults(sys.executable, "-B", "-m", "rb_broker_redis", "serve")
+
+
+def accepts(option: str, value: int) -> bool:
+    words = [program.tested_program(), *SERVE.split(), f"--{option}={value}"]
+    ran = subprocess.run(words[:2] + words[4:] if option == "port" else words, capture_output=True, check=False)
+    assert ran.returncode in (2, 3), ran
+    return ran.returncode == 3
+
+
+@pytest.mark.parametrize("command", ["script", "serve"])
+def test_a_synopsis(command: str) -> None:
+    text = page(PROTOCOL).partition(f"\n    rb_broker {command} ")[2].partition("\n\n")[0]
+    assert {*re.findall(r"--([a-z-]+)", text)} == {*of_program(command)}
+
+
+RANGES = [it.groups() for it in TOLD.finditer(page(PROTOCOL))]
+
+
+@pytest.mark.parametrize(("option", "least", "most", "default"), RANGES)
+def test_a_range_of_the_protocol(option: str, least: str, most: str, default: str | None) -> None:
+    low, high = int(plain(least)), int(plain(most))
+    assert [accepts(option, it) for it in (low, high, high + 1)] == [True, True, False]
+    assert low == 0 or not accepts(option, low - 1)
+    assert default is None or plain(default) == of_program("serve")[option]
+
+
+def test_the_ranges_that_are_told() -> None:
+    wanted = {"calls", "workers", "sessions", "turns", "socket", "silent"}
+    assert wanted <= {it[0] for it in RANGES}
+    least, most = re.search(r"at port P \(([\d,]+) to ([\d,]+)\)", page(PROTOCOL)).groups()
+    assert [accepts("port", int(plain(it)) + by) for it, by in ((least, -1), (least, 0), (most, 0), (most, 1))] == \
+        [False, True, True, False]
+
+
+def test_the_defaults_of_jobs() -> None:
+    rows = {re.match("`--([a-z]+)", row[0])[1]: row for row in tables(section(PROTOCOL, "Jobs"))[0]}
+    told = {name: (re.findall(r"^[\d,]+", row[2]) or [""])[0] for name, row in rows.items()}
+    assert {name: plain(it) for name, it in told.items()} == {it: of_program("serve")[it] for it in ("delay", "rate", "attempts")}
+    least, most = re.search(r"([\d,]+) to ([\d,]+)", rows["attempts"][1]).groups()
+    assert [accepts("attempts", int(plain(it)) + by) for it, by in ((least, -1), (least, 0), (most, 0), (most, 1))] == \
+        [False, True, True, False]
+    assert f"(default `{of_program('script')['timer']}`)" in page(PROTOCOL)
+
+
+def test_the_greatest_greeting() -> None:
+    most = int(re.search(r"`--greeting LINE` \|.*at most (\d+) bytes", page(PROTOCOL))[1])
+    words = [program.tested_program(), *SERVE.split(), "--greeting"]
+    ends = [subprocess.run([*words, count * "x"], capture_output=True, check=False).returncode for count in (most, most + 1)]
+    assert ends == [3, 2]
+
+
+def options_of_service() -> list[tuple[str, str]]:
+    """The options in the table of OPERATING, each with its default."""
+    found = []
+    for row in tables(section(OPERATING, "Before production"))[0]:
+        names = [it.partition(" ")[0].removeprefix("--") for it in code(row[0]) if it.startswith("--")]
+        found += zip(names, [plain(it) for it in row[1].split("; ")])
+    return found
+
+
+@pytest.mark.parametrize(("option", "default"), options_of_service())
+def test_a_default_of_the_service(option: str, default: str) -> None:
+    assert of_service()[option] == default
+
+
+def test_ranges_of_the_service() -> None:
+    for row in tables(section(OPERATING, "Before production"))[0]:
+        option = code(row[0])[0].partition(" ")[0].removeprefix("--")
+        for told in re.findall(r"\b\d+ to \d+\b", row[-1]):
+            assert re.search(rf"--{option} .*\b{told}\b", help_of(sys.executable, "-B", f"{TOP}/tools/service")), row
+
+
+def test_defaults_that_are_wrong_for_a_service() -> None:
+    told = re.search(r"most defaults are wrong for a service \((.*?)\)", page(OPERATING))[1]
+    words = dict(it.removeprefix("--").split() for it in code(told))
+    assert words == {it: of_program("serve")[it] for it in words} and len(words) == 4
+
+
+def rows_of_gateways() -> list[tuple[list[str], str]]:
+    rows = tables(section("redis/README.md", "Gateways"))[0]
+    return [([it.partition(" ")[0].removeprefix("--") for it in code(row[0])], row[1]) for row in rows]
+
+
+@pytest.mark.parametrize(("options", "text"), rows_of_gateways())
+def test_a_row_of_the_gateway(options: list[str], text: str) -> None:
+    """Each option is there, and what stands in brackets first, as `(30s, 20 attempts)`, is a default of one."""
+    there = of_gateway()
+    assert {*options} <= {*there}
+    told = [re.match(r"\w+", it)[0] for brackets in re.findall(r"\((\d[^()]*)\)", text) for it in brackets.split(", ")
+            if re.match(r"\d", it)]
+    assert {*told} <= {there[it] for it in options}, text
+
+
+def test_defaults_that_gateways_have_told() -> None:
+    told = " ".join(text for _, text in rows_of_gateways())
+    assert re.findall(r"\((\d+s?)[,)]", told) == [of_gateway()[it] for it in ("delay", "lease", "grace", "replicas")]
+    assert f"`--timeout` ({of_gateway()['timeout']})" in page("redis/README.md")
+
+
+def test_the_settings_in_java() -> None:
+    source = Path(TOP, "clients/java/src/rbbroker/client/RemoteDelayQueue.java").read_text("utf-8")
+    rows = {row[0].strip("`"): row[1] for table in tables(page("clients/java/README.md")) for row in table}
+    for name in ("waiters", "longestWait", "patience"):
+        kind, number = re.search(rf"private \w+ {name} = (?:([\w.]+)\()?(\d+)\)?;", source).groups()
+        assert rows[name] == (f"{number} {JAVA[kind]}" if kind else number), name

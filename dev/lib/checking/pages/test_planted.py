@@ -1,0 +1,74 @@
+"""Faults that are planted in pages: each is found by the test that is named beside it."""
+import os
+import shutil
+import subprocess
+import sys
+from pathlib import Path
+
+import pytest
+
+from checking.docs import links
+from checking.pages.reading import TESTED
+from checking.pages.test_words import PAGES
+from common.program import TOP
+
+PROTOCOL, HISTORY, OPERATING = (f"docs/{it}.md" for it in ("PROTOCOL", "HISTORY", "OPERATING"))
+REDIS, JAVA, PYTHON = "redis/README.md", "clients/java/README.md", "clients/python/README.md"
+# The page, a text that stands there, what is planted in its place, and the test.
+PLANTED = [
+    (OPERATING, "| `--delay TIME` | 30s |", "| `--delay TIME` | 31s |", "test_a_default_of_the_service"),
+    (OPERATING, "`--turns 10000`)", "`--turns 1000`)", "test_defaults_that_are_wrong_for_a_service"),
+    (OPERATING, "event=not-listening", "event=not-heard", "test_the_events_of_a_service"),
+    (OPERATING, "`no server at port ..:", "`no server listens at ..:", "test_the_lines_of_a_service_that_ends"),
+    (PROTOCOL, "`cannot start worker`", "`cannot begin worker`", "test_the_faults_of_a_run"),
+    (PROTOCOL, "| 3 | `cannot read input`", "| 1 | `cannot read input`", "test_the_faults_of_a_run"),
+    (PROTOCOL, "`ERR 5 not-held` | `DONE`", "`ERR 5 unheld` | `DONE`", "test_the_refusals_of_requests"),
+    (PROTOCOL, "a line of 257 bytes", "a line of 256 bytes", "test_a_refusal"),
+    (PROTOCOL, "OFFER 50 a      OFFERED 0 150", "OFFER 50 a      OFFERED 0 151", "test_the_dialogue_of_the_protocol"),
+    (PROTOCOL, "`--workers` (1 to 16, default 4)", "`--workers` (1 to 16, default 5)", "test_a_range_of_the_protocol"),
+    (PROTOCOL, "as descriptor N (3 to 1,023)", "as descriptor N (2 to 1,023)", "test_a_range_of_the_protocol"),
+    (PROTOCOL, "[--attentive] [--silent N]\n", "[--mindful] [--silent N]\n", "test_a_synopsis"),
+    (PROTOCOL, '"given":1,"left":0', '"given":0,"left":1', "test_the_end_of_a_run_with_two_clients"),
+    (HISTORY, '"given":1,"left":1,', '"given":1,"left":2,', "test_the_commands_of_histories"),
+    (HISTORY, "`no parent`", "`no father`", "test_the_reasons_of_replays"),
+    (HISTORY, "| each call has an event |", "| each call has one event |", "test_the_kinds_of_faults_of_verify"),
+    (HISTORY, "run.txt --html page.html", "run.txt --page page.html", "test_the_commands_of_reports"),
+    (REDIS, "(15s, by no node's clock)", "(16s, by no node's clock)", "test_a_row_of_the_gateway"),
+    (JAVA, "| `patience` | 30 s |", "| `patience` | 31 s |", "test_the_settings_in_java"),
+    (PYTHON, "raises `NotOfferedError`", "raises `UnofferedError`", "test_each_name_of_a_client_is_there"),
+    ("README.md", "`NOW 150`, `ITEM 0 150 1 a`", "`NOW 150`, `ITEM 1 150 1 a`", "test_the_first_look"),
+    ("docs/TESTING.md", "(`dev/check server`, and", "(`dev/check servers`, and", "test_each_part_is_there"),
+    ("docs/EXTENDING.md", "crates/rb_cases/data/scripts.case", "crates/rb_cases/data/script.case", "test_each_file_is_there"),
+]
+LINKS = [
+    (OPERATING, "(PROTOCOL.md#served-sessions)", "(PROTOCOL.md#served-session)"),
+    ("README.md", "(docs/HEADLINE.md)", "(docs/HEADLINES.md)"),
+    (REDIS, "(#several-queues-as-one)", "(#many-queues-as-one)"),
+]
+
+
+def plant(top: Path, name: str, old: str, new: str) -> None:
+    """Copies the pages into a folder, one with another text."""
+    for it in PAGES:
+        (top / it).parent.mkdir(parents=True, exist_ok=True)
+        shutil.copy(Path(TOP, it), top / it)
+    text = (top / name).read_text("utf-8")
+    assert old in text
+    (top / name).write_text(text.replace(old, new), "utf-8")
+
+
+@pytest.mark.skipif(TESTED in os.environ, reason="faults are planted in the pages of the checkout")
+@pytest.mark.parametrize(("name", "old", "new", "test"), PLANTED, ids=[it[2] for it in PLANTED])
+def test_a_planted_fault(tmp_path: Path, name: str, old: str, new: str, test: str) -> None:
+    plant(tmp_path, name, old, new)
+    words = [sys.executable, "-B", "-m", "pytest", "-q", "-p", "no:cacheprovider", "-k", test, Path(__file__).parent]
+    ran = subprocess.run(words, env={**os.environ, TESTED: str(tmp_path)}, capture_output=True, text=True, check=False)
+    assert ran.returncode == 1 and f"::{test}" in ran.stdout, ran.stdout
+
+
+@pytest.mark.parametrize(("name", "old", "new"), LINKS)
+def test_a_planted_link(tmp_path: Path, name: str, old: str, new: str) -> None:
+    for it in (False, True):
+        plant(tmp_path, name, old, new if it else old)
+        said = [fault for fault in links.find(tmp_path) if fault and fault.startswith(f"{name}:") and new[1:-1] in fault]
+        assert bool(said) is it

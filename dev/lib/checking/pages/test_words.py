@@ -1,0 +1,78 @@
+"""What pages name is there: files, parts of dev/check, options of tools, and names of the clients' packages."""
+import os
+import re
+import subprocess
+import sys
+from functools import cache
+from pathlib import Path
+
+import pytest
+
+from checking.pages.reading import TESTED, blocks, code, page
+from checking.parts import PARTS
+from common.program import TOP
+
+PAGES = sorted(it.relative_to(TOP).as_posix() for it in (
+    *Path(TOP, "docs").glob("*.md"), *Path(TOP).glob("*.md"), *Path(TOP).glob("clients/*/README.md"), Path(TOP, "redis/README.md")))
+NOW = [it for it in PAGES if it not in ("CHANGELOG.md", "docs/DECISIONS.md")]  # which speak of what was, too
+PATH = re.compile(r"(?<![\w/~.-])(?:\.\./)*((?:examples|tools|dev|crates|clients|redis|docs|bench|packaging)/[\w./-]*\w)")
+COMMAND = re.compile(r"(?:^|[\s(])((?:tools|dev)/[a-z_]+)((?: [^|;&\n#)]+)?)")
+# What a part of a page's command may be made of by whoever follows it.
+MADE = {"crates/rb_NAME", "dev/null"}
+# Names of the languages' own libraries.
+OTHERS = {"DelayQueue", "RuntimeError", "ValueError", "TypeError", "OSError", "SystemExit"}
+
+
+def spoken(name: str) -> str:
+    """What a page has in code: words and blocks."""
+    text = page(name)
+    fenced = re.findall(r"^```.*?^```", text, re.M | re.S)
+    return "\n".join([*code(re.sub(r"^```.*?^```", "", text, flags=re.M | re.S)), *blocks(text), *fenced])
+
+
+@pytest.mark.parametrize("name", NOW)
+def test_each_file_is_there(name: str) -> None:
+    absent = {it for it in PATH.findall(spoken(name)) if it not in MADE and not any(
+        place.exists() or [*place.parent.glob(f"{place.name}*")] for place in (Path(TOP, it), Path(TOP, name).parent / it))}
+    assert not absent
+
+
+@cache
+def options_of(tool: str) -> set[str]:
+    told = subprocess.run([sys.executable, "-B", f"{TOP}/{tool}", "--help"], capture_output=True, text=True, check=True).stdout
+    return {*re.findall(r"--[a-z]+(?:-[a-z]+)*", told)}
+
+
+@pytest.mark.parametrize("name", NOW)
+def test_each_option_of_a_tool_is_there(name: str) -> None:
+    found = [(tool, option) for tool, words in COMMAND.findall(spoken(name)) if "\n#!" not in tool
+             for option in re.findall(r"(?<!\S)--[a-z]+(?:-[a-z]+)*", words)]
+    absent = [f"{tool} {option}" for tool, option in found
+              if Path(TOP, tool).is_file() and option not in options_of(tool)]
+    assert not absent
+
+
+@pytest.mark.parametrize("name", NOW)
+def test_each_part_is_there(name: str) -> None:
+    found = re.findall(r"dev/check((?: [a-z][a-z-]*)+)", spoken(name))
+    assert {it for words in found for it in words.split()} <= {*PARTS}
+
+
+def test_the_parts_in_the_table() -> None:
+    rows = re.findall(r"^\| ((?:`[a-z]+`(?:, )?)+) \| .* \|.*\|.*\|$", page("docs/TESTING.md"), re.M)
+    told = {it for row in rows for it in code(row)}
+    assert told == {name for name, part in PARTS.items() if not part.is_long}
+
+
+@pytest.mark.parametrize(("folder", "kind"), [("clients/python", "py"), ("clients/java", "java")])
+def test_each_name_of_a_client_is_there(folder: str, kind: str) -> None:
+    """Classes, such as `NotOfferedError`, and calls, such as `done()`, are in the package or its examples."""
+    files = [it for part in ("src", "examples") for it in Path(TOP, folder, part).rglob(f"*.{kind}")]
+    text, spoken_of = "\n".join(it.read_text("utf-8") for it in files), "\n".join(code(page(f"{folder}/README.md")))
+    words = {*re.findall(r"\b(?:[A-Z][a-z]+){2,}\b", spoken_of)} | {*re.findall(r"(?<![\w.])(\w+)\(\)", spoken_of)}
+    assert not {it for it in words - OTHERS if not re.search(rf"\b{it}\b", text)}
+
+
+def test_pages_are_those_of_the_folder_that_is_tested() -> None:
+    """So what is planted can be tried."""
+    assert page("README.md") == Path(os.environ.get(TESTED) or TOP, "README.md").read_text("utf-8")
