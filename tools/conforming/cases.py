@@ -1,5 +1,6 @@
 """The cases of a file: runs and their expected results. crates/rb_cases/src/case.rt describes how one is written. The
-gate refuses a file that is malformed, so here none is expected."""
+gate refuses each file that is malformed; here a line is refused whose first word is none, or that stands before any
+case."""
 import operator
 import os
 import re
@@ -33,6 +34,10 @@ MARKS = {b"\\": b"\\", b"r": b"\r", b"n": b"\n"}
 STEPS = {"": operator.add, "+": operator.add, "*": operator.mul, "%": operator.mod}
 
 
+class Malformed(ValueError):
+    """A line that is none of a case: its file, its number and the reason, as rb_cases tells them."""
+
+
 @dataclass
 class Case:
     """A case as its file describes it: the values of the words that occur once, and its texts."""
@@ -55,7 +60,7 @@ class Case:
             kind, _, told = told.partition(" ")
             word = f"{word} {kind}"
         if word not in ONCE:
-            raise ValueError(f"{self.file}, case {self.name}: {word} is no word of a case")
+            raise Malformed(f"no word of a case: {word}")
         self.values[word] = told
 
     @property
@@ -120,6 +125,11 @@ def read_cases(path: str) -> list[Case]:
         word, _, told = line.partition(" ")
         if word == "case":
             cases.append(Case(os.path.basename(path), number, told))
-        elif word and not line.startswith("#"):
-            cases[-1].take(word, told)
+        elif line.strip() and not line.startswith("#"):
+            try:
+                if not cases:
+                    raise Malformed("no case or table has begun")
+                cases[-1].take(word, told)
+            except Malformed as fault:
+                raise Malformed(f"{path}:{number}: {fault}") from None
     return cases

@@ -1,6 +1,8 @@
 """The reading of a case file, by the table of crates/rb_cases/src/case.rt."""
+import re
+
 from checking.testing import RoomTest
-from conforming.cases import read_cases
+from conforming.cases import Malformed, read_cases
 
 
 class CaseReaderTest(RoomTest):
@@ -21,5 +23,11 @@ class CaseReaderTest(RoomTest):
         self.assertEqual(told, (False, b"history 3\n", "unreadable 2 end", 1))
 
     def test_a_word_that_it_does_not_know(self):
-        with self.assertRaisesRegex(ValueError, "^a.case, case b: writer sleeps is no word of a case$"):
-            read_cases(self.file("a.case", "case b\nwriter sleeps\n"))
+        for text, told in (
+            ("case b\nwriter sleeps\n", "2: no word of a case: writer sleeps"),
+            ("case b\n>* POLL\n", "2: no word of a case: >*"),
+            ("# remark\n\n> POLL\n", "3: no case or table has begun"),
+        ):
+            path = self.file("a.case", text)
+            with self.assertRaisesRegex(Malformed, f"^{re.escape(f'{path}:{told}')}$"):
+                read_cases(path)

@@ -64,6 +64,20 @@ class ProgramTest(RoomTest):
             self.assertEqual((status, counts_of(lines[-1])), (0, counts))
             self.assertIn(told, lines[0])
 
+    def test_files_that_are_named(self):
+        right = self.file("right.case", "case a\n> SIZE\n< SIZE 0\nends input 0\n")
+        wrong = self.file("wrong.case", "case b\n> SIZE\n< SIZE 1\nends input 0\n")
+        told = "over list, reads whole: replies, line 1: 'SIZE 0\\n' in place of 'SIZE 1\\n'"
+        self.assertEqual(conform("--timers", right, wrong, tested_program()),
+                         (1, [f"wrong.case:1: b: {told}", "1 passed, 1 failed, 0 skipped"], ""))
+
+    def test_a_file_that_is_malformed_or_absent(self):
+        misspelt = self.file("misspelt.case", "case a\n> SIZE\nend input 0\n")
+        self.assertEqual(conform(misspelt), (2, [], f"{misspelt}:3: no word of a case: end\n"))
+        status, lines, errors = conform("none.case")
+        self.assertEqual((status, lines), (2, []))
+        self.assertIn("none.case", errors)
+
     def test_a_run_that_hangs_is_ended_with_what_it_started(self):
         ended = Program(["sh", "-c", "echo begun; sleep 600; echo on"], patience=1).run([], Input([]))
         self.assertEqual((ended.status, ended.output), (-9, b"begun\n"))
