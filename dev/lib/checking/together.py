@@ -31,8 +31,7 @@ class Ended:
         """Prints a line, below all that was said if the part failed."""
         others, _, last = self.said.rpartition("\n")
         if not self.is_right:
-            print(others)
-            print(*(f"{self.name}: not tried: {it}" for it in self.passed_over), sep="\n", end="\n" * bool(self.passed_over))
+            print("\n".join([others, *(f"{self.name}: not tried: {it}" for it in self.passed_over)]))
         state = "passed" if self.is_right else f"FAILED with status {self.status}"
         print(f"{self.name}: {state}, {self.seconds:.0f} s: {last}", flush=True)
 

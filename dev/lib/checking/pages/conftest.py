@@ -26,7 +26,7 @@ def program() -> str:
 
 @pytest.fixture
 def run(tmp_path: Path, program: str) -> Run:
-    """Runs a line of the shell as a page has it, where `./broker`, `rb_broker` and `tools/` are those that are tested."""
+    """Runs a line of the shell as a page has it, with the program that is tested and the checkout's tools."""
     os.symlink(f"{TOP}/examples", tmp_path / "examples")
 
     def ran(line: str, given: str = "") -> Ended:

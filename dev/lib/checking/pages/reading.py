@@ -31,7 +31,11 @@ def blocks(text: str) -> list[str]:
 def tables(text: str) -> list[list[list[str]]]:
     """The tables, each with its rows of cells, without their heads."""
     found = re.findall(r"(?:^\|.*\n)+", text, re.M)
-    return [[[it.strip() for it in re.split(r" \|(?= )", row[1:-1])] for row in table.splitlines()[2:]] for table in found]
+    return [[cells_of(row) for row in table.splitlines()[2:]] for table in found]
+
+
+def cells_of(row: str) -> list[str]:
+    return [it.strip() for it in re.split(r" \|(?= )", row[1:-1])]
 
 
 def code(text: str) -> list[str]:

@@ -2,6 +2,7 @@
 import re
 import socket
 from pathlib import Path
+from typing import Iterator
 
 import pytest
 
@@ -74,8 +75,9 @@ def test_the_commands_of_reports(run: Run, line: str) -> None:
 def test_the_history_that_is_chained(run: Run, tmp_path: Path) -> None:
     text = section(HISTORY, "Why retries are not right")
     history = blocks(text)[-1]
-    says = re.search(r"With a delay of (\d+) and (\w+) attempts this run is chained. Event (\d) fails with a delay of (\d+) "
-                     r"with `(.*?)`, with one attempt with `(.*?)`, and with `FIRST` changed to (\d) with `(.*?)`\.", text)
+    says = re.search(r"With a delay of (\d+) and (\w+) attempts this run is chained. Event (\d) fails with a delay of "
+                     r"(\d+) with `(.*?)`, with one attempt with `(.*?)`, and with `FIRST` changed to (\d) with "
+                     r"`(.*?)`\.", text)
     delay, attempts, event, other, late, many, first, base = says.groups()
     changed = re.sub(r"^(0 0 0 offer 1 \d+ 0) 0", rf"\1 {first}", history, flags=re.M)
     for told, words, verdict in (
@@ -89,20 +91,29 @@ def test_the_history_that_is_chained(run: Run, tmp_path: Path) -> None:
         assert (ran.returncode, ran.stdout) == (1 if verdict else 0, wanted)
 
 
-@pytest.mark.parametrize(("reply", "requests", "options"), [
-    *((reply, f"{request}\n", "") for reply in REFUSALS for request in code(REFUSALS[reply][2])
-      if "second" not in REFUSALS[reply][2] and " after " not in REFUSALS[reply][2] and " in it" not in REFUSALS[reply][2]),
-    *((reply, f"{it[2]}\n{it[1]}\n", "") for reply, row in REFUSALS.items()
-      for it in [re.fullmatch("`(.*)` after `(.*)`", row[2])] if it),
-    *((reply, f"{HELD}{it[1]}\n{it[1]}\n" if "DONE" in it[1] else f"{it[1]}\n{it[1]}\n", it[2] or "")
-      for reply, row in REFUSALS.items() for it in [re.fullmatch(r"the second `(.*?)`(?: with `(.*)`)?", row[2])] if it),
-    *((reply, f"{int(it[1]) * 'x'}\n", "") for reply, row in REFUSALS.items()
-      for it in [re.fullmatch(r"a line of (\d+) bytes", row[2])] if it),
-    *((reply, request, "") for reply, row in REFUSALS.items() if row[2] == "a tab or an `é` in it"
-      for request in ("OFFER 0 a\tb\n", "OFFER 0 é\n")),
-])
+def refusals() -> Iterator[tuple[str, str, str]]:
+    """The refusals of the table, each with the requests of an example and the options of their script."""
+    for reply, (_, _, example_of) in REFUSALS.items():
+        requests = code(example_of)
+        if it := re.fullmatch(r"a line of (\d+) bytes", example_of):
+            yield reply, int(it[1]) * "x", ""
+        elif example_of == "a tab or an `é` in it":
+            yield from ((reply, f"OFFER 0 a{it}b", "") for it in "\té")
+        elif it := re.fullmatch("`(.*)` after `(.*)`", example_of):
+            yield reply, f"{it[2]}\n{it[1]}", ""
+        elif it := re.fullmatch(r"the second `(.*?)`(?: with `(.*)`)?", example_of):
+            yield reply, f"{'' if it[2] else HELD}{it[1]}\n{it[1]}", it[2] or ""
+        else:
+            yield from ((reply, it, "") for it in requests)
+
+
+@pytest.mark.parametrize(("reply", "requests", "options"), refusals())
 def test_a_refusal(run: Run, reply: str, requests: str, options: str) -> None:
-    assert run(f"rb_broker script {options}", requests).stdout.splitlines()[-1] == reply
+    assert run(f"rb_broker script {options}", f"{requests}\n").stdout.splitlines()[-1] == reply
+
+
+def test_the_refusals_that_have_examples() -> None:
+    assert len({reply for reply, _, _ in refusals()}) == 7
 
 
 def test_a_line_of_the_greatest_length_is_no_fault(run: Run) -> None:
@@ -112,8 +123,8 @@ def test_a_line_of_the_greatest_length_is_no_fault(run: Run) -> None:
 
 
 def test_the_examples_that_the_protocol_names(run: Run) -> None:
-    assert "`examples/refusals.txt` shows refusals 1 to 4 and 8, and `examples/retries.txt` a job that fails twice and is " \
-           "done, and a `DRAIN` of two jobs." in page(PROTOCOL)
+    assert "`examples/refusals.txt` shows refusals 1 to 4 and 8, and `examples/retries.txt` a job that fails twice " \
+           "and is done, and a `DRAIN` of two jobs." in page(PROTOCOL)
     refusals, retries = (run(f"./broker script < examples/{it}.txt").stdout for it in ("refusals", "retries"))
     assert {*re.findall(r"^ERR (\d)", refusals, re.M)} == {"1", "2", "3", "4", "8"}
     words = [it.split()[0] for it in retries.splitlines() if it.split()[0] != "NOW"]
@@ -125,7 +136,8 @@ def test_the_end_of_a_run_with_two_clients(program: str) -> None:
     text = section(PROTOCOL, "Served sessions")
     worker, giver = re.findall(r"printf '(.*)' >&", example("two_clients.sh"))
     with Server(["--sessions", "2"], program) as server:
-        with socket.create_connection(("127.0.0.1", server.port)) as one, socket.create_connection(one.getpeername()) as two:
+        place = "127.0.0.1", server.port
+        with socket.create_connection(place) as one, socket.create_connection(place) as two:
             one.sendall(worker.encode().decode("unicode_escape").encode())
             two.sendall(giver.encode().decode("unicode_escape").encode())
             replies = [it.makefile().read() for it in (one, two)]

@@ -57,7 +57,8 @@ def test_the_refusals_of_requests() -> None:
 
 def test_the_reasons_of_replays() -> None:
     unreadable = {it[0].strip("`") for it in tables(section(HISTORY, "Why a text can't be read"))[0]}
-    rows = tables(section(HISTORY, "Why a history is not legal"))[0] + tables(section(HISTORY, "Why retries are not right"))[0]
+    headings = "Why a history is not legal", "Why retries are not right"
+    rows = [row for heading in headings for row in tables(section(HISTORY, heading))[0]]
     reasons = {it for row in rows for it in re.findall(r": `([a-z ]+)`|, `([a-z ]+)`", row[1])}
     assert unreadable | {one or other for one, other in reasons} == verdicts()
 
@@ -71,7 +72,8 @@ def test_the_kinds_of_faults_of_verify() -> None:
 
 def of_service() -> str:
     """The sources of the service."""
-    return source("tools/service", *(it.relative_to(TOP).as_posix() for it in Path(TOP, "tools/servicing").glob("*.py")))
+    files = Path(TOP, "tools/servicing").glob("*.py")
+    return source("tools/service", *(it.relative_to(TOP).as_posix() for it in files))
 
 
 def test_the_events_of_a_service() -> None:
@@ -79,7 +81,10 @@ def test_the_events_of_a_service() -> None:
     assert events and not {it for it in events if f'"{it}"' not in of_service()}
 
 
-@pytest.mark.parametrize("line", [line for row in tables(section(OPERATING, "When nothing is served"))[0] for line in code(row[1])])
+LINES = [line for row in tables(section(OPERATING, "When nothing is served"))[0] for line in code(row[1])]
+
+
+@pytest.mark.parametrize("line", LINES)
 def test_the_lines_of_a_service_that_ends(line: str) -> None:
     """Each piece between what varies, `..`, is a text of the service, or a fault of the program."""
     texts = re.sub(r'"\s*\n\s*f?"', "", of_service() + source("crates/rb_ending/src/broker_fault.rt"))

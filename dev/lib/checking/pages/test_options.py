@@ -1,4 +1,5 @@
 """Options that pages name: each is one of --help, with its default there, and its range is what the program accepts."""
+import os
 import re
 import subprocess
 import sys
@@ -15,12 +16,13 @@ PROTOCOL, OPERATING = "docs/PROTOCOL.md", "docs/OPERATING.md"
 SERVE = "serve --port 7 --from /nowhere/f"  # a missing file: words that are accepted end by it
 # What PROTOCOL says of an option's range and default: the words before, the range, the default.
 TOLD = re.compile(r"`--([a-z-]+)[^`|]*`(?:(?!`--).)*?\((\d[\d,]*) to (2\^64 - 1|\d[\d,]*\d)(?:, default (\d[\d,]*))?")
+DEFAULT = re.compile(r"[\[(](?:default: )?([^()\[\] ]+)(?:, if .*?)?[\])](?: \[possible.*)?$")
 JAVA = {"Duration.ofMillis": "ms", "Duration.ofSeconds": "s"}
 
 
 @cache
 def help_of(*words: str) -> str:
-    environment = {"PYTHONPATH": f"{TOP}/redis/src:{TOP}/clients/python/src", "COLUMNS": "1000", "PATH": "/usr/bin:/bin"}
+    environment = {**os.environ, "PYTHONPATH": f"{TOP}/redis/src:{TOP}/clients/python/src", "COLUMNS": "1000"}
     return subprocess.run([*words, "--help"], capture_output=True, text=True, check=True, env=environment).stdout
 
 
@@ -28,7 +30,7 @@ def help_of(*words: str) -> str:
 def defaults(*words: str) -> dict[str, str]:
     """The options of a command, each with its default, or nothing."""
     rows = re.findall(r"^ +(?:-h, )?--([a-z-]+)(?: [^ ].*?)?(?:  +|\n +)(.*)$", help_of(*words), re.M)
-    found = {name: re.search(r"[\[(](?:default: )?([^()\[\] ]+)(?:, if .*?)?[\])](?: \[possible.*)?$", text) for name, text in rows}
+    found = {name: DEFAULT.search(text) for name, text in rows}
     return {name: it[1] if it else "" for name, it in found.items() if name != "help"}
 
 
@@ -79,7 +81,8 @@ def test_the_ranges_that_are_told() -> None:
 def test_the_defaults_of_jobs() -> None:
     rows = {re.match("`--([a-z]+)", row[0])[1]: row for row in tables(section(PROTOCOL, "Jobs"))[0]}
     told = {name: (re.findall(r"^[\d,]+", row[2]) or [""])[0] for name, row in rows.items()}
-    assert {name: plain(it) for name, it in told.items()} == {it: of_program("serve")[it] for it in ("delay", "rate", "attempts")}
+    there = {it: of_program("serve")[it] for it in ("delay", "rate", "attempts")}
+    assert {name: plain(it) for name, it in told.items()} == there
     least, most = re.search(r"([\d,]+) to ([\d,]+)", rows["attempts"][1]).groups()
     assert [accepts("attempts", int(plain(it)) + by) for it, by in ((least, -1), (least, 0), (most, 0), (most, 1))] == \
         [False, True, True, False]
@@ -89,8 +92,8 @@ def test_the_defaults_of_jobs() -> None:
 def test_the_greatest_greeting() -> None:
     most = int(re.search(r"`--greeting LINE` \|.*at most (\d+) bytes", page(PROTOCOL))[1])
     words = [program.tested_program(), *SERVE.split(), "--greeting"]
-    ends = [subprocess.run([*words, count * "x"], capture_output=True, check=False).returncode for count in (most, most + 1)]
-    assert ends == [3, 2]
+    for count, status in ((most, 3), (most + 1, 2)):
+        assert subprocess.run([*words, count * "x"], capture_output=True, check=False).returncode == status
 
 
 def options_of_service() -> list[tuple[str, str]]:

@@ -12,10 +12,11 @@ from checking.pages.reading import TESTED, blocks, code, page
 from checking.parts import PARTS
 from common.program import TOP
 
-PAGES = sorted(it.relative_to(TOP).as_posix() for it in (
-    *Path(TOP, "docs").glob("*.md"), *Path(TOP).glob("*.md"), *Path(TOP).glob("clients/*/README.md"), Path(TOP, "redis/README.md")))
+FOLDERS = ("*.md", "docs/*.md", "clients/*/README.md", "redis/README.md")
+PAGES = sorted(it.relative_to(TOP).as_posix() for folder in FOLDERS for it in Path(TOP).glob(folder))
 NOW = [it for it in PAGES if it not in ("CHANGELOG.md", "docs/DECISIONS.md")]  # which speak of what was, too
-PATH = re.compile(r"(?<![\w/~.-])(?:\.\./)*((?:examples|tools|dev|crates|clients|redis|docs|bench|packaging)/[\w./-]*\w)")
+PATH = re.compile(r"(?<![\w/~.-])(?:\.\./)*"
+                  r"((?:examples|tools|dev|crates|clients|redis|docs|bench|packaging)/[\w./-]*\w)")
 COMMAND = re.compile(r"(?:^|[\s(])((?:tools|dev)/[a-z_]+)((?: [^|;&\n#)]+)?)")
 # What a part of a page's command may be made of by whoever follows it.
 MADE = {"crates/rb_NAME", "dev/null"}
@@ -32,20 +33,22 @@ def spoken(name: str) -> str:
 
 @pytest.mark.parametrize("name", NOW)
 def test_each_file_is_there(name: str) -> None:
-    absent = {it for it in PATH.findall(spoken(name)) if it not in MADE and not any(
-        place.exists() or [*place.parent.glob(f"{place.name}*")] for place in (Path(TOP, it), Path(TOP, name).parent / it))}
-    assert not absent
+    """Below the top folder or beside the page. A name before a star or a brace is the beginning of one."""
+    for it in {*PATH.findall(spoken(name))} - MADE:
+        places = Path(TOP, it), Path(TOP, name).parent / it
+        assert any([*place.parent.glob(f"{place.name}*")] for place in places), it
 
 
 @cache
 def options_of(tool: str) -> set[str]:
-    told = subprocess.run([sys.executable, "-B", f"{TOP}/{tool}", "--help"], capture_output=True, text=True, check=True).stdout
+    words = [sys.executable, "-B", f"{TOP}/{tool}", "--help"]
+    told = subprocess.run(words, capture_output=True, text=True, check=True).stdout
     return {*re.findall(r"--[a-z]+(?:-[a-z]+)*", told)}
 
 
 @pytest.mark.parametrize("name", NOW)
 def test_each_option_of_a_tool_is_there(name: str) -> None:
-    found = [(tool, option) for tool, words in COMMAND.findall(spoken(name)) if "\n#!" not in tool
+    found = [(tool, option) for tool, words in COMMAND.findall(spoken(name))
              for option in re.findall(r"(?<!\S)--[a-z]+(?:-[a-z]+)*", words)]
     absent = [f"{tool} {option}" for tool, option in found
               if Path(TOP, tool).is_file() and option not in options_of(tool)]
