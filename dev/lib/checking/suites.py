@@ -18,6 +18,7 @@ from side_by_side import side_by_side
 PORTS, TRIES_CLASS = "RB_BROKER_PORTS", "RB_BROKER_TRIES_CLASS"
 DEBIANS_PYTHON = "/usr/bin/python3"  # which has pytest, where another is first on the path
 OF_PYTEST = re.compile(r"(\d+) (passed|failed|error|skipped)")
+PATIENCE = 3_000  # seconds that a part may take
 COUNTS = re.compile(r"(\d+) passed, (\d+) failed(?:, (\d+) skipped)?")
 
 
@@ -90,11 +91,17 @@ def tests_in(suite: unittest.TestSuite) -> Iterator[unittest.TestCase]:
 
 
 def try_apart(part: str, only: Sequence[str], **settings: str) -> tuple[int, str, float]:
-    """Tries a part in a process of its own. Gives its status, what it prints, and how many seconds it took."""
+    """Tries a part in a process of its own, which is broken off if it hangs. Gives its status, what it prints, and how
+    many seconds it took."""
     words, began = [sys.executable, "-B", f"{TOP}/dev/check", part, *(["--only", *only] if only else [])], monotonic()
-    ran = subprocess.run(words, stdout=subprocess.PIPE, stderr=subprocess.STDOUT, text=True, errors="replace",
-                         env={**os.environ, **settings}, check=False)
-    return ran.returncode, ran.stdout.strip(), monotonic() - began
+    how = {"stdout": subprocess.PIPE, "stderr": subprocess.STDOUT, "text": True, "errors": "replace"}
+    with subprocess.Popen(words, env={**os.environ, **settings}, **how) as process:
+        try:
+            said, _ = process.communicate(timeout=PATIENCE)
+        except subprocess.TimeoutExpired:
+            process.terminate()  # at which it leaves no process
+            said, _ = process.communicate()
+    return process.returncode, said.strip(), monotonic() - began
 
 
 def add(tally: Tally, name: str, said: str) -> None:

@@ -59,10 +59,10 @@ class Whole(RoomTest):
 
     def test_what_is_left_out(self) -> None:
         self.stand_in("rt", "exit 1")
-        others = [name for name, part in PARTS.items() if not part.is_long and name != "docs"]
+        others = [name for name, part in PARTS.items() if not part.is_long and name != "tools"]
         ran = self.ran("test", "--without", "setup", "refusals", *others, "--program", sys.executable)
         self.assertEqual((ran.returncode, ran.stderr), (0, ""), ran.stdout)
-        self.assertRegex(ran.stdout, r"(?s)\Adocs: passed, .*\n1 passed, 0 failed, in \d+\.\d minutes\n\Z")
+        self.assertRegex(ran.stdout, r"(?s)\Atools: passed, .*\n1 passed, 0 failed, in \d+\.\d minutes\n\Z")
 
     def test_a_test_that_is_skipped_fails_its_part(self) -> None:
         said = "a: skipped: {}\n3 passed, 0 failed, 1 skipped"
