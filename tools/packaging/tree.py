@@ -13,6 +13,7 @@ PYTHON = "usr/lib/python3/dist-packages"
 # Where files of packaging/ go.
 COPIED = {
     "rb_broker@.service": "usr/lib/systemd/system/rb_broker@.service",
+    "rb_broker@.socket": "usr/lib/systemd/system/rb_broker@.socket",
     "rb_broker_redis@.service": "usr/lib/systemd/system/rb_broker_redis@.service",
     "rb_broker_archive@.service": "usr/lib/systemd/system/rb_broker_archive@.service",
     "rb_broker.default": "etc/default/rb_broker",

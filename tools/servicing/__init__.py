@@ -6,11 +6,10 @@
     folder.py, runs.py, fitting.py           the folder of a service: what is written of a run, in what order, and
                      whether what is there fits together
     clock.py, opening.py                     what a run begins with: its moment, its ids and its elements
-    deciding.py                              how a service begins, when a run ends, and which old ones are dropped
-    keeper.py, keeping.py                    the process that holds a server and its history, and how it is found
-    server.py, cutting.py                    a server, and how its sessions are cut
-    visits.py, crowd.py                      how its sessions are used up, and its clients come to leave soon
-    looking.py, sockets.py, session.py       what is seen of a server
+    deciding.py      how a service begins, when a run ends, and which old ones are dropped
+    memory.py        what outlives a service that is killed
+    server.py        a server: how it is started, found, told to end, and what it leaves
+    looking.py, connections.py, session.py   what is seen of a server
     saying.py        how others ask for the end, and what they are told
     showing.py       what the service shows of itself
     state.py         all that the service knows and shows at one moment; `Board` holds the latest
@@ -18,5 +17,4 @@
     shown.py         a state as texts, for the page, --status and systemd
     page.py          the page
     site.py, http.py the site, with reports: always at the socket FOLDER/status, and at an address if --http names one
-    unix.py          sockets that only the owner of the folder may use
 """

@@ -1,54 +1,70 @@
 """What a service does between two runs: it finds what the one before left, and saves what a run has left."""
 import hashlib
 import json
+import os
 import subprocess
 import time
 from dataclasses import replace
 
 from histories.files import open_history
 from servicing.current import Current
-from servicing.deciding import Held, Start, how_to_start
+from servicing.deciding import Found, Start, how_to_start
 from servicing.fitting import Misfit, misfit_of
 from servicing.folder import Unusable
 from servicing.opening import Left
-from servicing.parts import Parts
+from servicing.parts import LeftBehind, Parts
 from servicing.runs import Next, left_of
 from servicing.saying import say
-from servicing.server import Damaged, Server, orphan_of
+from servicing.server import Damaged, Server, found
 from servicing.showing import lost_text
 from servicing.state import End, Phase, Reason, Run
+
+KEEPER = "keeper"  # a socket in the folder, by which an earlier version of this reached its server
+LOOK, TELL = 0.05, 10.0  # seconds from one look whether a server has ended to the next, and until it is said again
 
 
 def resumed(parts: Parts) -> Current | Next:
     """A server that goes on, or what the next one begins with. Raises an `Unusable`."""
     last, settings = parts.runs.last, parts.settings
     if last is None:
-        parts.keeping.drop(0)
         return parts.runs.first(settings.begin_with, lambda path: _check(settings.program, path))
     if settings.begin_with:
         raise Unusable(f"--from begins an empty folder, and {parts.folder.path} has runs")
-    held = parts.keeping.status() if parts.keeping.was_found else None
-    server = _held_server(parts, last, held)
+    server, left = found(parts.memory, last.number), None
+    if server is None and last.end is None and os.path.exists(parts.folder.file(KEEPER)):
+        raise Unusable(f"{parts.folder.file(KEEPER)} is of an earlier version, which may hold run {last.number}: let "
+                       "that version end it in good order, or remove the file, and the run is lost")
+    parts.folder.remove(KEEPER)
     if server is not None:
-        held = Held(server.run, server.run)
+        if server.input is None:
+            _await_end(parts, server)
+        left = Found(not server.has_ended, server.listens, server.size > 0)
     while (misfit := parts.runs.misfit()) is not None:
         _accept(parts, misfit)
-    start = how_to_start(last, parts.folder.history(last.number) is not None, held,
-                         server is not None and not server.has_ended)
+    start = how_to_start(last, parts.folder.history(last.number) is not None, left)
     say("info", "resume", run=last.number, how=start.value)
     if server is not None and start in (Start.GO_ON, Start.COLLECT):
         current = Current(parts, last, server)
         if start is Start.GO_ON:
-            if server.listens and f":{settings.port}\n" not in server.says:
-                raise Unusable(f"run {last.number} is served at another port ({server.says.strip()}): name that one")
             return current
         parts.showing.run = current.record
         return saved(parts, current)
     following = _following(parts, last, start)
-    parts.keeping.drop(last.number if parts.runs.records[last.number].end else last.number - 1)
     if server is not None:
         server.close()
     return following
+
+
+def _await_end(parts: Parts, server: Server) -> None:
+    """Waits for a server whose input ended with another service. Raises a `LeftBehind` if an end is asked for."""
+    told = time.monotonic()
+    while not server.has_ended:
+        if parts.signals.count:
+            raise LeftBehind(f"the server of run {server.run} ends; start the service again to save its history")
+        parts.signals.wait(LOOK)
+        if time.monotonic() - told >= TELL:
+            told = time.monotonic()
+            say("info", "waiting", run=server.run, clients="the server")
 
 
 def _following(parts: Parts, last: Run, start: Start) -> Next:
@@ -60,7 +76,7 @@ def _following(parts: Parts, last: Run, start: Start) -> Next:
     if start is Start.MISSING:
         _accept(parts, Misfit(last.number, f"run {last.number} ended in good order, and has no history"))
         return lost(parts, last, "it had no history any more, which was accepted")
-    return lost(parts, last, "its server and its keeper were gone")
+    return lost(parts, last, "its server was gone, and what it had left in memory")
 
 
 def _accept(parts: Parts, misfit: Misfit) -> None:
@@ -68,19 +84,7 @@ def _accept(parts: Parts, misfit: Misfit) -> None:
     if parts.settings.accept_loss != misfit.run:
         raise Unusable(str(misfit))
     say("error", "accepted-loss", run=misfit.run, text=misfit.what)
-    parts.until_written(f"run-{misfit.run}", 0, lambda: parts.runs.accept(misfit))
-
-
-def _held_server(parts: Parts, last: Run, held: Held | None) -> Server | None:
-    """The server of the last run, if a keeper holds it, or if it is found without one."""
-    if held is not None and held.run != last.number:
-        return None
-    if held is not None and (server := parts.keeping.held()) is not None:
-        return server
-    server = orphan_of(parts.folder.id, last.number)
-    if server is not None:
-        parts.keeping.hold(server)
-    return server
+    parts.until_written(f"run-{misfit.run}", lambda: parts.runs.accept(misfit))
 
 
 def _continued(parts: Parts, last: Run) -> Next:
@@ -138,11 +142,14 @@ def saved(parts: Parts, run: Current) -> Next:
     except Damaged as fault:
         if server.size:
             parts.runs.save_damaged(server)
-        following = lost(parts, record, str(fault))
+        is_lost = server.listens or server.size
+        following = lost(parts, record, str(fault)) if is_lost else parts.runs.again(record, 0)
         offered, gone, failed = looks.offered, looks.left, 0
     else:
-        parts.until_written(f"run-{record.number}.txt", server.size, lambda: parts.runs.save_history(server))
-        end = replace(end_of(why, audit, left, digest), lost_jobs=server.lost_jobs, held_by=run.held_by, cut=run.cut)
+        record = run.timed_by(left)
+        parts.until_written(f"run-{record.number}.txt", lambda: parts.runs.save_history(server), server)
+        sessions, lost_jobs = server.counts or (None, None)
+        end = replace(end_of(why, audit, left, digest), sessions=sessions, lost_jobs=lost_jobs, cut=run.cut)
         offered, failed = end.offered or 0, left.failed
         gone = record.opening + offered - len(left.elements)
         write_end(parts, record, end)
@@ -153,7 +160,6 @@ def saved(parts: Parts, run: Current) -> Next:
             say("error", "lost-jobs", run=record.number, jobs=end.lost_jobs,
                 text="they failed when the run was full, and could not come back")
     parts.showing.count(offered, gone, failed)
-    parts.keeping.drop(record.number)
     server.close()
     return following
 
@@ -168,4 +174,4 @@ def lost(parts: Parts, record: Run, why: str) -> Next:
 
 
 def write_end(parts: Parts, record: Run, end: End) -> None:
-    parts.until_written(f"run-{record.number}.json", 0, lambda: parts.runs.end(record, end))
+    parts.until_written(f"run-{record.number}.json", lambda: parts.runs.end(record, end))

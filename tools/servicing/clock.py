@@ -43,6 +43,8 @@ def elapsed(since: Reading, now: Reading) -> int:
     While the machine goes on, setting its date changes nothing. Over a restart of it only the date tells, and one that
     was set back counts as no time.
     """
-    if since.boot and since.boot == now.boot:
-        return max(now.up - since.up, 0)
-    return max(now.date - since.date, 0)
+    return max(now.up - since.up, 0) if is_same_boot(since, now) else max(now.date - since.date, 0)
+
+
+def is_same_boot(since: Reading, now: Reading) -> bool:
+    return bool(since.boot) and since.boot == now.boot

@@ -6,11 +6,11 @@
     run-N.json        what is known of run N
     run-N.txt         its history, if it ended in good order; run-N.txt.gz later on
     damaged-N.txt     a history of run N that `replay` refused, or that did not fit
+    memory            the folder in memory where the history of a killed service's run waits
     acknowledged      how many lost runs and lost jobs somebody has acknowledged
     status            the socket at which `--status` asks
-    keeper            that of the process which holds the server
 
-Whoever could write there could have commands run as this user. So the folder and all in it have to be this user's own.
+The folder and all in it have to be this user's own, and nobody else's to write.
 """
 import contextlib
 import fcntl
@@ -47,12 +47,8 @@ class Folder:
     def __init__(self, path: str, port: int) -> None:
         """Makes the folder if it has to, and locks it. Raises an `Unusable` that says who else has it."""
         self.path = path
+        own_folder(path)
         try:
-            os.makedirs(path, mode=0o700, exist_ok=True)
-            link = os.lstat(path)
-            if link.st_uid:  # a link may be root's, as those of systemd are
-                _refuse_other(path, link)
-            _refuse_other(path, os.stat(path))
             self._lock = os.open(f"{path}/lock", os.O_RDWR | os.O_CREAT | os.O_CLOEXEC | os.O_NOFOLLOW, 0o600)
         except OSError as fault:
             raise Unusable(f"{fault.filename}: {fault.strerror}") from None
@@ -164,6 +160,18 @@ class Folder:
             self.remove(form.format(number))
 
 
+def own_folder(path: str) -> None:
+    """Makes a folder, unless it is there. Raises an `Unusable` unless it is this user's own."""
+    try:
+        os.makedirs(path, mode=0o700, exist_ok=True)
+        link = os.lstat(path)
+        if link.st_uid:  # a link may be root's, as those of systemd are
+            _refuse_other(path, link)
+        _refuse_other(path, os.stat(path))
+    except OSError as fault:
+        raise Unusable(f"{fault.filename}: {fault.strerror}") from None
+
+
 def _refuse_other(path: str, told: os.stat_result) -> None:
     """Raises an `Unusable` unless what is at a path belongs to this user, and nobody else may write there. Who connects
     to a socket is looked at there."""
@@ -184,7 +192,7 @@ def run_in(text: bytes) -> Run:
     told: dict[str, Any] = dict(json.loads(text))
     end = told["end"]
     if end is not None:
-        told["end"] = _known(End, {**end, "why": Reason(end["why"]), "held_by": tuple(end["held_by"])})
+        told["end"] = _known(End, {**end, "why": Reason(end["why"])})
     return _known(Run, {**told, "began": Reading(**told["began"]), "policy": tuple(told["policy"])})
 
 

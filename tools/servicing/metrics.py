@@ -2,7 +2,7 @@
 rise as long as the service lasts, whatever becomes of its runs; what is counted of one run is a gauge."""
 from typing import Any, Iterator
 
-from servicing.sockets import SILENT_FROM
+from servicing.connections import SILENT_FROM
 from servicing.state import State
 from rb_broker_redis.watching.metrics import Number, metric, metrics_of
 
@@ -30,10 +30,8 @@ NUMBERS: tuple[tuple[str, str, str], ...] = (
     ("run_calls", "calls.used", "Calls that the run can have used when last seen"),
     ("run_calls_limit", "calls.limit", "Calls for which the run has room"),
     ("run_calls_left_seconds", "calls.lasts", "Time until no call is left, at the rate of the last minute"),
-    ("run_sessions", "sessions.used", "Sessions that the run had used when last seen"),
-    ("run_sessions_limit", "sessions.limit", "Sessions for which the run has room"),
-    ("run_sessions_left_seconds", "sessions.lasts", "Time until no session is left, at the rate of the last minute"),
     ("last_run_closed_seconds", "last.end.closed", "Time between the last two runs without a server for new clients"),
+    ("last_run_sessions", "last.end.sessions", "Sessions of the last run"),
     ("last_run_cut_sessions", "last.end.cut", "Sessions that were cut at the end of the last run"),
     ("last_run_lost_jobs", "last.end.lost_jobs", "Jobs of the last run that failed and could not come back"),
     ("lost_runs_total", "lost_runs", "Runs in this folder that were lost"),

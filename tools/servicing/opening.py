@@ -25,10 +25,15 @@ class Opening:
     elements: Elements
     aside: Elements = field(default_factory=dict)  # beyond what an opening may have, which wait beside it
 
-    def lines(self, elements: Elements) -> Iterator[bytes]:
-        """The text of a history that has left these elements."""
-        yield b"history 3\nopen %d %d %d\n" % (self.next_id, self.moment, len(elements))
-        for id, words in elements.items():
+    @property
+    def header(self) -> bytes:
+        """The first lines of the text of a history that has left its elements."""
+        return b"history 3\nopen %d %d %d\n" % (self.next_id, self.moment, len(self.elements))
+
+    @property
+    def body(self) -> Iterator[bytes]:
+        """The others."""
+        for id, words in self.elements.items():
             yield b"keep %s %s\n" % (id, words)
         yield b"end 0\n"
 
@@ -50,16 +55,21 @@ class Left:
     begins: tuple[int, int, int] = (0, 0, 0)  # the next id, the moment and the number of elements before all events
 
 
+def moment_after(left: Left, moment: int) -> int:
+    """The moment at which a run begins behind one that left this: not before its last event."""
+    return min(max(moment, left.moment), GREATEST)
+
+
 def opening_after(left: Left, aside: Elements, moment: int, given: int = 0) -> Opening:
-    """The opening of the run after one that left this, and beside it elements aside: at this moment, or at that of the
-    last event. One that was lost left its own opening, and may have given so many ids. At most 1,000,000 elements are
-    in it, those that expire first; the others wait beside."""
+    """The opening at a moment of the run after one that left this, and beside it elements aside. One that was lost left
+    its own opening, and may have given so many ids. At most 1,000,000 elements are in it, those that expire first; the
+    others wait beside."""
     next_id, elements = left.next_id + given, left.elements
     if next_id > GREATEST_OPENING_ID:
         raise NoIdsLeft
     if aside or len(elements) > MOST_OPENING_ELEMENTS:
         elements, aside = _parted({**elements, **aside})
-    return Opening(next_id, min(max(moment, left.moment), GREATEST), elements, aside)
+    return Opening(next_id, moment_after(left, moment), elements, aside)
 
 
 def _parted(elements: Elements) -> tuple[Elements, Elements]:

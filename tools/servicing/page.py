@@ -12,7 +12,7 @@ def page(state: State) -> str:
     links = {str(it.number): f'<a href="runs/{it.number}">{it.number}</a>' for it in state.runs if it.has_history}
 
     def linked(row: Sequence[str]) -> Iterable[str]:
-        return [links.get(row[0], escape(row[0])), *map(escape, row[1:])]
+        return [links.get(row[0], escape(row[0])), *(escape(it) for it in row[1:])]
 
     return page_of(Shown(
         f"rb_broker, port {state.port}", f"{headline(state)}: rb_broker {state.port}", _kind(state), since(state),

@@ -5,8 +5,9 @@ from dataclasses import dataclass
 from typing import Callable, TypeVar
 
 from servicing.folder import Folder
-from servicing.keeping import Keeping
+from servicing.memory import Memory
 from servicing.runs import Runs
+from servicing.server import Server
 from servicing.settings import Settings
 from servicing.showing import Showing
 from servicing.saying import Signals
@@ -29,10 +30,12 @@ class Parts:
     signals: Signals
     runs: Runs
     showing: Showing
-    keeping: Keeping
+    memory: Memory
 
-    def until_written(self, name: str, kept: int, write: Callable[[], Done]) -> Done:
-        """Writes a file, of which so many bytes are in memory only. Raises a `LeftBehind` if an end is asked for."""
+    def until_written(self, name: str, write: Callable[[], Done], server: Server | None = None) -> Done:
+        """Writes a file, perhaps the history of a server, which is in memory only. Raises a `LeftBehind` if an end is
+        asked for."""
+        kept = server.size if server else 0
         asked: float | None = None
         while True:
             try:
@@ -45,6 +48,8 @@ class Parts:
             if self.signals.count:
                 asked = asked or time.monotonic()
                 if self.signals.count > 1 or time.monotonic() - asked > self.settings.stop_within / SECOND:
+                    if server:
+                        server.leave()
                     raise LeftBehind(f"{name} can't be written, and {kept:,} bytes are kept in memory; make room in "
                                      f"{self.folder.path}, and start the service again to write them")
             self.signals.wait(AGAIN)

@@ -12,11 +12,11 @@ from dataclasses import dataclass, field, replace
 from typing import Callable
 
 from histories.files import open_history
-from servicing.clock import Reading, elapsed, read_clock
+from servicing.clock import Reading, elapsed, is_same_boot, read_clock
 from servicing.deciding import runs_to_drop
 from servicing.fitting import Misfit, digest_of, misfit_in
 from servicing.folder import Folder, Unusable, record_of
-from servicing.opening import Elements, Left, Opening, left_in, opening_after
+from servicing.opening import Elements, Left, Opening, left_in, moment_after, opening_after
 from servicing.saying import say
 from servicing.server import Server
 from servicing.settings import Keep, Settings
@@ -38,8 +38,14 @@ class Next:
     given: int = 0  # ids that a lost run may have given
 
     def at(self, now: Reading) -> Opening:
-        moment = self.moment + (elapsed(self.since, now) if self.since else 0)
-        return opening_after(self.left, self.aside, moment, self.given)
+        return opening_after(self.left, self.aside, self.moment_at(now), self.given)
+
+    def moment_at(self, now: Reading) -> int:
+        return moment_after(self.left, self.moment + (elapsed(self.since, now) if self.since else 0))
+
+    def off_at(self, now: Reading) -> int:
+        """For how many nanoseconds the machine was off, as far as its date tells."""
+        return 0 if self.since is None or is_same_boot(self.since, now) else elapsed(self.since, now)
 
 
 class Runs:
@@ -48,7 +54,7 @@ class Runs:
         self.records = {number: run for number in folder.numbers() if (run := folder.run(number))}
         # Histories of another service may be there, which are never written over.
         self._greatest = max(folder.numbers(), default=0)
-        self._acknowledged = (0, 0)
+        self._acknowledged, self._tidied = (0, 0), 0  # and the last run of which there is one compressed history
         with contextlib.suppress(OSError, ValueError):  # nothing is yet
             runs, jobs = map(int, folder.read(ACKNOWLEDGED).split())
             self._acknowledged = runs, jobs
@@ -93,10 +99,11 @@ class Runs:
                      len(opening.aside), settings.calls, tuple(settings.policy), lost_before=lost,
                      lost_jobs_before=lost_jobs, follows=follows)
         if opening.aside:
-            self.folder.write(f"aside-{number}.txt", opening.lines(opening.aside))
+            aside = replace(opening, elements=opening.aside)
+            self.folder.write(f"aside-{number}.txt", [aside.header, *aside.body])
         else:
             self.folder.remove(f"aside-{number}.txt")
-        self.folder.write(f"opening-{number}.txt", opening.lines(opening.elements))
+        self.folder.write(f"opening-{number}.txt", [opening.header, *opening.body])
         self._write(record)
         self._greatest = number
         return record
@@ -149,6 +156,12 @@ class Runs:
             self._greatest = max(self.folder.numbers())
 
     @property
+    def greeting(self) -> str:
+        """What the server of the last run says to who is let in."""
+        assert self.last
+        return f"RUN {self.last.number} lost {self.last.lost_before} at {self.last.moment}"
+
+    @property
     def unacknowledged(self) -> tuple[int, int]:
         """How many lost runs, and jobs, nobody has acknowledged."""
         last, known = self.last, self._acknowledged
@@ -177,7 +190,8 @@ class Runs:
     def tidy(self, keep: Keep) -> None:
         """Compresses the histories of all runs that have ended, and drops those that are kept no longer, on a thread of
         its own that goes behind everybody else."""
-        ended = [it.number for it in self.records.values() if it.end is not None]
+        ended = [it.number for it in self.records.values() if it.end is not None and it.number > self._tidied]
+        self._tidied = max(ended, default=self._tidied)
         dropped = runs_to_drop(sorted(self.records.values(), key=lambda it: it.number), keep, time.time())
         for number in dropped:
             del self.records[number]

@@ -34,15 +34,25 @@ def _quoted(value: str) -> str:
     return value if _PLAIN.fullmatch(value) else json.dumps(value, ensure_ascii=False)
 
 
-def notify(**values: object) -> None:
-    """Sends an assignment for each value, such as READY=1, to systemd."""
+def notify(*descriptors: int, **values: object) -> None:
+    """Sends an assignment for each value, such as READY=1, to systemd, with descriptors."""
     address = os.environ.get("NOTIFY_SOCKET")
     if not address:
         return
     with contextlib.suppress(OSError), socket.socket(socket.AF_UNIX, socket.SOCK_DGRAM | socket.SOCK_CLOEXEC) as it:
         it.settimeout(PATIENCE)
         it.connect("\0" + address[1:] if address.startswith("@") else address)
-        it.sendall("\n".join(f"{name}={value}" for name, value in values.items()).encode())
+        text = "\n".join(f"{name}={value}" for name, value in values.items()).encode()
+        socket.send_fds(it, [text], descriptors)
+
+
+def await_notified() -> None:
+    """Waits until systemd has taken all that it was told: it closes its end of a pipe then."""
+    end, barrier = os.pipe()
+    notify(barrier, BARRIER=1)
+    os.close(barrier)
+    select.select([end], [], [], PATIENCE)
+    os.close(end)
 
 
 class Signals:
@@ -57,14 +67,15 @@ class Signals:
         for number in SIGNALS:
             signal.signal(number, self._note)
 
-    def wait(self, seconds: float, descriptor: int | None = None) -> bool:
-        """Waits so long, until a signal comes, or until there is something at the descriptor. Returns whether there
-        is."""
-        others = [] if descriptor is None else [descriptor]
-        ready = select.select([self._read, *others], [], [], max(seconds, 0))[0]
+    def wait(self, seconds: float, pipe: int | None = None) -> None:
+        """Waits so long, until a signal comes, or until nobody can read from a pipe any more."""
+        ready = select.poll()
+        ready.register(self._read, select.POLLIN)
+        if pipe is not None:
+            ready.register(pipe, 0)
+        ready.poll(max(seconds, 0) * 1000)
         with contextlib.suppress(BlockingIOError):
             os.read(self._read, 64)
-        return descriptor is not None and descriptor in ready
 
     def _note(self, number: int, frame: FrameType | None) -> None:
         self.count += 1

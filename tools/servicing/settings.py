@@ -10,7 +10,6 @@ from typing import Any, Callable
 
 from common.program import program_named
 from common.words import number, parser_of
-from servicing.keeper import HISTORY, OPENING
 from rb_broker_redis.watching.units import SECOND
 
 TURN = 20_000_000  # nanoseconds that a turn of a wait lasts while nothing happens
@@ -102,13 +101,19 @@ class Settings:
     timer: str = _option(
         "how the next element is found", str, "heap", None, choices=["list", "heap", "pairing", "wheel"])
     every: int = _option(
-        "the longest that a run lasts, and so the most that a kill loses, %(type)s", _span("1s", "30d"), "1h")
+        "the longest that a run lasts, and so the most that a killed server loses, %(type)s", _span("1s", "30d"), "5m")
     stop_within: int = _option(
-        "how long a run's end waits for clients to leave, before it cuts their sessions, %(type)s", _span("1s", "1h"),
-        "60s")
+        "how long a run's end waits for clients that hold jobs, before it ends their sessions, %(type)s",
+        _span("1s", "1h"), "60s")
+    turn_within: int = _option(
+        "how long a client waits for a worker before a run ends early, so that those who wait have theirs, %(type)s",
+        _span("1s", "1d"), "15s")
     silent: int = _option(
-        "cuts sessions over which nothing came or went for so long, so no job may run longer, %(type)s",
+        "ends sessions over which nothing came or went for so long, so no job may run longer, %(type)s",
         _span("1s", "1d"), "10m")
+    away: int = _option(
+        "the longest that the machine may have been off; the service waits while its date tells of more, %(type)s",
+        _span("1s", "36500d"), "30d")
     keep: Keep = _option("how many old runs are kept, or for how long", _keep, "7d", "N|TIME")
     http: tuple[str, int] | None = _option(
         "serves a page, /metrics and /health there (nowhere)", _address, None, "HOST:PORT")
@@ -123,12 +128,12 @@ class Settings:
         retry = ("--delay", self.delay) if self.rate is None else ("--rate", self.rate)
         return [*map(str, retry), "--attempts", str(self.attempts)]
 
-    @property
-    def serve_words(self) -> list[str]:
-        """The command that serves a run, for a keeper."""
-        names = ("port", "workers", "sessions", "calls", "turns", "timer")
+    def serve_words(self, greeting: str, door: int) -> list[str]:
+        """The command that serves a run at a listening socket; `server.start` names its opening and its history."""
+        names = ("port", "workers", "sessions", "calls", "turns", "timer", "silent")
         said = ((f"--{it}", str(getattr(self, it))) for it in names)
-        return [self.program, "serve", *sum(said, ()), *self.policy, "--from", OPENING, "--history", HISTORY]
+        return [self.program, "serve", *sum(said, ()), *self.policy, "--socket", str(door), "--until-input-ends",
+                "--attentive", "--greeting", greeting]
 
 
 def parser(doc: str | None) -> argparse.ArgumentParser:

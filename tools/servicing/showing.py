@@ -15,8 +15,8 @@ from rb_broker_redis.watching.metrics import span_of
 from rb_broker_redis.watching.units import counted
 
 MANY_ELEMENTS = 900_000
-DAY = 86_400
-NO_TURN, OVERDUE = 30.0, 10.0  # seconds without a turn of the service's own session, and of lateness, that are an alert
+KNOWN = "tools/service --acknowledge ends this alert"
+NO_TURN, OVERDUE = 60.0, 10.0  # seconds without a turn of the service's own session, and of lateness, that are an alert
 MORE_TIME = 300_000_000  # microseconds that systemd is asked for while nothing is served
 
 
@@ -68,16 +68,13 @@ class Showing:
                 say("info", "acknowledged", lost_runs=last.lost if last else 0, lost_jobs=last.lost_jobs if last else 0)
         if looks:
             traffic = traffic._replace(offered=traffic.offered + looks.offered, left=traffic.left + looks.left)
-        closed = self._state.closed_since
-        if closed is not None and looks is not None:  # who waited longest is served last while a run ends
-            closed = max(closed, time.time() - time.monotonic() + looks.last_begun)
         # No counter falls, not even if the end of a run corrects it: that would look like a reset.
         traffic = Traffic(*(max(pair) for pair in zip(traffic, self._state.traffic)))
         seen = {it: getattr(looks, it, None) for it in (
-            "queue", "clients", "calls", "sessions", "offered_a_second", "left_a_second")}
+            "queue", "clients", "calls", "offered_a_second", "left_a_second")}
         self._state = state = replace(
-            self._state, at=time.time(), closed_since=closed, waits_for=self.waits_for, run=self.run, traffic=traffic,
-            runs=runs, lost_runs=last.lost if last else 0, lost_jobs=last.lost_jobs if last else 0,
+            self._state, at=time.time(), waits_for=self.waits_for, run=self.run, traffic=traffic, runs=runs,
+            lost_runs=last.lost if last else 0, lost_jobs=last.lost_jobs if last else 0,
             alerts=(*self._raised.values(), *self._alerts(runs)), unwritten=self.unwritten, **seen)
         self._board.put(state)
         # An end takes as long as --stop-within says, and an opening of many elements its time.
@@ -88,12 +85,11 @@ class Showing:
         """Those that follow from what is seen."""
         lost_runs, lost_jobs = self._history.unacknowledged
         lost = next((it for it in runs if it.is_lost), None)
-        if lost_runs and lost is not None and lost.end is not None and time.time() - lost.end.date <= DAY:
-            yield Alert(LOST_RUN, lost_text(lost), lost.end.date)
+        if lost_runs and lost is not None and lost.end is not None:
+            yield Alert(LOST_RUN, f"{lost_text(lost)}; {KNOWN}", lost.end.date)
         full = next((it for it in runs if it.end and it.end.lost_jobs), None)
         if lost_jobs:
-            text = (f"{counted(lost_jobs, 'job')} failed in a full run, could not come back, and are lost; "
-                    "tools/service --acknowledge ends this alert")
+            text = f"{counted(lost_jobs, 'job')} failed in a full run, could not come back, and are lost; {KNOWN}"
             yield Alert(LOST_JOBS, text, full.end.date if full and full.end else time.time())
         if self.looks is not None:
             yield from _held_up(self.looks, self._state.workers)

@@ -2,20 +2,21 @@
 out, and have nothing else to say. Dates are in UTC, as those of reports and of the lines on standard error."""
 from typing import Iterator
 
+from servicing.connections import Connection
 from servicing.metrics import numbers
-from servicing.sockets import Connection
 from servicing.state import Reason, Run, State
 from rb_broker_redis.watching.metrics import date, span_of, told
 from rb_broker_redis.watching.tables import Table
 from rb_broker_redis.watching.units import counted, number
 
-MOST_CLIENTS, MOST_RUNS, MOST_HELD_BY = 32, 100, 2  # that are told one by one; and of those who held up one run
+MOST_CLIENTS, MOST_RUNS = 32, 100  # that are told one by one
 LATE = 1.0  # seconds from which on lateness is told
 RUN = ("run", "began", "lasted", "at the start", "calls", "left")  # the columns of each run
 
 WHY = {
     Reason.ASKED: "asked to end", Reason.TIME: "its time was up", Reason.CALLS: "few calls were left",
-    Reason.SESSIONS: "few sessions were left", Reason.ELEMENTS: "elements that were set aside had room",
+    Reason.SESSIONS: "no session was left", Reason.TURNS: "clients waited for a worker",
+    Reason.ELEMENTS: "elements that were set aside had room",
     Reason.SETTINGS: "failed jobs are to come back otherwise", Reason.KILLED: "lost: its server was killed",
     Reason.UNKNOWN: "ended while no service was running",
 }
@@ -49,8 +50,8 @@ def tables(state: State) -> tuple[Table, ...]:
     return (
         Table("Numbers", ("what", "value"), [(meaning, told(name, value)) for name, meaning, value in numbers(state)],
               left=2),
-        Table("Clients", ("client", "program", "last heard", "not read by it", "not read by the server", ""),
-              [*map(_client, clients[:MOST_CLIENTS])], left=6, notes=_unlisted(len(clients) - MOST_CLIENTS)),
+        Table("Clients", ("client", "last heard", "not read by it", "not read by the server", ""),
+              [*map(_client, clients[:MOST_CLIENTS])], left=5, notes=_unlisted(len(clients) - MOST_CLIENTS)),
         Table("This run", (*RUN, ""), present, left=7),
         Table("Runs that have ended", (*RUN, "how it ended"), [*map(_run, runs[:MOST_RUNS])], left=7,
               notes=_unlisted(len(runs) - MOST_RUNS)),
@@ -62,10 +63,9 @@ def _unlisted(more: int) -> list[str]:
 
 
 def _client(it: Connection) -> list[str]:
-    heard = "" if it.heard is None else f"{span_of(it.heard / 1000)} ago"
     does = ("waits for a worker" if not it.is_served else "has hung up" if it.has_hung_up else
             "does not read" if it.is_unread else "says nothing" if it.silence else "")
-    return [str(it.port), it.program or "?", heard, f"{it.send_queue:,} B", f"{it.receive_queue:,} B", does]
+    return [str(it.port), f"{span_of(it.heard / 1000)} ago", f"{it.send_queue:,} B", f"{it.receive_queue:,} B", does]
 
 
 def _present(state: State, run: Run) -> list[str]:
@@ -91,9 +91,7 @@ def _says(run: Run) -> Iterator[str]:
     if run.is_lost:
         yield f"the next run began with the same {counted(run.opening, 'element')}"
     if end.closed is not None:
-        most, more = end.held_by[:MOST_HELD_BY], len(end.held_by) - MOST_HELD_BY
-        held = f", held up by {', '.join(most)}" + (f" and {more} more" if more > 0 else "") if most else ""
-        yield f"new clients waited {span_of(end.closed)}{held}"
+        yield f"new clients waited {span_of(end.closed)}"
     if end.cut:
         yield f"{counted(end.cut, 'session')} cut"
     if end.lost_jobs:

@@ -19,13 +19,12 @@ from http import HTTPStatus
 from pathlib import Path
 
 from servicing.folder import Unusable
-from servicing.http import OwnerServer
+from servicing.http import OwnerServer, short_name
 from servicing.metrics import metrics
 from servicing.page import page
 from servicing.saying import say
 from servicing.shown import text
 from servicing.state import Board, Run
-from servicing.unix import short_name
 from rb_broker_redis.watching.http import Answer, HttpServer, is_loopback
 
 SOCKET = "status"  # in the folder

@@ -9,7 +9,7 @@ from enum import Enum
 from typing import Callable, NamedTuple
 
 from servicing.clock import Reading
-from servicing.sockets import Connection
+from servicing.connections import Connection
 
 # Nanoseconds in which a server begins to serve, and for each element of its opening.
 SLOWEST_START, SLOWEST_ELEMENT = 10_000_000_000, 100_000
@@ -17,8 +17,9 @@ SLOWEST_START, SLOWEST_ELEMENT = 10_000_000_000, 100_000
 LONGEST = 60.0  # seconds without a new state after which the service is not healthy
 CLOSED = 5.0  # seconds in which no new client is served after which there is an alert
 
-# The alerts that a file can't be written, which is kept in memory and tried again, and that no new state comes.
-DISK, STALE = "disk", "stale"
+# The alerts that a file can't be written, which is kept in memory and tried again, that no new state comes, and that no
+# new client is served for long.
+DISK, STALE, CLOSED_LONG = "disk", "stale", "closed"
 
 # Those of something that is lost for good. They last until somebody acknowledges them.
 LOST_RUN, LOST_JOBS = "lost-run", "lost-jobs"
@@ -29,7 +30,7 @@ class Phase(Enum):
 
     STARTING = "starting"  # the folder is locked; the server does not listen yet
     SERVING = "serving"  # clients are served
-    ENDING = "ending"  # the run ends in good order: clients are leaving, and new ones wait for the next run
+    ENDING = "ending"  # the run ends in good order: who holds jobs settles them, and others wait for the next run
     BETWEEN = "between runs"  # no server: the history is being written and checked, and the next opening is made
     STOPPED = "stopped"  # the service has ended in good order
 
@@ -41,6 +42,7 @@ class Reason(str, Enum):
     TIME = "time"  # --every
     CALLS = "calls"  # few are left, or none
     SESSIONS = "sessions"
+    TURNS = "turns"  # clients wait for a worker for long
     SETTINGS = "settings"  # a service that was started again has another --delay, --rate or --attempts
     ELEMENTS = "elements"  # elements that were set aside have room again, or are due
     KILLED = "killed"  # the server's process ended before its run did: the run is lost
@@ -95,7 +97,7 @@ class End:
     left: int | None = None  # elements at its end
     lost_jobs: int | None = None  # held at a session's end in a full run, so that they could not come back
     closed: float | None = None  # seconds without a server that served new clients, before the next run
-    held_by: tuple[str, ...] = ()  # the clients that were waited for longest
+    sessions: int | None = None  # as the server counts them
     cut: int = 0  # sessions that were cut
     digest: str | None = None  # the SHA-256 of its history
 
@@ -179,7 +181,6 @@ class State:
     workers: int = 0  # how many clients can be served at once
     clients: tuple[Connection, ...] | None = None
     calls: Supply | None = None
-    sessions: Supply | None = None
     traffic: Traffic = Traffic()
     offered_a_second: float | None = None  # over the last minute of the run
     left_a_second: float | None = None
@@ -231,7 +232,8 @@ class State:
     @property
     def is_healthy(self) -> bool:
         """Whether clients are served, or will be within seconds."""
-        return self.phase in (Phase.SERVING, Phase.ENDING) and not any(it.name in (DISK, STALE) for it in self.alerts)
+        wrong = (DISK, STALE) if self.phase is Phase.ENDING else (DISK, STALE, CLOSED_LONG)  # those served go on
+        return self.phase not in (Phase.STARTING, Phase.STOPPED) and not any(it.name in wrong for it in self.alerts)
 
 
 class Board:
@@ -253,5 +255,5 @@ class Board:
         if time.monotonic() - self._put > LONGEST:
             alerts.append(Alert(STALE, f"the service has found nothing for {LONGEST:g} seconds", state.at))
         if state.closed_since is not None and time.time() - state.closed_since > CLOSED:
-            alerts.append(Alert("closed", f"no new client is served for {CLOSED:g} seconds", state.closed_since))
+            alerts.append(Alert(CLOSED_LONG, f"no new client is served for {CLOSED:g} seconds", state.closed_since))
         return replace(state, alerts=(*state.alerts, *alerts)) if alerts else state

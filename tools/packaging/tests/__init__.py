@@ -8,7 +8,7 @@ and installed, so they are no suite of unittest.
     booted.py, machine.py, boot_systemd   the unit under a systemd of its own
     running.py                      commands to their end, and what they have to tell
 
-This needs what tools/package needs, man, bash and ss. Tests that use mandoc or systemd-analyze are skipped if these are
+This needs what tools/package needs, man and bash. Tests that use mandoc or systemd-analyze are skipped if these are
 missing, and a line says so. So are those that start a systemd where that can't be done: it needs root, and a kernel
 that does it. To set a date needs a C compiler.
 """

@@ -11,8 +11,7 @@ from typing import Iterator
 from checking.tally import Tally
 from common.program import TOP
 from packaging.tests.running import expect, run
-from serving.session import Session
-from servicing.tests.process import Service
+from servicing.tests.process import Client, Service
 
 FEW = ("--workers", "4", "--sessions", "40", "--calls", "1000")
 DUE = 12  # seconds after which a job is due while the date is set
@@ -35,8 +34,8 @@ def serving(root: str, folder: str, *options: str, library: str = "") -> Iterato
 def talk(port: int, *requests: str) -> str:
     """The replies to a client that sends all its requests, of which the last is QUIT."""
     try:
-        with Session(port) as it:
-            it.send(*requests)
+        with Client(port) as it:
+            it.greeted().send(*requests)
             return it.rest().decode("ascii")
     except OSError as fault:
         return repr(fault)
@@ -87,7 +86,8 @@ def try_dates(tally: Tally, root: str, folder: str) -> None:
 
 def taken_reminder(service: Service, offered: float) -> tuple[str, str, float]:
     """What a poll gives before the reminder is due, what the last take gave, and how long after the offer."""
-    with Session(service.port) as it:
+    with Client(service.port) as it:
+        it.greeted()
         early, reply = it.ask("POLL") if time.monotonic() < offered + DUE - 1 else "NONE", ""
         while not reply.endswith(" reminder") and time.monotonic() < offered + 5 * DUE:
             reply = it.ask("TAKE")

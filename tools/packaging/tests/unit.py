@@ -9,11 +9,13 @@ from packaging.tests.options import options_in
 from packaging.tests.running import expect, is_there, run
 
 UNIT, DEFAULTS = Path(SOURCES, "rb_broker@.service"), Path(SOURCES, "rb_broker.default")
+SOCKET = Path(SOURCES, "rb_broker@.socket")
 # What systemd does by itself: it takes the service as started when that says so, stops or kills the service alone and
-# not its server, and starts it again.
+# not its server, for which it keeps descriptors, and starts it again.
 WORDS = {
     "ExecStart": "/usr/bin/rb_broker_service --port %i --folder %S/rb_broker/%i $RB_BROKER_OPTIONS",
-    "Type": "notify", "KillMode": "process", "Restart": "always",
+    "Type": "notify", "KillMode": "process", "Restart": "always", "FileDescriptorStoreMax": "8",
+    "Requires": "rb_broker@%i.socket", "RuntimeDirectoryPreserve": "yes",
 }
 
 
@@ -40,10 +42,13 @@ def check_by_systemd(tally: Tally, root: str, folder: str) -> None:
     if not is_there("systemd-analyze", tally, "systemd-analyze verify"):
         return
     for path in Path(root, "usr/lib/systemd/system").glob("rb_broker*@.service"):
-        copy = Path(folder, path.name)
-        text = re.sub(r"^(Exec\w+=)/(?!usr/bin/python3)", rf"\1{root}/", path.read_text("utf-8"), flags=re.M)
-        copy.write_text(text, "utf-8")
-        told = run("systemd-analyze", "verify", "--man=no", str(copy))
+        copies = []
+        for it in (path, path.with_suffix(".socket")):
+            if it.exists():
+                copies.append(Path(folder, it.name.replace("@", "@7011")))
+                text = re.sub(r"^(Exec\w+=)/(?!usr/bin/python3)", rf"\1{root}/", it.read_text("utf-8"), flags=re.M)
+                copies[-1].write_text(text, "utf-8")
+        told = run("systemd-analyze", "verify", "--man=no", *map(str, copies))
         # What it says of other units, those of this machine, is passed over.
         faults = [it for it in told.errors.splitlines() if "rb_broker" in it]
         expect(tally, f"systemd-analyze verify {path.name}", not faults and told.status == 0, told)

@@ -11,17 +11,29 @@ import sys
 import time
 from collections.abc import Callable, Iterator, Sequence
 from pathlib import Path
-from typing import Any
+from typing import Any, Self
+from unittest import mock
 
 from checking.testing import RoomTest
 from common.program import TOP, tested_program
 from serving import HOST, PATIENCE
 from serving.server import free_port
 from serving.session import Session
+from servicing.tests.store import LAUNCH, Store
 
 SYSTEMS_PYTHON = "/usr/bin/python3"
 
 Event = dict[str, str]
+
+
+class Client(Session):
+    """A session that the server has greeted."""
+
+    greeting = ""
+
+    def greeted(self) -> Self:
+        self.greeting = self.line()
+        return self
 
 
 class Service:
@@ -29,16 +41,19 @@ class Service:
 
     def __init__(
         self, folder: str, *options: object, port: int | None = None, before: Sequence[str] = (), program: str = "",
-        command: Sequence[str] = ()
+        command: Sequence[str] = (), store: Store | None = None
     ) -> None:
-        """Starts the checkout's with the program that is tested, or that of a command."""
+        """Starts the checkout's with the program that is tested, or that of a command; as systemd does if a store is
+        given, and else as a user does."""
         self.folder, self.port = folder, port or free_port()
         python = SYSTEMS_PYTHON if before else sys.executable  # which another user may not run
         words = command or [*before, python, "-B", f"{TOP}/tools/service", "--program", program or tested_program()]
+        given = store.given if store else []
+        first = [sys.executable, "-c", LAUNCH, str(len(given)), *map(str, given)] if store else []
         self._said = os.memfd_create("said")
         self.process = subprocess.Popen(
-            [*words, "--port", str(self.port), "--folder", folder, *map(str, options)], stderr=self._said,
-            start_new_session=True)
+            [*first, *words, "--port", str(self.port), "--folder", folder, *map(str, options)], stderr=self._said,
+            start_new_session=True, pass_fds=given, env=store.setting if store else None)
         atexit.register(self.kill_all)
 
     @property
@@ -62,13 +77,21 @@ class Service:
         return found[count - 1]
 
     @property
+    def servers(self) -> list[int]:
+        """The processes of all servers at its port."""
+        found = []
+        for it in filter(str.isdigit, os.listdir("/proc")):
+            with contextlib.suppress(OSError):
+                words = Path(f"/proc/{it}/cmdline").read_bytes().decode(errors="replace").split("\0")
+                if "serve" in words and "--socket" in words and words[words.index("--port") + 1] == str(self.port):
+                    found.append(int(it))
+        return found
+
+    @property
     def server(self) -> int:
         """The process of the server that serves now."""
-        return int(self.all("serving")[-1]["process"])
-
-    def keeper(self) -> int:
-        """The keeper of the server that serves now."""
-        return int(Path(f"/proc/{self.server}/stat").read_text("utf-8").rpartition(")")[2].split()[1])
+        (found,) = self.servers
+        return found
 
     def stop(self, number: int = signal.SIGTERM) -> int:
         """Asks for the end, waits for it, and returns the status."""
@@ -84,15 +107,13 @@ class Service:
         self.process.wait()
 
     def kill_all(self) -> None:
-        """Kills what is left of it: the service, its server and its keeper."""
+        """Kills what is left of it: the server, and the service."""
         atexit.unregister(self.kill_all)
-        self.kill()
-        for it in filter(str.isdigit, os.listdir("/proc")):
+        self.process.send_signal(signal.SIGSTOP)  # so that it starts no other server
+        for it in self.servers:
             with contextlib.suppress(OSError):
-                words = Path(f"/proc/{it}/cmdline").read_bytes().decode(errors="replace").split("\0")
-                is_keeper = any(word.endswith("/keeper.py") for word in words) and self.folder in words
-                if is_keeper or ("serve" in words and str(self.port) in words):
-                    os.kill(int(it), signal.SIGKILL)
+                os.kill(it, signal.SIGKILL)
+        self.kill()
 
 
 def until(holds: Callable[[], bool], what: str) -> None:
@@ -110,18 +131,29 @@ class ServiceTest(RoomTest):
 
     def setUp(self) -> None:
         super().setUp()
+        os.mkdir(self.path("memory"))
+        self.enterContext(mock.patch.dict(os.environ, XDG_RUNTIME_DIR=self.path("memory")))
         self.port = free_port()
         # Until the end, no other process finds the port free while none of its services listens.
-        kept = self.enterContext(socket.socket())
-        kept.setsockopt(socket.SOL_SOCKET, socket.SO_REUSEADDR, 1)
-        kept.bind((HOST, self.port))
+        self.kept = self.enterContext(socket.socket())
+        self.kept.setsockopt(socket.SOL_SOCKET, socket.SO_REUSEADDR, 1)
+        self.kept.bind((HOST, self.port))
 
     def start(self, *options: object, folder: str = "", **told: Any) -> Service:
-        """A service with few sessions unless they are named, since each end uses them up."""
-        few = () if "--sessions" in options else ("--sessions", 400)
-        service = Service(folder or self.path("runs"), *options, *few, port=self.port, **told)
+        service = Service(folder or self.path("runs"), *options, port=self.port, **told)
         self.addCleanup(service.kill_all)
         return service
+
+    def store(self) -> Store:
+        """Something that keeps descriptors, as systemd does."""
+        self.kept.close()
+        store = Store(self.port, self.path("notify"))
+        self.addCleanup(store.close)
+        return store
+
+    def client(self, **told: Any) -> Client:
+        """A client that a worker serves."""
+        return self.enterContext(Client(self.port, **told)).greeted()
 
     def begin(self, *options: object, **told: Any) -> Service:
         """A service that serves."""
@@ -141,21 +173,24 @@ class ServiceTest(RoomTest):
         self.assertEqual((service.stop(), len(service.all("lost-run"))), (0, lost))
 
     def ask(self, *requests: str) -> list[str]:
-        """The replies in a session of its own, once a worker serves it; it is begun again if it is not served."""
-        end = time.monotonic() + PATIENCE
+        """The replies in a session of its own. What gets none, since the session is ended, is asked again in another:
+        it was not carried out."""
+        end, replies = time.monotonic() + PATIENCE, list[str]()
         while time.monotonic() < end:
-            with contextlib.suppress(OSError), Session(self.port) as it:
-                if it.ask("AT 0") == "ERR 1 syntax":
-                    replies = [it.ask(request) for request in requests]
-                    it.ask("QUIT")
-                    return replies
+            with contextlib.suppress(OSError, EOFError), Client(self.port) as it:
+                it.greeted()
+                for request in requests[len(replies):]:
+                    it.send(request)
+                    replies.append(it.line())
+                it.ask("QUIT")
+                return replies
             time.sleep(0.02)
         raise AssertionError(f"nobody answers {requests}")
 
     def offer(self, count: int, delay: int = 0, name: str = "job") -> None:
         """Offers this many jobs."""
-        with Session(self.port) as it:
-            it.send(*(f"OFFER {delay} {name}-{number}" for number in range(count)))
+        with Client(self.port) as it:
+            it.greeted().send(*(f"OFFER {delay} {name}-{number}" for number in range(count)))
             for _ in range(count):
                 self.assertRegex(it.line(), "^OFFERED ")
             it.ask("QUIT")

@@ -6,7 +6,7 @@ from typing import Any
 
 from servicing.clock import Reading
 from servicing.opening import Left, Opening, left_in
-from servicing.sockets import Connection
+from servicing.connections import Connection
 from servicing.state import DISK, Alert, End, Phase, Queue, Reason, Run, State, Supply, Traffic
 
 SECOND = 1_000_000_000
@@ -27,22 +27,22 @@ def left_of(text: str) -> Left:
 
 
 def text_of(opening: Opening) -> str:
-    return b"".join(opening.lines(opening.elements)).decode()
+    return b"".join([opening.header, *opening.body]).decode()
 
 
 def connection(port: int = 1, **told: Any) -> Connection:
     """A client that is served, and that sent something just now."""
-    usual = Connection(port, str(port), False, True, 0, 0, 0, 0, "")
+    usual = Connection(port, port, False, True, 0, 0, 0, 0)
     return dataclasses.replace(usual, **told)
 
 
 AT = 1_795_680_000.5  # 2026-11-26 08:00:00 UTC
 
 CLIENTS = (
-    connection(41001, heard=725_000, program="python3 11"),
-    connection(41004, heard=30_000, told=2_000, program="python3 12", send_queue=163_298, receive_queue=7),
+    connection(41001, heard=725_000),
+    connection(41004, heard=30_000, told=2_000, send_queue=163_298, receive_queue=7),
     connection(41003, heard=2_000, is_served=False, receive_queue=7),
-    connection(41000, heard=100, program="java 9", has_hung_up=True),
+    connection(41000, heard=100, has_hung_up=True),
 )
 
 FULL_DISK = Alert(DISK, "/var/lib/rb_broker/7011/run-11.txt can't be written: No space left on device; 57,000,000 "
@@ -55,8 +55,7 @@ ENDED = record(11, End(AT - 4000.3, Reason.TIME, 250_000, 104_000, 4_000, 103_70
                began=reading(date=AT - 7600), opening=900)
 LOST = record(10, End(AT - 7600, Reason.KILLED, closed=1.25), began=reading(date=AT - 9000), opening=900)
 HELD = record(9, End(
-    AT - 9000, Reason.CALLS, 1_000_000, 412_345, 12_345, 411_445, 900, 3, 61.5,
-    ("client 41007 (python3 4711): 60s", "client 41008 (python3 4712): 2s", "client 41009: 1s"), 1),
+    AT - 9000, Reason.CALLS, 1_000_000, 412_345, 12_345, 411_445, 900, 3, 61.5, 57, 1),
     began=reading(date=AT - 90_000))
 
 
@@ -64,7 +63,7 @@ def state(**changes: Any) -> State:
     """A service with four clients, and with a run behind it that was lost."""
     usual = State(
         at=AT, port=7011, phase=Phase.SERVING, since=AT - 3999, run=PRESENT, queue=Queue(AT - 1, 1204, 3.25), workers=8,
-        clients=CLIENTS, calls=Supply(400_000, 1_000_000, 12.5), sessions=Supply(57, 10_000, 0.5), id="abc",
+        clients=CLIENTS, calls=Supply(400_000, 1_000_000, 12.5), id="abc",
         traffic=Traffic(600_000, 590_000, 16_345), offered_a_second=1234.5, left_a_second=0.25,
         runs=(ENDED, LOST, HELD), lost_runs=1)
     return dataclasses.replace(usual, **changes)
@@ -77,8 +76,7 @@ def first_state() -> State:
 
 def troubled_state() -> State:
     """A service with all that may be wrong, at the end of a run that sixteen clients hold up, with long names."""
-    clients = tuple(connection(42_000 + it, program=f"a-program-of-a-long-name {4_000_000 + it}", heard=7_000 * it,
-                               receive_queue=12 * it) for it in range(16))
+    clients = tuple(connection(42_000 + it, heard=7_000 * it, receive_queue=12 * it) for it in range(16))
     return state(
         phase=Phase.ENDING, why=Reason.CALLS, since=AT - 42, clients=CLIENTS[:2] + clients,
         waits_for=tuple(it.name for it in clients[:3]), queue=Queue(AT - 30, 987_654, 86_400.5),

@@ -97,12 +97,9 @@ class ServedTest(PageTest):
         self.browser.complaints.clear()  # that nobody answered
 
     def test_texts_stay_text(self) -> None:
-        assert HELD.end
-        run = dataclasses.replace(HELD, end=dataclasses.replace(HELD.end, held_by=(HOSTILE,)))
-        it = state(clients=(connection(program=HOSTILE),), waits_for=(HOSTILE,), alerts=(Alert("a", HOSTILE, AT),),
-                   runs=(run,))
+        it = state(waits_for=(HOSTILE,), alerts=(Alert("a", HOSTILE, AT),))
         self.show(it)
-        self.assertEqual(str(self.browser.value(SEEN)).count(HOSTILE), 5)
+        self.assertEqual(str(self.browser.value(SEEN)).count(HOSTILE), 3)
         self.assertEqual(self.browser.value(SEEN), seen(it))
         self.assertEqual(self.browser.value("[document.images.length, document.scripts.length]"), [0, 1])
         self.assertEqual(self.browser.complaints, [])

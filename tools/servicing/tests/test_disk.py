@@ -8,7 +8,8 @@ import time
 from pathlib import Path
 
 from common.program import tested_program
-from servicing.tests.process import Service, ServiceTest, until
+from servicing.site import _asked
+from servicing.tests.process import Service, ServiceTest
 
 JOBS = 2000
 
@@ -35,29 +36,37 @@ class FullDiskTest(ServiceTest):
             service.wait("disk-over")
             self.has_left(JOBS)
 
+    def clear(self) -> None:
+        for it in os.listdir(self.small):
+            os.unlink(f"{self.small}/{it}")
+        subprocess.run(["mount", "-o", "remount,size=64k", self.small], check=True)
+
     def make_room(self) -> None:
         subprocess.run(["mount", "-o", "remount,size=4m", self.small], check=True)
 
     def test_a_service_that_has_to_end_leaves_it_to_the_next_one(self) -> None:
-        service = self.begin("--stop-within", "1s", folder=self.small)
-        self.offer(JOBS)
-        self.assertEqual(service.stop(), 1)
-        self.assertIn("are kept in memory; make room in", service.all("left-behind")[0]["text"])
-        again = self.start(folder=self.small)
-        again.wait("disk")
-        again.kill()
-        self.make_room()
-        with self.serving(folder=self.small):
-            self.has_left(JOBS)
+        """Also one whose descriptors systemd keeps, since it forgets them then."""
+        for make in (lambda: None, self.store):
+            store = make()
+            with self.subTest(store=store):
+                service = self.begin("--stop-within", "1s", folder=self.small, store=store)
+                self.offer(JOBS)
+                self.assertEqual(service.stop(), 1)
+                self.assertIn("are kept in memory; make room in", service.all("left-behind")[0]["text"])
+                if store:
+                    store.close()
+                again = self.start(folder=self.small)
+                again.wait("disk")
+                again.kill()
+                self.make_room()
+                with self.serving(folder=self.small):
+                    self.has_left(JOBS)
+                self.clear()
 
-    def test_the_keeper_is_killed_meanwhile(self) -> None:
-        """And then the service, when another keeper has the history."""
+    def test_it_is_killed_meanwhile(self) -> None:
         service = self.begin("--every", "2s", folder=self.small)
-        keeper = service.keeper()
         self.offer(JOBS)
         service.wait("disk")
-        os.kill(keeper, signal.SIGKILL)
-        service.wait("keeper")
         service.kill()
         self.make_room()
         with self.serving(folder=self.small) as again:
@@ -97,11 +106,6 @@ class FolderTest(ServiceTest):
         self.assertRegex(service.lines[-1], "run-1.txt can't be continued: ")
         self.assertTrue(path.exists())
 
-    def test_a_program_that_is_named_from_here(self) -> None:
-        """The keeper, which starts it, is in another folder."""
-        with self.serving(program=os.path.relpath(tested_program())):
-            self.has_left(0)
-
     def test_a_server_that_can_not_start_later_is_tried_again(self) -> None:
         program = self.path("program")
         shutil.copy(tested_program(), program)
@@ -113,16 +117,29 @@ class FolderTest(ServiceTest):
             service.wait("not-listening-over")
             self.has_left(0)
 
+    def off(self, folder: str, hours: int) -> None:
+        """A job that is due in half an hour; and then the machine was off for so long, by its date."""
+        with self.serving(folder=folder):
+            self.ask("OFFER 1800000000000 reminder")
+        told = self.record(1, folder)
+        told["began"].update(boot="another", date=told["began"]["date"] - hours * 3_600_000_000_000)
+        Path(f"{folder}/run-1.json").write_text(json.dumps(told), encoding="ascii")
+
     def test_a_machine_that_was_off(self) -> None:
         """An hour later by its date, or with a date that was set back."""
         for hours, due in ((1, True), (-1, False)):
             with self.subTest(hours=hours):
                 folder = self.path(f"off{hours}")
-                with self.serving(folder=folder):
-                    self.ask("OFFER 1800000000000 reminder")
-                    until(lambda: bool(self.record(1, folder)["is_seen"]), "the server shows its moment")
-                told = self.record(1, folder)
-                told["began"].update(boot="another", date=told["began"]["date"] - hours * 3_600_000_000_000)
-                Path(f"{folder}/run-1.json").write_text(json.dumps(told), encoding="ascii")
+                self.off(folder, hours)
                 with self.serving(folder=folder):
                     self.assertRegex(self.ask("POLL")[0], "^ITEM .* 1 reminder$" if due else "^NONE$")
+
+    def test_a_date_that_can_not_be_right(self) -> None:
+        """No run begins, and nothing is due too early, until somebody says that it is right."""
+        self.off(self.path("runs"), 50)
+        service = self.start("--away", "2d")
+        self.assertEqual((service.wait("date")["level"], service.all("serving")), ("error", []))
+        self.assertIn("alert", _asked(self.path("runs"), "GET /health")[1].decode())
+        self.assertEqual(service.stop(), 0)
+        with self.serving("--away", "3d"):
+            self.assertRegex(self.ask("POLL")[0], "^ITEM .* 1 reminder$")

@@ -58,6 +58,7 @@ class ChangedTest(ServiceTest):
 
     def setUp(self) -> None:
         super().setUp()
+        self.memory = self.path("memory/rb_broker")
         for count in (3, 2, 1):
             with self.serving():
                 self.offer(count, name=f"of-{count}")
@@ -65,7 +66,7 @@ class ChangedTest(ServiceTest):
     def change(self, change: Callable[[Path], object]) -> str:
         """A changed copy of the folder."""
         folder = self.path(f"changed-{time.monotonic_ns()}")
-        shutil.copytree(self.path("runs"), folder, ignore=shutil.ignore_patterns("status", "keeper"))
+        shutil.copytree(self.path("runs"), folder, ignore=shutil.ignore_patterns("status"))
         change(Path(folder))
         return folder
 
@@ -100,7 +101,7 @@ class ChangedTest(ServiceTest):
         self.assertEqual(service.end(), 1)
         self.assertIn(says, service.lines[-1])
         self.assertIn(f"start with --accept-loss {run}, which gives up", service.lines[-1])
-        self.assertEqual([it for it in sorted(os.listdir(folder)) if it not in ("keeper", "status")], files)
+        self.assertEqual([it for it in sorted(os.listdir(folder)) if it != "status"], files)
         with self.serving("--accept-loss", run, folder=folder, lost=int(run == 3)) as service:
             self.has_left(size)
         self.assertEqual(service.all("accepted-loss")[0]["level"], "error")
@@ -117,6 +118,19 @@ class ChangedTest(ServiceTest):
         told = json.loads(path.read_bytes())
         told["end"]["digest"] = "0" * 64
         path.write_text(json.dumps(told), "ascii")
+
+    def test_a_run_of_an_earlier_version(self) -> None:
+        """Its server may still be there, held by another process."""
+        self.begin().kill_all()
+        for it in os.listdir(self.memory):
+            os.unlink(f"{self.memory}/{it}")
+        Path(self.path("runs/keeper")).touch()
+        service = self.start()
+        self.assertEqual((service.end(), self.record(4)["end"]), (1, None))
+        self.assertIn("/keeper is of an earlier version, which may hold run 4: ", service.lines[-1])
+        os.unlink(self.path("runs/keeper"))
+        with self.serving(lost=1):
+            self.has_left(6)
 
     def test_an_opening_that_was_changed(self) -> None:
         """It is wanted when a run was lost."""

@@ -9,26 +9,26 @@ import unittest
 
 from common.program import TOP
 from servicing.looking import Looks
-from servicing.session import Told
+from servicing.session import OwnSession, Told
 from servicing.site import _asked
 from servicing.state import Queue
-from servicing.tests.process import ServiceTest, until
+from servicing.tests.process import Client, ServiceTest, until
 from servicing.tests.support import connection, record
 from serving import PATIENCE
-from serving.session import Session
 
 HELD = 50
 
 
 class FullTest(ServiceTest):
     def test_a_client_that_only_asks_fills_no_run(self) -> None:
-        """It makes calls that change nothing the server tells of. It is cut, and the jobs of another one come back."""
-        for batch, calls in ((1, 200_000), (20, 1_000_000)):
-            options = ("--calls", str(calls), "--stop-within", "2s", "--delay", "0s")
+        """It makes calls that change nothing the server tells of. The run ends early enough that the jobs which another
+        one holds come back."""
+        for batch, calls in ((1, 50_000), (20, 1_000_000)):
+            options = ("--calls", str(calls), "--every", "1h", "--stop-within", "2s", "--delay", "0s")
             with self.subTest(batch=batch), self.serving(*options, folder=self.path(f"by-{batch}")) as service:
                 self.offer(HELD)
-                with Session(self.port) as holder:
-                    self.take(holder)
+                with Client(self.port) as holder:
+                    self.take(holder.greeted())
                     is_over = threading.Event()
                     storm = threading.Thread(target=self.storm, args=(is_over, batch), daemon=True)
                     storm.start()
@@ -39,13 +39,14 @@ class FullTest(ServiceTest):
                 self.assertNotIn("lost_jobs", service.all("saved")[0])
                 self.has_left(HELD)
 
-    def take(self, holder: Session) -> None:
+    def take(self, holder: Client) -> None:
         for _ in range(HELD):
             self.assertRegex(holder.ask("TAKE"), "^ITEM ")
 
     def storm(self, is_over: threading.Event, batch: int) -> None:
         while not is_over.is_set():
-            with contextlib.suppress(OSError), Session(self.port) as it:
+            with contextlib.suppress(OSError, EOFError), Client(self.port) as it:
+                it.greeted()
                 while not is_over.is_set():
                     it.send(*["POLLFOR 0"] * batch)
                     for _ in range(batch):
@@ -56,8 +57,8 @@ class FullTest(ServiceTest):
         """The calls are used up between two looks. The alert and the count outlive the service, and the alert lasts
         until somebody acknowledges it."""
         with self.serving("--calls", "60", "--stop-within", "1s") as service:
-            with Session(self.port) as it:
-                it.send(*[f"OFFER 0 job-{number}" for number in range(30)], *["TAKE"] * 30)
+            with Client(self.port) as it:
+                it.greeted().send(*[f"OFFER 0 job-{number}" for number in range(30)], *["TAKE"] * 30)
                 service.wait("serving", 2)
             told = service.wait("lost-jobs")
             jobs = int(told["jobs"])
@@ -83,7 +84,7 @@ class CallsTest(unittest.TestCase):
     """How many calls can be used, by what the system tells of each client."""
 
     def looks(self, calls: int = 100_000) -> Looks:
-        looks = Looks(1, record(calls=calls, moment=10**15, next_id=1000), 4, 100)
+        looks = Looks(OwnSession(1), record(calls=calls, moment=10**15, next_id=1000), 4)
         looks._seen_at = time.monotonic() - 1
         return looks
 
@@ -100,13 +101,11 @@ class CallsTest(unittest.TestCase):
         looks.hear(Told(Queue(0, 1000, 0), 2000, 10**15, 10**15))
         self.assertEqual(looks.calls.used, 1000 + 2500)
 
-    def test_the_next_look_and_who_is_cut(self) -> None:
-        """Half of what is left is not used up before it. A run ends without those who would fill it meanwhile."""
+    def test_the_next_look(self) -> None:
+        """Half of what is left is not used up before it."""
         looks = self.looks()
         looks.see([connection(1), connection(2)])
-        self.assertEqual((looks.due(1, 0.05), looks.eager(60)), (1, []))
+        self.assertEqual(looks.due(1, 0.05), 1)
         looks._seen_at -= 1
         looks.see([connection(1, calls=60_000, replied=300_000), connection(2, calls=300, replied=1500)])
         self.assertAlmostEqual(looks.due(1, 0.05), 39_700 / 2 / 60_300, 1)
-        self.assertEqual([it.port for it in looks.eager(60)], [1])
-        self.assertEqual(looks.eager(0.1), [])

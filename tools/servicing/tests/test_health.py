@@ -6,10 +6,11 @@ from unittest import mock
 from servicing import state as served
 from servicing.looking import Looks
 from servicing.settings import parser, settings_of
+from servicing.session import OwnSession
 from servicing.showing import Showing
-from servicing.sockets import Connection
-from servicing.state import Board, Phase, Queue
-from servicing.tests.support import connection, record, state
+from servicing.connections import Connection
+from servicing.state import Alert, Board, Phase, Queue
+from servicing.tests.support import AT, connection, record, state
 from rb_broker_redis.watching.units import SECOND
 
 
@@ -20,7 +21,7 @@ class HealthTest(unittest.TestCase):
         self.board = Board(1)
         words = parser("").parse_args(["--workers", "2"])
         self.showing = Showing(settings_of(words, "program"), runs, self.board)
-        self.showing.looks = self.looks = Looks(1, record(), 2, 100)
+        self.showing.looks = self.looks = Looks(OwnSession(1), record(), 2)
 
     def alerts(self, *clients: Connection, queue: Queue | None = None) -> list[str]:
         self.looks.see([*clients])
@@ -45,24 +46,25 @@ class HealthTest(unittest.TestCase):
             self.assertEqual(self.alerts(*clients, queue=queue), wanted)
 
     def test_looks_that_get_no_turn(self) -> None:
-        for seconds, wanted in ((29, []), (31, ["no-turn"])):
+        for seconds, wanted in ((59, []), (61, ["no-turn"])):
             self.looks.own._since = time.monotonic() - seconds
             self.assertEqual(self.alerts(), wanted)
 
     def test_closed(self) -> None:
-        """From the end of one run to the beginning of the next, unless a client is served meanwhile."""
+        """From the end of one run to the beginning of the next."""
         with mock.patch.object(served, "CLOSED", 0.2):
             for phase in (Phase.ENDING, Phase.BETWEEN):
                 self.showing.enter(phase)
                 time.sleep(0.15)
-            self.assertEqual([it.name for it in self.board.state.alerts], ["closed"])
-            self.assertEqual(self.alerts(connection(1)), [], "a client was served just now")
-            time.sleep(0.3)
-            self.assertEqual(self.alerts(connection(1)), ["closed"])
+            it = self.board.state
+            self.assertEqual(([it.name for it in it.alerts], it.is_healthy), (["closed"], False))
             self.showing.enter(Phase.SERVING)
             self.assertEqual(self.alerts(), [])
-        self.assertTrue(state(phase=Phase.ENDING).is_healthy, "clients that are served go on")
+        closed = (Alert("closed", "no new client is served", AT),)
+        for phase, is_healthy in ((Phase.ENDING, True), (Phase.BETWEEN, False)):  # clients that are served go on
+            self.assertEqual(state(phase=phase, alerts=closed).is_healthy, is_healthy)
+            self.assertTrue(state(phase=phase).is_healthy)
 
-    def test_silent_clients_are_cut_unless_another_time_is_said(self) -> None:
+    def test_silent_clients_are_ended_unless_another_time_is_said(self) -> None:
         for words, minutes in (([], 10), (["--silent", "1h"], 60)):
             self.assertEqual(settings_of(parser("").parse_args(words), "program").silent, minutes * 60 * SECOND)

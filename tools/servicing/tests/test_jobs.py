@@ -17,7 +17,7 @@ DELIVER = 'case $1 in *7) mkdir "$0/$1" 2> /dev/null && exit 1; esac; echo "$1" 
 class JobsTest(ServiceTest):
     def test_nothing_is_lost_or_done_twice(self) -> None:
         """Each job is offered once, done once, and in the histories once."""
-        service = self.begin("--every", "2s", "--sessions", "400", "--delay", "100ms", "--calls", "20000")
+        service = self.begin("--every", "2s", "--delay", "100ms", "--calls", "20000")
         workers = [Worker(self.port, "sh", "-c", DELIVER, self.room, session="0.5") for _ in range(2)]
         payloads = [f"job-{number}" for number in range(JOBS)]
         noted = Path(self.path("delivered"))

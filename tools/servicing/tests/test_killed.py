@@ -1,98 +1,185 @@
-"""Processes are killed: the service in each of its states, its server, and its keeper."""
+"""The service is killed in each of its states, with and without somebody who keeps its descriptors, and its server."""
 import contextlib
+import itertools
 import os
 import signal
 import threading
 import time
 from collections.abc import Callable
-from pathlib import Path
+from typing import Any
+from unittest import mock
 
-from serving import PATIENCE
+from common.program import tested_program
 from serving.server import free_port
-from serving.session import Session
-from servicing.tests.process import Service, ServiceTest, until
+from servicing.tests.process import Client, Service, ServiceTest, until
+
+ITEM = "^ITEM [0-9]+ [0-9]+ {} {}$"
 
 
-def has_ended(process: int) -> bool:
-    """Whether a process has, though its parent may not know yet."""
-    with contextlib.suppress(OSError):
-        return Path(f"/proc/{process}/stat").read_text("utf-8").rpartition(")")[2].split()[0] == "Z"
-    return True
+class AloneTest(ServiceTest):
+    """Nobody keeps its descriptors: the run ends in good order with the service, and the next one has its history."""
 
+    def collected(self, *options: str) -> Service:
+        """The next service, which takes what the server has left in memory."""
+        again = self.begin("--delay", "0s", *options)
+        self.assertEqual(again.all("resume")[0]["how"], "collect")
+        return again
 
-class KilledTest(ServiceTest):
-    def test_the_next_service_goes_on_with_the_server(self) -> None:
-        service = self.begin()
-        with Session(self.port) as it:
-            self.assertRegex(it.ask("OFFER 0 job"), "^OFFERED ")
-            id = it.ask("TAKE").split(" ")[1]
-            service.kill()
-            self.assertRegex(it.ask("SIZE"), "^SIZE [01]$")  # the service's own element may be there
-            again = self.begin()
-            self.assertEqual(again.all("resume")[0]["how"], "go on")
-            self.assertEqual(again.server, service.server)
-            self.assertEqual(it.ask(f"DONE {id}"), f"DONE {id}")
+    def test_while_it_serves(self) -> None:
+        """What is held comes back at the cost of an attempt, and a client sees an end and no reset."""
+        service, it = self.begin("--delay", "0s"), self.client()
+        self.assertRegex(it.ask("OFFER 0 job"), "^OFFERED ")
+        self.assertRegex(it.ask("TAKE"), ITEM.format(1, "job"))
+        service.kill()
+        self.assertFalse(it.is_cut())
+        until(lambda: not service.servers, "the server ends")
+        again = self.collected()
+        self.assertRegex(self.ask("TAKE")[0], ITEM.format(2, "job"))
+        self.assertEqual((again.all("saved")[0]["run"], again.all("serving")[0]["run"]), ("1", "2"))
         self.ends(again)
-        self.assertEqual(again.all("saved")[0]["left"], "0")
+
+    def test_the_next_one_knows_of_another_runtime_directory(self) -> None:
+        os.mkdir(self.path("first"))
+        with mock.patch.dict(os.environ, XDG_RUNTIME_DIR=self.path("first")):
+            service = self.begin()
+        self.offer(3)
+        service.kill()
+        self.assertEqual(len(os.listdir(self.path("first/rb_broker"))), 2)
+        with mock.patch.dict(os.environ, XDG_RUNTIME_DIR=self.path("none")):
+            again = self.collected()
+        self.has_left(3)
+        self.ends(again)
+        self.assertEqual(os.listdir(self.path("first/rb_broker")), [])
+
+    def test_while_a_run_ends(self) -> None:
+        service, it = self.begin("--delay", "0s"), self.client()
+        self.assertRegex(it.ask("OFFER 0 job"), "^OFFERED ")
+        self.assertRegex(it.ask("TAKE"), ITEM.format(1, "job"))
+        service.process.send_signal(signal.SIGTERM)
+        service.wait("ending")
+        service.kill()
+        self.ends(self.collected())
+
+    def test_the_next_one_does_not_wait(self) -> None:
+        """It is there before the server has ended."""
+        service, it = self.begin(), self.client()
+        it.send("TAKE")
+        service.kill()
+        again = self.collected()
+        self.ends(again)
+
+    def test_the_next_one_waits_for_a_server_that_is_stopped(self) -> None:
+        service = self.begin()
+        self.offer(3)
+        server = service.server
+        os.kill(server, signal.SIGSTOP)
+        service.kill()
+        again = self.start()
+        again.wait("service")
+        time.sleep(0.5)
+        self.assertEqual(again.all("serving"), [])
+        os.kill(server, signal.SIGCONT)
+        again.wait("serving")
+        self.has_left(3)
+        self.ends(again)
+
+
+class KeptTest(ServiceTest):
+    """Somebody keeps its descriptors, as systemd does: the server never notices."""
+
+    def test_while_it_serves(self) -> None:
+        store = self.store()
+        service, it = self.begin(store=store), self.client()
+        self.assertRegex(it.ask("OFFER 0 job"), "^OFFERED ")
+        id = it.ask("TAKE").split(" ")[1]
+        server = service.server
+        service.kill()
+        self.assertRegex(it.ask("SIZE"), "^SIZE [01]$")  # the service's own element may be there
+        again = self.begin(store=store)
+        self.assertEqual((again.all("resume")[0]["how"], again.server), ("go on", server))
+        self.assertEqual(it.ask(f"DONE {id}"), f"DONE {id}")
+        self.ends(again)
+        self.assertEqual((again.all("saved")[0]["left"], store.kept), ("0", {}))
+
+    def test_while_a_run_ends(self) -> None:
+        store = self.store()
+        service, it = self.begin(store=store), self.client()
+        self.assertRegex(it.ask("OFFER 0 job"), "^OFFERED ")
+        id = it.ask("TAKE").split(" ")[1]
+        service.process.send_signal(signal.SIGTERM)
+        service.wait("ending")
+        service.kill()
+        again = self.begin(store=store)
+        self.assertEqual(it.ask(f"DONE {id}"), f"DONE {id}")
+        again.wait("serving", 2)
+        self.has_left(0)
+        self.ends(again)
+
+    def test_the_server_ends_while_no_service_is_there(self) -> None:
+        store = self.store()
+        service = self.begin("--sessions", "3", store=store)
+        service.kill()
+        self.offer(2)
+        with contextlib.suppress(EOFError, OSError):
+            while service.servers:
+                Client(self.port).hang_up()
+                time.sleep(0.05)
+        again = self.begin(store=store)
+        self.assertEqual(again.all("resume")[0]["how"], "collect")
+        self.has_left(2)
+        self.ends(again)
 
     def test_the_next_service_has_another_delay(self) -> None:
         """It says so at once, and the next run, which has it, begins at once."""
-        self.begin("--delay", "1h").kill()
-        with self.serving("--delay", "0s") as service:
+        store = self.store()
+        self.begin("--delay", "1h", store=store).kill()
+        with self.serving("--delay", "0s", store=store) as service:
             told = service.wait("settings")
             wanted = "--delay 3600000000000 --attempts 20", "--delay 0 --attempts 20"
             self.assertEqual((told["was"], told["now"]), wanted)
-            service.wait("serving", 2, patience=5 * PATIENCE)
+            service.wait("serving", 2)
             self.assertEqual([it["why"] for it in service.all("ending")], ["settings"])
-            self.assertRegex(self.ask("OFFER 0 job", "TAKE")[1], "^ITEM [0-9]+ [0-9]+ 1 job$")
-            self.assertRegex(self.ask("TAKE")[0], "^ITEM [0-9]+ [0-9]+ 2 job$")  # the first session has ended
 
-    def test_the_server_ends_while_no_service_is_there(self) -> None:
-        service = self.begin("--sessions", "3")
+    def test_the_server_is_killed_meanwhile(self) -> None:
+        store = self.store()
+        with self.serving(store=store):
+            self.offer(3)
+        service = self.begin(store=store)
+        self.offer(5, name="lost")
+        server = service.server
         service.kill()
-        self.ask("OFFER 0 job")
-        with contextlib.suppress(OSError):
-            while True:
-                with Session(self.port) as it:
-                    it.ask("SIZE")
-        with self.serving() as again:
-            self.assertEqual(again.all("resume")[0]["how"], "collect")
-            self.assertRegex(self.ask("TAKE")[0], "^ITEM [0-9]+ [0-9]+ 1 job$")
+        os.kill(server, signal.SIGKILL)
+        again = self.begin(store=store)
+        self.assertEqual(again.all("lost-run")[0]["opening"], "3")
+        self.has_left(3)
+        self.ends(again, lost=1)
 
-    def test_it_is_killed_while_a_run_ends(self) -> None:
-        service = self.begin("--sessions", "50")
-        with Session(self.port) as it:
-            self.assertRegex(it.ask("OFFER 0 job"), "^OFFERED ")
-            service.process.send_signal(signal.SIGTERM)
-            service.wait("ending")
-            time.sleep(0.5)
-            service.kill()
-            again = self.begin("--stop-within", "2s")
-            self.assertEqual(it.ask("SIZE"), "SIZE 1")
-            self.assertEqual(again.wait("ending")["why"], "sessions")
-        again.wait("serving", 2)
-        self.has_left(1)
-        self.ends(again)
 
-    def test_it_is_killed_at_any_moment(self) -> None:
-        """Services are killed after ever other times, while jobs are offered and done. Each is done once."""
-        done: list[str] = []
-        offered: list[str] = []
-        is_over = threading.Event()
+class MomentsTest(ServiceTest):
+    """Services are killed after ever other times, while jobs are offered and done. Each is done, and none is lost."""
+
+    def test_alone(self) -> None:
+        self.kill_at_any_moment()
+
+    def test_kept(self) -> None:
+        self.kill_at_any_moment(store=self.store())
+
+    def kill_at_any_moment(self, **told: Any) -> None:
+        done, offered, is_over = list[str](), list[str](), threading.Event()
         clients = [threading.Thread(target=self.until_over, args=(is_over, act, them), daemon=True)
                    for act, them in ((self.produce, offered), (self.drain, done))]
-        options = ("--every", "1s", "--wait", "100ms", "--delay", "0s", "--sessions", "600")
-        service = self.begin(*options)
+        options = ("--every", "1s", "--delay", "0s")
+        service = self.begin(*options, **told)
         for it in clients:
             it.start()
         try:
-            for number in range(20):
+            for number in itertools.takewhile(lambda it: it < 16 or len(offered) <= 100, range(100)):
                 time.sleep(0.1 + number * 0.07)
                 service.kill()
                 self.assertEqual(service.all("lost-run"), [])
-                service = self.start(*options)
+                service = self.start(*options, **told)
             service.wait("serving")
-            time.sleep(3)
+            time.sleep(2)
         finally:
             is_over.set()
             for it in clients:
@@ -113,50 +200,16 @@ class KilledTest(ServiceTest):
 
     def drain(self, done: list[str]) -> int:
         """Does all jobs that are due. Whether one is done is known before it is noted. Returns how many are noted."""
-        with contextlib.suppress(OSError), Session(self.port) as it:
-            while it.ask("AT 0") == "ERR 1 syntax":
-                item = it.ask("TAKE").split(" ")
-                if item[0] != "ITEM":
-                    break
+        with contextlib.suppress(OSError, EOFError), Client(self.port) as it:
+            it.greeted()
+            while (item := it.ask("POLLFOR 100000000").split(" "))[0] == "ITEM":
                 if it.ask(f"DONE {item[1]}") == f"DONE {item[1]}":
                     done.append(item[4])
             it.ask("QUIT")
         return len(done)
 
-    def test_the_keeper_is_killed(self) -> None:
-        """Another one holds the server; and then the service and the keeper are killed at once."""
-        service = self.begin()
-        self.offer(3)
-        os.kill(service.keeper(), signal.SIGKILL)
-        service.wait("keeper")
-        service.kill()
-        again = self.begin()
-        self.assertRegex(self.ask("SIZE")[0], "^SIZE [34]$")  # the killed service's own element may be there
-        keeper = again.keeper()
-        again.kill()
-        os.kill(keeper, signal.SIGKILL)
-        with self.serving() as last:
-            self.assertEqual([it.all("resume")[0]["how"] for it in (again, last)], ["go on"] * 2)
-        self.assertEqual(last.all("saved")[0]["left"], "3")
 
-    def test_the_keeper_is_killed_while_a_run_ends(self) -> None:
-        """Another one holds the history when the service is killed, too, and the server ends after both."""
-        service = self.begin("--sessions", "50")
-        with Session(self.port) as it:
-            self.assertRegex(it.ask("OFFER 0 job"), "^OFFERED ")
-            keeper, server = service.keeper(), service.server
-            service.process.send_signal(signal.SIGTERM)
-            service.wait("ending")
-            os.kill(keeper, signal.SIGKILL)
-            self.assertEqual(service.wait("keeper")["level"], "warning")
-            time.sleep(1)  # in which all sessions are used up
-            service.kill()
-            it.ask("QUIT")
-        until(lambda: has_ended(server), "the server ends")
-        with self.serving() as again:
-            self.assertEqual(again.all("resume")[0]["how"], "collect")
-            self.has_left(1)
-
+class ServerKilledTest(ServiceTest):
     def test_the_server_is_killed_too(self) -> None:
         """With all, and while no service is there."""
         with self.serving():
@@ -167,23 +220,39 @@ class KilledTest(ServiceTest):
         again = self.begin()
         self.assertEqual(again.all("lost-run")[0]["opening"], "3")
         self.has_left(3)
-        server = again.server
-        again.kill()
-        os.kill(server, signal.SIGKILL)
-        with self.serving(lost=1) as last:
-            self.assertEqual((again.all("lost-run")[0]["run"], last.all("lost-run")[0]["run"]), ("2", "3"))
+        self.ends(again, lost=1)
 
     def test_the_server_is_killed_while_it_ends(self) -> None:
-        service = self.begin()
-        with Session(self.port) as it:
-            it.ask("SIZE")
-            service.process.send_signal(signal.SIGTERM)
-            service.wait("ending")
-            os.kill(service.server, signal.SIGKILL)
-            self.assertEqual(service.end(), 0)
+        service, it = self.begin(), self.client()
+        self.assertRegex(it.ask("OFFER 0 job"), "^OFFERED ")
+        self.assertRegex(it.ask("TAKE"), ITEM.format(1, "job"))
+        service.process.send_signal(signal.SIGTERM)
+        service.wait("ending")
+        os.kill(service.server, signal.SIGKILL)
+        self.assertEqual(service.end(), 0)
         lost = service.all("lost-run")[0]
         self.assertEqual((lost["run"], lost["why"]), ("1", "the server left no history: it was killed"))
 
+    def test_a_server_that_served_nobody_loses_nothing(self) -> None:
+        """It is killed before it listens, as if it had never been started."""
+        sleeps = 'exec python3 -c "import time; time.sleep(99)" "$@"'
+        slow = f'[ "$1" = serve ] && [ -e {self.path("slow")} ] && {sleeps}'
+        program = self.file("program", f'#!/bin/sh\n{slow}\nexec "{tested_program()}" "$@"\n')
+        os.chmod(program, 0o700)
+        with self.serving(program=program):
+            self.offer(3)
+        self.file("slow", "")
+        service = self.start(program=program)
+        until(lambda: bool(self.record(2)), "the next run is written down")
+        time.sleep(0.3)
+        service.kill_all()
+        os.unlink(self.path("slow"))
+        with self.serving(program=program) as again:
+            self.assertEqual((again.all("resume")[0]["how"], again.all("serving")[0]["run"]), ("again", "2"))
+            self.has_left(3)
+
+
+class TakenTest(ServiceTest):
     def test_what_is_taken(self) -> None:
         """A second service says who has the folder, and a second folder is refused at the port."""
         service = self.begin()
@@ -194,7 +263,7 @@ class KilledTest(ServiceTest):
         for _ in range(2):  # a run that could not begin leaves nothing behind
             other = self.start("--from", history, folder=self.path("others"))
             self.assertEqual(other.end(), 1)
-            self.assertIn(f"no server at port {self.port}: rb_broker: cannot listen", other.lines[-1])
+            self.assertIn(f"port {self.port} can't be had: Address already in use", other.lines[-1])
         self.has_left(0)
         os.unlink(self.path("runs/lock"))  # which tells who has the folder, and is not what keeps others out
         third = Service(self.path("runs"), port=free_port())
@@ -203,11 +272,3 @@ class KilledTest(ServiceTest):
         self.ends(service)
         with self.serving("--from", history, folder=self.path("others")):
             self.has_left(1)
-
-    def test_a_server_at_another_port_is_left_to_a_service_there(self) -> None:
-        self.begin().kill()
-        other = Service(self.path("runs"), port=free_port())
-        self.assertEqual(other.end(), 1)
-        self.assertIn(f"run 1 is served at another port (listening 127.0.0.1:{self.port})", other.lines[-1])
-        with self.serving() as service:
-            self.assertEqual(service.all("resume")[0]["how"], "go on")

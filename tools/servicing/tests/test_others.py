@@ -4,18 +4,19 @@ import shutil
 import subprocess
 import unittest
 from pathlib import Path
+from unittest import mock
 
-from servicing.tests.process import SYSTEMS_PYTHON, ServiceTest
+from servicing.tests.process import SYSTEMS_PYTHON, Service, ServiceTest
 
 OTHER, ROOT = 65534, 0
 
-# Connects to every socket whose abstract name has the id of a folder, and to those at paths: asks a keeper to start a
-# command that leaves a proof, and a page for the status. Prints each answer.
+# Connects to every socket that is there, by whatever name: asks for a command that leaves a proof, as a keeper that an
+# earlier service had would have run it, and a page for the status. Prints each answer.
 ATTACK = r"""
 import json, os, socket, sys
 words = json.dumps({"do": "start", "run": 1, "words": ["/usr/bin/touch", sys.argv[1]]}).encode()
-names = {line.split()[-1] for line in open("/proc/net/unix") if sys.argv[2] in line}
-for name in [*("\0" + it[1:] for it in names if it.startswith("@")), *sys.argv[3:]]:
+names = {line.split()[7] for line in open("/proc/net/unix") if len(line.split()) > 7 and sys.argv[2] in line}
+for name in [*("\0" + it[1:] if it.startswith("@") else it for it in names), *sys.argv[3:]]:
     for kind, asked in (socket.SOCK_SEQPACKET, words), (socket.SOCK_STREAM, b"GET /health HTTP/1.0\r\n\r\n"):
         try:
             link = socket.socket(socket.AF_UNIX, kind)
@@ -47,22 +48,41 @@ class OthersTest(ServiceTest):
             os.chmod(it, 0o777)
         return paths
 
+    def listening(self, service: Service) -> set[str]:
+        """The last part of the name of each Unix socket that the service has."""
+        links = (os.readlink(it.path) for it in os.scandir(f"/proc/{service.process.pid}/fd"))
+        own = {it[8:-1] for it in links if it.startswith("socket:")}
+        lines = (it.split() for it in Path("/proc/net/unix").read_text("ascii").splitlines()[1:])
+        return {it[7].rpartition("/")[2] for it in lines if it[6] in own and len(it) > 7}
+
     def test_nobody_else_is_heard(self) -> None:
-        """Neither while a service is there nor behind one that was killed. What is refused is an attack: as the user
-        of the service it succeeds."""
+        """There is one socket, at which root is told the status, and others nothing though every guard of the file
+        system is gone. None has an abstract name."""
         service = self.begin()
         os.chmod(self.room, 0o777)
-        sockets = [self.path(f"runs/{it}") for it in ("keeper", "status")]
-        self.assertEqual([os.stat(it).st_mode & 0o777 for it in sockets], [0o600] * 2)
-        self.assertEqual(self.attack(OTHER, *sockets), ("", False))
-        _, keeper, status = self.open_to_all("runs", "runs/keeper", "runs/status")
+        status = self.path("runs/status")
+        self.assertEqual(os.stat(status).st_mode & 0o777, 0o600)
+        self.assertEqual(self.attack(OTHER, status), ("", False))
+        self.open_to_all("runs", "runs/status")
         self.assertEqual(self.attack(OTHER, status), ("", False))
         self.assertEqual(self.attack(ROOT, status), ("HTTP/1.0 200 OK", False))
+        self.assertEqual(self.listening(service), {"status"})
         service.kill()
-        self.assertEqual(self.attack(OTHER, keeper, status), ("", False))
-        said, has_run = self.attack(ROOT, keeper)
-        self.assertRegex(said, '^{"run": 1, ')
-        self.assertTrue(has_run)
+        self.assertEqual([self.attack(it, status) for it in (OTHER, ROOT)], [("", False)] * 2)
+
+    def test_what_waits_in_memory(self) -> None:
+        """The runtime directory has to be the user's own, too, and a link in it leads nowhere."""
+        for mode, owner in ((0o777, ROOT), (0o700, OTHER)):
+            os.mkdir(self.path(f"run-{mode}"))
+            os.chmod(self.path(f"run-{mode}"), 0o700)
+            own = self.path(f"run-{mode}/rb_broker")
+            os.mkdir(own)
+            os.chmod(own, mode)
+            os.chown(own, owner, -1)
+            with mock.patch.dict(os.environ, XDG_RUNTIME_DIR=self.path(f"run-{mode}")):
+                service = self.start()
+                self.assertEqual(service.end(), 1)
+            self.assertIn(f"service: {own} ", service.lines[-1])
 
     def test_a_folder_that_others_have_a_hand_in(self) -> None:
         """Nothing is served from it, and the line says what to do. What others may only read is no matter."""

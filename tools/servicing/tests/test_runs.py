@@ -5,8 +5,7 @@ import signal
 import time
 from pathlib import Path
 
-from serving.session import Session
-from servicing.tests.process import ServiceTest, until
+from servicing.tests.process import Client, ServiceTest, until
 
 
 class RunsTest(ServiceTest):
@@ -26,27 +25,23 @@ class RunsTest(ServiceTest):
             self.assertGreaterEqual(len(service.all("serving")), 2)
 
     def test_a_job_comes_when_it_is_due_though_no_service_was_there(self) -> None:
-        """And the last call tells when a run ended."""
         with self.serving():
             self.ask("OFFER 4000000000 later")
-            time.sleep(2.5)
-        *_, last, _ = Path(self.path("runs/run-1.txt")).read_text("ascii").splitlines()
-        self.assertGreaterEqual(int(last.split(" ")[2]), 2_500_000_000)
-        time.sleep(1.5)
+        time.sleep(4)
         with self.serving():
             self.assertRegex(self.ask("POLL")[0], "^ITEM [0-9]+ [0-9]+ 1 later$")
 
     def test_elements_go_on_with_their_ids_and_attempts(self) -> None:
         never = 2**64 - 1
-        with self.serving("--delay", "0s") as service, Session(self.port) as it:
-            self.assertRegex(it.ask("OFFER 0 job"), "^OFFERED ")
+        with self.serving("--delay", "0s") as service, Client(self.port) as it:
+            self.assertRegex(it.greeted().ask("OFFER 0 job"), "^OFFERED ")
             id = self.numbers(it.ask("TAKE"))[0]
             again = self.numbers(it.ask(f"FAIL {id}"))[0]
             last = self.numbers(it.ask(f"OFFERAT {never} never"))[0]
             it.ask("QUIT")
         self.assertEqual(service.all("saved")[0]["left"], "2")
-        with self.serving("--delay", "0s"), Session(self.port) as it:
-            self.assertRegex(it.ask("TAKE"), f"^ITEM {again} [0-9]+ 2 job$")
+        with self.serving("--delay", "0s"), Client(self.port) as it:
+            self.assertRegex(it.greeted().ask("TAKE"), f"^ITEM {again} [0-9]+ 2 job$")
             self.assertEqual(it.ask(f"DONE {again}"), f"DONE {again}")
             self.assertEqual(it.ask("PEEK"), f"HEAD {last} {never} 1 never")
             self.assertGreater(self.numbers(it.ask("OFFER 0 new"))[0], last)
@@ -68,18 +63,19 @@ class RunsTest(ServiceTest):
         with self.serving():
             self.has_left(501)
 
-    def test_calls_and_sessions_run_out(self) -> None:
-        """Sessions unseen."""
-        service = self.begin("--calls", "60")
-        self.offer(54)
-        service.wait("serving", 2)
-        self.assertEqual(service.all("ending")[0]["why"], "calls")
-        self.has_left(54)
-        self.ends(service)
-        with self.serving("--sessions", "20") as service:
-            for _ in range(40):
-                self.ask("SIZE")
-            service.wait("serving", 2)
+    def test_the_greeting_tells_of_a_lost_run(self) -> None:
+        """And of the moment at which each run began, which goes on by real time."""
+        told = []
+        with self.serving(lost=1) as service:
+            for lost in (0, 1):
+                with Client(self.port) as it:
+                    told.append(self.numbers(it.greeted().greeting))
+                    self.assertRegex(it.greeting, f"^RUN {lost + 1} lost {lost} at [0-9]+$")
+                if not lost:
+                    time.sleep(0.5)
+                    os.kill(service.server, signal.SIGKILL)
+                    service.wait("serving", 2)
+        self.assertGreater(told[1][-1], told[0][-1] + 250_000_000)
 
     def test_what_an_earlier_series_of_runs_has_left_is_continued(self) -> None:
         folder = Path(self.path("runs"))
@@ -105,6 +101,6 @@ class RunsTest(ServiceTest):
             service.wait("serving", 6)
         last = int(self.begin("--keep", "2").all("serving")[0]["run"])
         wanted = {f"run-{last - 1}.json", f"run-{last - 1}.txt.gz", f"run-{last - 2}.json", f"run-{last - 2}.txt.gz",
-                  f"run-{last}.json", f"opening-{last}.txt", "id", "keeper", "lock", "status"}
+                  f"run-{last}.json", f"opening-{last}.txt", "id", "lock", "memory", "status"}
         until(lambda: set(os.listdir(self.path("runs"))) <= wanted, "old files are gone")
         self.assertEqual(self.record(last - 1)["end"]["why"], "asked")

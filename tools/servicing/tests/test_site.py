@@ -15,13 +15,13 @@ from histories.tests.support import RUN
 from servicing import site
 from servicing import state as served
 from servicing.folder import Unusable
+from servicing.http import short_name
 from servicing.metrics import metrics
 from servicing.page import page
 from servicing.shown import text
 from servicing.site import answer_of, print_status, serve_pages
 from servicing.state import Board, Phase
 from servicing.tests.support import ENDED, FULL_DISK, HELD, LOST, connection, first_state, state, troubled_state
-from servicing.unix import short_name
 from rb_broker_redis.watching.http import Answer
 
 
@@ -48,7 +48,7 @@ class PathsTest(RoomTest):
             self.assertIsNone(answer_of(self.board, self.room, path), path)
 
     def test_health(self) -> None:
-        for phase, status in ((Phase.STARTING, 503), (Phase.SERVING, 200), (Phase.ENDING, 200), (Phase.BETWEEN, 503),
+        for phase, status in ((Phase.STARTING, 503), (Phase.SERVING, 200), (Phase.ENDING, 200), (Phase.BETWEEN, 200),
                               (Phase.STOPPED, 503)):
             self.board.put(state(phase=phase))
             self.assertEqual(self.answer("/health").status, status, phase)

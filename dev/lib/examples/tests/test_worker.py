@@ -5,14 +5,13 @@ import time
 from pathlib import Path
 
 from examples.tests.processes import WORKER, Worker
-from servicing.cutting import cut_sessions
-from servicing.sockets import look_at
 from serving.server import Ended, Server
 from serving.session import Session
 from serving.testing import ServingTest
 
 FAILS_BAD = ("sh", "-c", 'case $1 in bad*) exit 1; esac', "sh")
 TELLS = ("sh", "-c", "echo begun; sleep 1")
+SILENT = 500_000_000  # nanoseconds
 
 
 def ended(status: int, *lines: str, **counts: int) -> Ended:
@@ -88,17 +87,17 @@ class WorkerTest(ServingTest):
                 if end == "lost":
                     self.assertEqual(server.end().lines[0], "sessions 2 faults 0 lost 1")
 
-    def test_it_goes_on_behind_a_cut(self) -> None:
-        server = self.serve("--sessions", 3, "--delay", 0)
+    def test_it_goes_on_behind_a_session_that_the_server_ends(self) -> None:
+        """The job outlasts its session. The server says first which run it serves, as that of a service does."""
+        server = self.serve("--sessions", 3, "--delay", 0, "--silent", SILENT, "--greeting", "RUN 7 lost 0 at 5")
         say(server, "OFFER 0 job")
-        command = 'echo begun; until [ -e "$0" ]; do sleep 0.1; done'  # until the session is cut
-        worker = Worker(server.port, "sh", "-c", command, self.path("cut"))
+        command = 'echo begun; until [ -e "$0" ]; do sleep 0.1; done'  # until the session has ended
+        worker = Worker(server.port, "sh", "-c", command, self.path("ended"))
         self.assertEqual(worker.line(), "begun")
-        cut = cut_sessions(server.process.pid, [it.port for it in look_at(server.port)])
-        Path(self.path("cut")).touch()
+        time.sleep(3 * SILENT / 1e9)
+        Path(self.path("ended")).touch()
         self.assertEqual(worker.lines(3), ["job, attempt 1: unheard", "begun", "job, attempt 2: done"])
         self.assertEqual(worker.stop(), ended(0, done=1, unheard=1))
-        self.assertEqual((len(cut[0]), cut[1]), (1, ""))
         self.expect_end(server, "sessions 3 faults [01] lost 0", given=2)
 
     def test_it_refuses_words(self) -> None:
