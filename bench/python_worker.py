@@ -109,7 +109,7 @@ def far_offers(program, is_async):
         await asyncio.gather(*map(offer, range(OFFERERS)))
 
     with Server(OPTIONS, program) as server, far(server.port, OFFERS_TRIP) as port:
-        producer = (AsyncProducer if is_async else Producer)(port, session=None)
+        producer = (AsyncProducer if is_async else Producer)(port)
         began = time.monotonic()
         if is_async:
             asyncio.run(offer_all())

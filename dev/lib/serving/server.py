@@ -6,7 +6,6 @@ import random
 import socket
 import subprocess
 import threading
-import time
 from typing import Any, NamedTuple, Self, Sequence
 
 from common.program import tested_program
@@ -77,15 +76,12 @@ class Server:
     def __exit__(self, *_: object) -> None:
         self.kill()
 
-    def use_up(self) -> None:
-        """Uses up the sessions that are left, so that it ends once those that go on have ended."""
-        until = time.monotonic() + PATIENCE
-        while time.monotonic() < until:
-            try:
-                socket.create_connection((HOST, self.port), timeout=PATIENCE).close()
-            except OSError:
-                return
-            time.sleep(0.001)
+    def drain(self) -> None:
+        """Tells one that is attended to end once no session holds a job, and waits for that."""
+        self.process.stdin.write("drain\n")
+        self.process.stdin.flush()
+        with contextlib.suppress(subprocess.TimeoutExpired):
+            self.process.wait(self.patience)
 
     def end(self) -> Ended:
         """Waits for its end."""

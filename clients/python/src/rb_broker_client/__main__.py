@@ -88,8 +88,6 @@ def _parser() -> argparse.ArgumentParser:
     add("handler", type=_function, metavar="MODULE:FUNCTION", help="what is called with each job")
     add("--concurrency", type=_whole(1, MOST_HELD), default=1, metavar="N",
         help=f"how many jobs run at the same time, 1 to {MOST_HELD} (default: 1)")
-    add("--session", type=_seconds, default=30.0, metavar="SECONDS",
-        help="leaves a session that is so old, and begins the next (default: 30)")
     add("--timeout", type=_seconds, metavar="SECONDS", help="fails a job that takes longer")
     add("--on-dead", type=_function, metavar="MODULE:FUNCTION",
         help="what is called with each job that failed and won't come back")
@@ -140,7 +138,7 @@ def _work(asked: Asked) -> Iterator[str]:
     if inspect.iscoroutinefunction(asked.on_dead) and not is_async:
         raise ValueError("--on-dead can be a coroutine function only if the handler is one")
     worker = _client(AsyncWorker if is_async else Worker, asked, asked.handler, concurrency=asked.concurrency,
-                     session=asked.session, timeout=asked.timeout, on_dead=asked.on_dead, attempts=asked.attempts)
+                     timeout=asked.timeout, on_dead=asked.on_dead, attempts=asked.attempts)
     _stop_by_signals(worker.stop)
     yield _told(asyncio.run(worker.run()) if is_async else worker.run())
 

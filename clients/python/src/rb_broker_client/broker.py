@@ -17,7 +17,7 @@ from selectors import EVENT_READ, EVENT_WRITE
 from typing import Any, ClassVar, Concatenate, Generic, Self, TextIO
 
 from .durations import Duration, seconds
-from .errors import BrokerError, DisconnectedError, UnknownReplyError
+from .errors import BrokerError, DisconnectedError, EndedError, UnknownReplyError
 from .job import LONGEST_REPLY, AsyncHeldJob, Greeting, HeldJob, Job
 from .request import Answer, Request
 from .waiting import Blocking, Kind, Looping, Words, blocking, run
@@ -109,7 +109,7 @@ class Session:
             while self._fault is None:
                 piece = self._socket.recv(65_536)
                 if not piece:
-                    raise DisconnectedError("the server closed the connection")
+                    raise EndedError("the server closed the connection")
                 self._came = time.monotonic_ns()
                 *lines, self._rest = (self._rest + piece).split(b"\n")
                 if len(self._rest) >= LONGEST_REPLY:

@@ -1,6 +1,5 @@
-"""Durations as callers give them; those of pauses between tries, and those of sessions."""
+"""Durations as callers give them, and those of pauses between tries."""
 
-import math
 import random
 import re
 from datetime import timedelta
@@ -11,8 +10,6 @@ from .job import GREATEST_NUMBER
 Duration = int | float | timedelta
 """Seconds as a number, or a `timedelta`."""
 
-WAITED = 0.1  # seconds after which a session was served late: others may be waiting now
-BRIEF = 3.0  # seconds of a session while others may be waiting
 FOR_EVER = 1e6  # seconds of a wait that only what happens ends
 SECOND = 1_000_000_000  # nanoseconds
 UNITS = {"ns": 1e-9, "us": 1e-6, "ms": 1e-3, "": 1, "s": 1, "m": 60, "h": 3_600, "d": 86_400}  # in seconds
@@ -47,12 +44,6 @@ def seconds(duration: Duration) -> float:
     if not value > 0:
         raise ValueError(f"a duration is above 0 seconds here, not {duration}")
     return value
-
-
-def age(limit: float, may_others_wait: bool) -> float:
-    """How old a session becomes whose server does not say when it is to be left. A brief one leaves its place to others
-    that may be waiting."""
-    return min(limit, BRIEF) if may_others_wait and limit < math.inf else limit
 
 
 class Pauses:

@@ -13,6 +13,10 @@ class DisconnectedError(BrokerError, ConnectionError):
     """The connection ended before the reply was complete."""
 
 
+class EndedError(DisconnectedError):
+    """It was the server that ended it, or what leads to the server, and no reset."""
+
+
 class UnknownReplyError(BrokerError):
     """The server sent a line that answers no such request. The session is closed."""
 

@@ -50,8 +50,9 @@ class Pipeline:
         """Whether it takes no request any more."""
         self._at_end: list[Any] = []  # where those sleep that wait for the end
 
-    async def ask(self, request: Request[Answer], deadline: float, take: Callable[[Answer], object] = lambda _: None,
-                  is_last: bool = False) -> Answer:
+    async def ask(
+        self, request: Request[Answer], deadline: float, take: Callable[[Answer], object] = lambda _: None
+    ) -> Answer:
         """Sends a request, and gives its answer. `take` is called with each answer that is no exception, in the order
         of the requests. Raises `LeftError` if it was not sent, and `TimeoutError` at the deadline. If the session is
         lost the exception is another `OSError`."""
@@ -61,7 +62,6 @@ class Pipeline:
                 self._hear()  # who reads knows first if the session is lost
             if self.is_left:
                 raise LeftError
-            self.is_left = is_last
             self._calls.append(call)
             self._waiting += 1
             self._send(request)

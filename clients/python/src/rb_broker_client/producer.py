@@ -9,16 +9,16 @@ import ssl
 import threading
 import time
 from collections.abc import AsyncIterator, Callable
-from contextlib import ExitStack, asynccontextmanager, suppress
+from contextlib import ExitStack, asynccontextmanager
 from dataclasses import replace
 from functools import partial
 from typing import Any, ClassVar, Self, TextIO
 from weakref import WeakSet
 
 from .broker import AsyncBroker, Broker, Session, checked_port
-from .durations import FOR_EVER, WAITED, Duration, Pauses, age, nanoseconds, seconds
-from .errors import BrokerError, FullError, InDoubtError, NotOfferedError, OutOfMemoryError
-from .job import LostRun, Offered
+from .durations import FOR_EVER, Duration, Pauses, nanoseconds, seconds
+from .errors import EndedError, FullError, InDoubtError, NotOfferedError, OutOfMemoryError
+from .job import Greeting, LostRun, Offered
 from .pipeline import LeftError, Pipeline
 from .request import Request
 from .run import Run
@@ -36,24 +36,19 @@ class BaseProducer:
     _session_of: ClassVar[type[Session]]
 
     def __init__(self, port: int, host: str = "127.0.0.1", *, may_double: bool = False, patience: Duration = 30.0,
-                 session: Duration | None = 30.0, on_lost_run: Callable[[LostRun], object] | None = None,
-                 tls: ssl.SSLContext | None = None, pauses: Pauses | None = None,
-                 record: TextIO | None = None) -> None:
-        """Connects to nothing yet. An offer takes no longer than `patience`, whatever it waits for. With None for
-        `session` each is kept as long as it can be had, as is that of a server that greets. `on_lost_run` is called, in
-        a thread of its own, when the server has lost a run. `tls` and `record` are those of a `Broker`."""
+                 on_lost_run: Callable[[LostRun], object] | None = None, tls: ssl.SSLContext | None = None,
+                 pauses: Pauses | None = None, record: TextIO | None = None) -> None:
+        """Connects to nothing yet. An offer takes no longer than `patience`, whatever it waits for. `on_lost_run` is
+        called, in a thread of its own, when the server has lost a run. `tls` and `record` are those of a `Broker`."""
         self._session_at = partial(self._session_of, checked_port(port), host, tls=tls, record=record)
-        self._may_double, self._patience = may_double, seconds(patience)
-        self._pauses, self._limit = pauses or Pauses(longest=2.0), math.inf if session is None else seconds(session)
+        self._may_double, self._patience, self._is_direct = may_double, seconds(patience), tls is None
+        self._pauses = pauses or Pauses(longest=2.0)
         self._run, self._kind = Run(log, f"{host}:{port}", on_lost_run), self._session_of._kind
         self.waited = 0.0
         """For how many seconds the last session waited until the server had a worker for it."""
         self._is_closed = False
-        # What follows is changed in turn alone: by who looks for a server, and by what leaves an old session.
         self._turn: Any = self._kind.lock()
-        self._pipeline: Pipeline | None = None
-        self._end = math.inf  # when it is old
-        self._stop_leaving: Callable[[], object] = lambda: None
+        self._pipeline: Pipeline | None = None  # changed in turn alone
         _PRODUCERS.add(self)
 
     async def _offer(self, payload: str, *, delay: Duration = 0) -> Offered:
@@ -82,7 +77,6 @@ class BaseProducer:
         self._is_closed = True
         async with self._in_turn():
             pipeline, self._pipeline = self._pipeline, None
-            self._stop_leaving()
         if pipeline is not None:
             pipeline.leave()
             await pipeline.end()
@@ -109,21 +103,35 @@ class BaseProducer:
                 pipeline.leave()  # nothing more comes of this run, which ends when its clients have left
                 raise
             except OSError as fault:
-                raise InDoubtError(f"{request} was accepted or not: {fault}") from fault
+                ended = pipeline.session.greeting if isinstance(fault, EndedError) else None
+                if not await self._is_continued(ended, request, deadline):
+                    raise InDoubtError(f"{request} was accepted or not: {fault}") from fault
+
+    async def _is_continued(self, ended: Greeting | None, request: Request[Offered], deadline: float) -> bool:
+        # A run that ends in good order answers what it carries out. Behind TLS a proxy may have taken the reply with it.
+        pauses = copy.copy(self._pauses)
+        pauses.reset()
+        while ended is not None and self._is_direct:
+            try:
+                now = (await self._served(request, deadline)).session.greeting
+                return now is not None and now.run > ended.run and now.lost == ended.lost and now.at_ns >= ended.at_ns
+            except NotOfferedError:  # the next server is not there yet
+                if time.monotonic() + (pause := pauses.next()) > deadline:
+                    break
+            await self._kind.sleep(pause)
+        return False
 
     async def _served(self, request: Request[Offered], deadline: float) -> Pipeline:
         # One that is served already, so that an offer is in doubt only while it is answered.
         pipeline = self._pipeline
-        if pipeline is not None and not pipeline.is_left and time.monotonic() < self._end:
+        if pipeline is not None and not pipeline.is_left:
             return pipeline
         async with self._in_turn(deadline, request):
             if self._is_closed:
                 raise RuntimeError("the producer is closed")
             pipeline = self._pipeline
             if pipeline is not None and not pipeline.is_left:
-                if time.monotonic() < self._end:
-                    return pipeline
-                await self._leave(pipeline, deadline)
+                return pipeline
             try:
                 return await self._next_pipeline(deadline)
             except OSError as fault:
@@ -145,27 +153,13 @@ class BaseProducer:
         self.waited = time.monotonic() - began
         if self.waited >= LONG:
             log.warning("waited %.1f seconds until the server at %s had a worker", self.waited, self._run.place)
-        self._stop_leaving()
         self._pipeline = pipeline = Pipeline(session)
         self._run.served(session.greeting)
-        left = math.inf if session.greeting else age(self._limit, self.waited >= WAITED)
-        self._end = time.monotonic() + left
-        if left < math.inf:
-            self._stop_leaving = self._kind.later(left, partial(self._leave_alone, pipeline))
         return pipeline
-
-    async def _leave_alone(self, pipeline: Pipeline) -> None:
-        async with self._in_turn():
-            if self._pipeline is pipeline:
-                await self._leave(pipeline, time.monotonic() + self._patience)
-
-    async def _leave(self, pipeline: Pipeline, deadline: float) -> None:
-        with suppress(LeftError, OSError, BrokerError):  # each offer has had its answer all the same
-            await pipeline.ask(Request.quit(), deadline, is_last=True)
 
     def _begin_anew(self) -> None:
         # In a forked process, whose other threads are gone, whatever they were at. The session is the other process's.
-        self._turn, self._stop_leaving = self._kind.lock(), lambda: None
+        self._turn = self._kind.lock()
         if self._pipeline is not None:
             self._pipeline.session.forget()
         self._pipeline = None
@@ -198,9 +192,8 @@ class Producer(BaseProducer):
     at once. If the connection is lost between an offer and its reply, nobody can tell whether the job was accepted.
     Then it raises `InDoubtError`, or with `may_double=True` offers again: each job at least once, and perhaps twice.
 
-    An offer begins a session if there is none, which keeps one of the server's workers busy. It is left `session`
-    seconds later, by a daemon thread or in the loop, or with the next offer, and after three seconds if others may be
-    waiting.
+    An offer begins a session if there is none, which keeps one of the server's workers busy until `close`. The server
+    of a service ends it when its run ends, and the next offer begins another.
     """
 
     _session_of = Broker

@@ -7,7 +7,6 @@ import threading
 import time
 from collections.abc import Callable, Coroutine
 from concurrent.futures import ThreadPoolExecutor
-from contextlib import suppress
 from functools import wraps
 from typing import Any, ParamSpec, TypeVar
 
@@ -68,14 +67,6 @@ class Blocking:
     async def sleep(seconds: float) -> None:
         time.sleep(seconds)
 
-    @staticmethod
-    def later(seconds: float, begin: Callable[[], Task]) -> Callable[[], object]:
-        timer = threading.Timer(seconds, lambda: run(begin()))
-        timer.name, timer.daemon = "rb_broker_client-leaves", True
-        with suppress(RuntimeError):  # no thread can be had, as at the end of the interpreter
-            timer.start()
-        return timer.cancel
-
 
 class Looping:
     """How a client of asyncio waits."""
@@ -116,10 +107,6 @@ class Looping:
                 return bool(await lock.acquire())
         except TimeoutError:
             return False
-
-    @staticmethod
-    def later(seconds: float, begin: Callable[[], Task]) -> Callable[[], object]:
-        return asyncio.get_running_loop().call_later(seconds, lambda: asyncio.ensure_future(begin())).cancel
 
 
 Kind = type[Blocking] | type[Looping]

@@ -12,7 +12,7 @@ from functools import partial
 from time import monotonic
 from typing import Any
 
-from .durations import WAITED, Pauses, age
+from .durations import Pauses
 from .errors import BrokerError, FullError, OutOfMemoryError, StoppedError
 from .job import Again, Greeting, Job, Report
 from .request import Request
@@ -21,7 +21,6 @@ from .run import Run
 log = logging.getLogger("rb_broker_client.worker")
 
 BESIDE = 5  # while jobs run a wait lasts this part: what ends meanwhile is told only behind it
-REST = 5.0  # seconds for which an old session waits for its jobs
 
 Asked = tuple[Request[Any], Callable[[Any], None]]  # a request, and what takes its answer
 
@@ -34,16 +33,13 @@ class Work:
     with each job whose handler has ended.
     """
 
-    def __init__(self, wait: float, report: Report, pauses: Pauses, run: Run, limit: float, is_first: bool = False,
-                 attempts: float = math.inf) -> None:
-        """A wait for a job lasts so many seconds while none runs. The session may last `limit`, if its server does not
-        greet. Each job has so many attempts."""
+    def __init__(self, wait: float, report: Report, pauses: Pauses, run: Run, attempts: float = math.inf) -> None:
+        """A wait for a job lasts so many seconds while none runs. Each job has so many attempts."""
         self._attempts, self._is_lost = attempts, False
         self._wait, self._report, self._pauses, self._run = wait, report, pauses, run
-        self._limit, self._is_first, self._began = limit, is_first, monotonic()
         self.greeting: Greeting | None = None  # known once it is served
         self._waits: list[Request[Any]] = [Request.poll_for(it) for it in (wait, wait / BESIDE)]  # one beside jobs
-        self.is_served, self._end = False, math.inf  # when the session is old
+        self.is_served = False
         self._asked: deque[Callable[[Any], None]] = deque()  # what takes each answer that is due
         self._ended: list[Asked] = [(Request.greeting(), self._served)]  # what is to be sent
         self._held: dict[int, Job] = {}  # what the server gave, and has not said to have ended
@@ -59,27 +55,19 @@ class Work:
         self.given: list[Job] = []
         self.dead: list[Job] = []
 
-    @property
-    def is_old(self) -> bool:
-        """Whether the session is to be left once no job is in hand."""
-        return self.is_used_up or monotonic() >= self._end
-
     def ask(self, free: int, running: int, is_stopping: bool) -> list[Request[Any]]:
-        """What is to be sent now. `free` is how many more jobs can be started at once, and `running` how many run. An
-        old session fetches no more, so that it ends with the jobs in hand, and is left then. If these take long, it
-        goes on for as long as before."""
+        """What is to be sent now. `free` is how many more jobs can be started at once, and `running` how many run. A
+        session that is used up fetches no more, and is left once no job is in hand."""
         self._looked = monotonic()
-        if self._looked >= self._end + REST:
-            self._end = self._looked + self._limit
         if self._refused and (is_stopping or self._looked >= self._next_try):
             self._try_again(is_stopping)
         asked, self._ended = self._ended, []
         if not self.is_served or self._is_leaving:
             pass  # a wait that a busy server has not read can't be taken back, and may cost a job an attempt
-        elif (is_stopping or self.is_old) and not (self._held or self._asked):
+        elif (is_stopping or self.is_used_up) and not (self._held or self._asked):
             self._is_leaving = True
             asked.append((Request.quit(), self._left))
-        elif free > 0 and not (is_stopping or self.is_old) and self._may_fetch():
+        elif free > 0 and not (is_stopping or self.is_used_up) and self._may_fetch():
             asked += self._fetch(free, running)
         self._asked.extend([take for _, take in asked])
         return [request for request, _ in asked]
@@ -124,8 +112,7 @@ class Work:
     def pause(self) -> float:
         """Within how many seconds something is to be done though nothing happens, which was not to be done when it was
         asked last."""
-        moments = [it for it in (self._next_try, self._end, self._end + REST) if it > self._looked]
-        return max(min(moments) - monotonic(), 0) if moments else math.inf
+        return max(self._next_try - monotonic(), 0) if self._next_try > self._looked else math.inf
 
     def _try_again(self, is_stopping: bool) -> None:
         refused, self._refused = self._refused, []
@@ -200,9 +187,7 @@ class Work:
     def _served(self, answer: Any) -> None:
         _demand(answer)
         self._run.served(self.greeting)
-        self.is_served, now = True, monotonic()
-        if self.greeting is None:
-            self._end = now + age(self._limit, self._is_first or now - self._began >= WAITED)
+        self.is_served = True
 
     def _left(self, answer: Any) -> None:
         _demand(answer)

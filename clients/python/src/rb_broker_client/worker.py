@@ -53,8 +53,8 @@ class BaseWorker(Generic[Handler, OnDead]):
     _turns_of: ClassVar[Any]
 
     def __init__(self, handler: Handler, port: int, host: str = "127.0.0.1", *, concurrency: int = 1,
-                 wait: Duration = 1.0, patience: Duration = 10.0, session: Duration | None = 30.0,
-                 timeout: Duration | None = None, on_dead: OnDead | None = None, attempts: int | None = None,
+                 wait: Duration = 1.0, patience: Duration = 10.0, timeout: Duration | None = None,
+                 on_dead: OnDead | None = None, attempts: int | None = None,
                  on_lost_run: Callable[[LostRun], object] | None = None, tls: ssl.SSLContext | None = None,
                  pauses: Pauses | None = None, record: TextIO | None = None) -> None:
         """Connects to nothing yet.
@@ -62,8 +62,7 @@ class BaseWorker(Generic[Handler, OnDead]):
         `wait` is how long the worker waits for a job at a time, and so how long a stop takes at most while it is idle.
         It makes a call each time. While jobs run a wait is a fifth of that, since a server reads nothing behind a wait:
         the end of a job is told so much later at most. A reply that is `patience` late is taken for a lost session.
-        `session` is the age beyond which a session is left whose server does not greet; None keeps each as long as it
-        can be had. A job whose handler takes longer than `timeout` fails; its place is free once the handler returns.
+        A job whose handler takes longer than `timeout` fails; its place is free once the handler returns.
 
         `on_dead` is called with each job that failed and won't come back, and is the place to keep it: the server said
         so, or its run is full. That the last attempt ended with a lost session no reply tells: `attempts` is how many a
@@ -84,7 +83,6 @@ class BaseWorker(Generic[Handler, OnDead]):
         self._timeout = math.inf if timeout is None else seconds(timeout)
         self._attempts = math.inf if attempts is None else attempts
         self._pauses, self._run_known = pauses or Pauses(), Run(log, f"{host}:{port}", on_lost_run)
-        self._limit, self._is_first = math.inf if session is None else seconds(session), True
         self._turns = self._turns_of(concurrency > 1 or timeout is not None)
         self._has_run = self._is_stopping = self._is_connecting = False
         self._visit: tuple[Work, Session] | None = None
@@ -165,9 +163,7 @@ class BaseWorker(Generic[Handler, OnDead]):
             with ExitStack() as undo:
                 undo.callback(session.close)
                 await session._connect()
-                work = Work(self._wait, self.report, self._pauses, self._run_known, self._limit, self._is_first,
-                            self._attempts)
-                self._is_first = False
+                work = Work(self._wait, self.report, self._pauses, self._run_known, self._attempts)
                 session.post(*work.ask(0, 0, False))
                 undo.pop_all()
             self._turns.watch(session)
@@ -308,12 +304,10 @@ class Worker(BaseWorker[Callable[[Job], None], Callable[[Job], None]]):
     With a `concurrency` of 1 and no `timeout` the handler runs in the thread of `run`, and else in up to 64 threads of
     its own: it must bear to be called by several at a time.
 
-    It has one session at a time, which keeps one of the server's workers busy. A server that greets ends it when its
-    run is to end. At another one, a session that is older than `session` fetches no more and ends with its last job, or
-    goes on after five seconds; where others may be waiting it is old after three. So a server which is to be replaced
-    can end, and other clients have their turn. When a session is lost the worker connects again, after pauses that grow
-    while no server answers. So a job may be handled more than once, even if its handler returned: when the session is
-    lost before the server has read that the job is done, it comes back as its next attempt.
+    It has one session at a time, which keeps one of the server's workers busy. The server of a service ends it when its
+    run is to end, once it holds no job. When a session is lost the worker connects again, after pauses that grow while
+    no server answers. So a job may be handled more than once, even if its handler returned: when the session is lost
+    before the server has read that the job is done, it comes back as its next attempt.
 
     It never fetches more jobs than it can start at once.
     """

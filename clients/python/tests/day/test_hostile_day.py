@@ -24,7 +24,6 @@ from server import PATIENCE, ServedTest, start
 JOBS = int(os.environ.get("RB_BROKER_JOBS", 1_000))
 LONGEST = 120 + JOBS / 10  # seconds until all jobs are offered, or done
 HELD = 4  # jobs that a worker has at most
-SESSIONS = 600 + JOBS // 6  # of a server, which are more than a run uses: the rest is used up at its end
 POLICY = ("--delay", 2_000_000, "--attempts", 1_000)
 DELAYS = (0, 0, 0.001, 0.05, 0.4)
 PAUSE = 0.03  # seconds at most between two offers of a producer
@@ -36,8 +35,8 @@ class WorkerProcess:
     def __init__(self, handler, port, record):
         self.record, self.handler = record, handler
         open(record, "ab").close()
-        words = ["worker", f"hostile_handlers:{handler}", "--port", port, "--concurrency", HELD, "--session", 2,
-                 "--timeout", 1, "--record", record]
+        words = ["worker", f"hostile_handlers:{handler}", "--port", port, "--concurrency", HELD, "--timeout", 1,
+                 "--record", record]
         self._process = start([sys.executable, "-m", "rb_broker_client", *map(str, words)],
                               cwd=os.path.dirname(os.path.realpath(__file__)), stderr=subprocess.DEVNULL)
 
@@ -114,14 +113,13 @@ class HostileDayTest(ServedTest):
         self.began.append(time.monotonic_ns())
         opening = ["--from", self.histories[-1]] if self.histories else []
         self.histories.append(f"{self.room}/history-{len(self.histories)}")
-        self.server = self.serve("--workers", 16, "--sessions", SESSIONS, "--calls", calls, "--turns", 50, *POLICY,
-                                 *opening, "--history", self.histories[-1],
+        self.server = self.serve("--workers", 16, "--sessions", 10_000, "--calls", calls, "--turns", 50, *POLICY,
+                                 *opening, "--history", self.histories[-1], "--until-input-ends",
                                  port=self.server.port if opening else None)
 
     def end(self):
-        """Lets the server end, while clients go on."""
-        self.server.use_up()
-        lines = self.assert_ends(self.server, SESSIONS, self.histories[-1], POLICY, faults="[0-9]+", lost="[0-9]+")
+        """Ends the server, while clients go on."""
+        lines = self.assert_drained(self.server, self.histories[-1], POLICY, lost="[0-9]+")
         self.lost += int(lines[0].split(" ")[-1])
 
     def replace(self, calls):
@@ -146,7 +144,7 @@ class HostileDayTest(ServedTest):
                 self.workers[place] = self.start_worker(worker.handler)
 
     def options(self):
-        return {"session": 1, "patience": LONGEST, "pauses": Pauses(0.05, 0.5),
+        return {"patience": LONGEST, "pauses": Pauses(0.05, 0.5),
                 "record": open(self.record("producer"), "a", encoding="ascii")}
 
     def produce(self):

@@ -104,11 +104,11 @@ class ServedTest(ServingTest):
             self.assertEqual((ran.returncode, ran.stdout.strip(), ran.stderr), (0, lines[1], ""))
         return lines
 
-    def assert_cut(self, server, sessions, *history, lost="0"):
-        """The same of a server whose sessions are used up now. A client that was stopped between its connection and its
-        first reply may have left a fault."""
-        server.use_up()
-        return self.assert_ends(server, sessions, *history, faults="[0-9]+", lost=lost)
+    def assert_drained(self, server, *history, lost="0"):
+        """The same of one that is told to end now. A client that was stopped between its connection and its first reply
+        may have left a fault."""
+        server.drain()
+        return self.assert_ends(server, "[0-9]+", *history, faults="[0-9]+", lost=lost)
 
     def assert_attempts(self, histories, handled, attempts):
         """The histories have these attempts of each payload, and each that was given was handled once, as it was

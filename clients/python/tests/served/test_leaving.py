@@ -6,8 +6,8 @@ from rb_broker_client import Broker, FullError, Pauses, Producer, Report, Reques
 from server import PATIENCE, ServedTest
 
 POLICY = ("--delay", 1_000_000, "--attempts", 5)
-JOBS, SERVERS, SESSIONS = 1_500, 3, 1_000
-OFFERING = {"patience": 2 * PATIENCE, "session": 0.2, "pauses": Pauses(0.05, 0.2)}
+JOBS, SERVERS = 1_500, 3
+OFFERING = {"patience": 2 * PATIENCE, "pauses": Pauses(0.05, 0.2)}
 
 
 def is_done(job):
@@ -20,20 +20,21 @@ class LeavingTest(ServedTest):
         super().setUp()
         self.histories = []
 
-    def serve_run(self, port=None, calls=100_000):
-        """The next server, which continues the run of the one before."""
+    def serve_run(self, port=None, calls=100_000, greets=True):
+        """The next server, which continues the run of the one before. It greets unless it is told not to."""
         opening = ["--from", self.histories[-1]] if self.histories else []
         self.histories.append(f"{self.room}/{len(self.histories)}")
-        return self.serve("--workers", 6, "--sessions", SESSIONS, "--calls", calls, *POLICY, *opening, "--history",
-                          self.histories[-1], port=port)
+        opening += ["--greeting", f"RUN {len(self.histories)} lost 0 at {len(self.histories)}"] if greets else []
+        return self.serve("--workers", 6, "--sessions", 10_000, "--until-input-ends", "--calls", calls, *POLICY,
+                          *opening, "--history", self.histories[-1], port=port)
 
     def assert_ends_well(self, server, **counts):
-        """The server ends once its sessions are used up, though no client is told to leave."""
-        return self.assert_cut(server, SESSIONS, self.histories[-1], POLICY, **counts)
+        """The server ends when it is told to, though no client is."""
+        return self.assert_drained(server, self.histories[-1], POLICY, **counts)
 
     def test_jobs_are_done_through_servers_in_a_row(self):
         server = self.serve_run()
-        crew = self.gather(server, 3, is_done, session=0.2)
+        crew = self.gather(server, 3, is_done)
         port = server.port
         producing = self.begin(lambda: self.produce(port, JOBS, **OFFERING))
         for number in range(1, SERVERS):
@@ -69,12 +70,13 @@ class LeavingTest(ServedTest):
         self.assertEqual([len(crew.done()), len({*crew.done()})], [JOBS - report.lost] * 2)
 
     def test_a_run_that_was_lost_is_logged_and_one_that_goes_on_is_not(self):
-        """A worker and a producer are idle when a server ends well and one is killed, and go on with the next."""
-        server = self.serve_run()
-        crew = self.gather(server, 1, is_done, session=0.3)
+        """A worker and a producer are idle when a server ends well and one is killed, and go on with the next. None
+        greets, so ids show it."""
+        server = self.serve_run(greets=False)
+        crew = self.gather(server, 1, is_done)
         logging.disable(logging.NOTSET)
         with self.assertLogs("rb_broker_client", logging.ERROR) as said, \
-                Producer(server.port, patience=PATIENCE, session=0.3) as producer:
+                Producer(server.port, patience=PATIENCE) as producer:
             def offer(*numbers):
                 for it in numbers:
                     producer.offer(str(it))
@@ -82,12 +84,12 @@ class LeavingTest(ServedTest):
 
             offer(*range(1, 30))
             self.assert_ends_well(server)
-            server = self.serve_run(server.port)
+            server = self.serve_run(server.port, greets=False)
             offer(*range(30, 60))
             self.assertEqual(said.records, [])
             server.kill()
             self.histories.pop()
-            self.serve_run(server.port)
+            self.serve_run(server.port, greets=False)
             offer(*range(60, 90))
             crew.stop()
         logging.disable(logging.CRITICAL)

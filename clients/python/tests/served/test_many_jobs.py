@@ -14,9 +14,9 @@ POLICY = ("--delay", 1_000_000, "--attempts", ATTEMPTS)
 
 
 class ManyJobsTest(ServedTest):
-    def assert_handled(self, count, needed, assert_ends, sessions, crew, **options):
+    def assert_handled(self, count, needed, crew, **options):
         """Jobs of which each needs so many attempts are handled by workers until they are done or dead."""
-        path = self.path("history")
+        path, sessions = self.path("history"), crew + 1  # however long it takes
         server = self.serve("--workers", crew + 1, "--sessions", sessions, "--calls", 1_000_000, *POLICY, "--history",
                             path)
         crew = self.gather(server, crew, lambda job: job.attempt == needed(int(job.payload)), **options)
@@ -25,29 +25,28 @@ class ManyJobsTest(ServedTest):
         self.wait_until(lambda: len(crew.handled) >= sum(given.values()), seconds=LONGEST)
         dead = sum(needed(it) > ATTEMPTS for it in given)
         self.assertEqual(crew.stop(), Report(done=count - dead, again=sum(given.values()) - count, dead=dead))
-        assert_ends(server, sessions, path, POLICY)
+        self.assert_ends(server, sessions, path, POLICY)
         self.assert_attempts([path], crew.handled, {str(it): [*range(1, most + 1)] for it, most in given.items()})
 
     def test_each_job_is_handled_until_it_is_done_or_dead(self):
         needed = lambda number: ATTEMPTS + 1 if number % 100 == 0 else 1 + (number % 10 == 0)
-        # The server counts five sessions, however long it takes.
-        self.assert_handled(20_000, needed, self.assert_ends, 5, crew=4, session=None)
+        self.assert_handled(20_000, needed, crew=4)
 
-    def test_many_at_the_same_time_and_sessions_that_end(self):
+    def test_many_at_the_same_time(self):
         needed = lambda number: 1 + (number % 7 == 0) + (number % 49 == 0)
-        self.assert_handled(6_000, needed, self.assert_cut, 200, crew=2, concurrency=16, session=0.3)
+        self.assert_handled(6_000, needed, crew=2, concurrency=16)
 
     def test_by_their_records_tools_verify_finds_no_fault(self):
         history, jobs = self.path("history"), 1_000
-        server = self.serve("--workers", 5, "--sessions", 300, "--calls", 100_000, *POLICY, "--history", history)
+        server = self.serve("--workers", 5, "--sessions", 5, "--calls", 100_000, *POLICY, "--history", history)
         with open(self.path("record"), "a", encoding="ascii") as record:
-            options = {"session": 0.5, "record": record}
+            options = {"record": record}
             crews = [self.gather(server, count, lambda job: job.attempt > 1 or int(job.payload) % 5, concurrency=most,
                                  **options) for count, most in ((1, 1), (2, 8))]
             self.produce(server.port, jobs, **options)
             self.wait_until(lambda: sum(len(it.done()) for it in crews) >= jobs)
             counts = [vars(it.stop()) for it in crews]
-        self.assert_cut(server, 300)
+        self.assert_ends(server, 5)
         self.assertEqual([sum(it[name] for it in counts) for name in vars(Report())], [jobs, jobs // 5, 0, 0, 0])
         self.assert_verified("--all", history, self.path("record"))  # the record has each call
 
@@ -72,7 +71,7 @@ class FarTest(ServedTest):
             server, proxy = self.far("--sessions", 2)
             self.offer(server, *range(self.JOBS))
             with open(self.path(kind.__name__), "a", encoding="ascii") as record:
-                options, began = {"concurrency": self.PLACES, "session": None, "record": record}, time.monotonic()
+                options, began = {"concurrency": self.PLACES, "record": record}, time.monotonic()
                 worker = kind(handler, proxy.port, **options)
                 thread = self.begin_worker(worker)
                 self.wait_until(lambda: worker.report.done == self.JOBS)

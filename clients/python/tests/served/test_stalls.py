@@ -1,4 +1,4 @@
-"""Handlers that hang, more clients than workers, and servers that are busy or let nothing wait."""
+"""Handlers that hang, and servers that are busy or let nothing wait."""
 import asyncio
 import threading
 import time
@@ -9,7 +9,6 @@ from server import PATIENCE, ServedTest
 
 QUICK = 40  # jobs that come while one hangs
 PAUSE = 0.1  # seconds between two of them
-AGE = 1.0  # seconds beyond which a session is left: they come over several of these
 
 
 class HangTest(ServedTest):
@@ -32,7 +31,7 @@ class HangTest(ServedTest):
     def work(self, server, kind, **options):
         """A worker of this kind, and the thread that runs it."""
         handler = self.handle if kind is Worker else self.handle_async
-        worker = kind(handler, server.port, concurrency=16, **{"session": AGE, **options})
+        worker = kind(handler, server.port, concurrency=16, **options)
         return worker, self.begin_worker(worker)
 
     def offer_slowly(self, offer):
@@ -45,18 +44,18 @@ class HangTest(ServedTest):
         self.may_end.set()
         self.assert_stops(worker, thread, report)
 
-    def test_jobs_go_on_being_fetched_in_an_old_session(self):
+    def test_jobs_go_on_being_fetched(self):
         for kind in (Worker, AsyncWorker):
             self.done.clear()
             self.may_end.clear()
-            server = self.serve("--workers", 4, "--sessions", 100)  # of which two are never taken
+            server = self.serve("--workers", 4, "--sessions", 2)
             worker, thread = self.work(server, kind)
             with Producer(server.port) as producer:
                 self.offer_slowly(producer.offer)
             self.wait_until(lambda: len(self.done) == QUICK, 2 * PATIENCE)
             self.assertNotIn("hangs", self.done)
             self.assert_finishes(worker, thread, Report(done=QUICK + 1))
-            self.assert_cut(server, 100)
+            self.assert_ends(server, 2)
 
     def test_a_job_that_takes_too_long_fails_and_is_given_again(self):
         server = self.serve("--workers", 4, "--sessions", 100, "--attempts", 2)
@@ -70,7 +69,7 @@ class HangTest(ServedTest):
 
 
 class CrowdTest(ServedTest):
-    """More clients than the server has workers, or waits that it gives up."""
+    """A server that is busy, or gives waits up."""
 
     def test_a_server_that_gives_each_wait_up(self):
         server = self.serve("--turns", 0, "--sessions", 3)
@@ -89,19 +88,6 @@ class CrowdTest(ServedTest):
             time.sleep(0.3)  # it is connected then, and waits for its first reply
             self.assertEqual(crew.stop(), Report())
             broker.quit()
-        self.assert_cut(server, 2, self.path("history"))
+        self.assert_ends(server, 2, self.path("history"), faults="[0-9]+")
         history = History(self.path("history"))
         self.assertEqual((history.attempts(), history.given), ({"letter": [1]}, []))
-
-    def test_a_producer_has_its_turn_beside_idle_workers(self):
-        server = self.serve("--workers", 4, "--sessions", 2_000, "--turns", 50)
-        crew = self.gather(server, 8, lambda job: True)
-        time.sleep(0.5)  # all of the server's workers have one of them
-        for payload in ("first", "second"):
-            with Producer(server.port) as producer:
-                began = time.monotonic()
-                producer.offer(payload)
-                self.assertLess(time.monotonic() - began, 15)
-            self.assertGreater(producer.waited, 0)
-        self.wait_until(lambda: len(crew.done()) == 2)
-        self.assertEqual(crew.stop(), Report(done=2))

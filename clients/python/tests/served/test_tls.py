@@ -50,8 +50,8 @@ class TlsTest(ServedTest):
 
     def test_jobs_from_their_offers_to_their_ends(self):
         proxy, tls = self.protect(), self.certificates.client()
-        crew = self.gather(proxy, 2, lambda job: True, concurrency=8, session=0.3, tls=tls)
-        self.produce(proxy.port, JOBS, session=0.3, tls=tls)
+        crew = self.gather(proxy, 2, lambda job: True, concurrency=8, tls=tls)
+        self.produce(proxy.port, JOBS, tls=tls)
         self.wait_until(lambda: len(crew.done()) == JOBS)
         self.assertEqual(crew.stop(), Report(done=JOBS))
         self.assertEqual(sorted(crew.done()), sorted(map(str, range(JOBS))))

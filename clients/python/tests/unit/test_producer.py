@@ -12,16 +12,10 @@ from rb_broker_client import (
 )
 
 OFFER, FIRST, SECOND = "OFFER 5 a", "OFFER 5 a > OFFERED 0 5", "OFFER 5 a > OFFERED 1 5"
-AGE = 0.5  # seconds beyond which a session is left: long enough for an offer before, on a busy machine too
 
 
 def offer(producer, payload="a"):
     return producer.offer(payload, delay=5e-9)
-
-
-def leaving_threads():
-    """How many threads leave an old session."""
-    return [it.name for it in threading.enumerate()].count("rb_broker_client-leaves")
 
 
 class ProducerCase(ScriptedTest):
@@ -41,7 +35,7 @@ class ProducerCase(ScriptedTest):
         self.assertTrue(self.server.ended.acquire(timeout=PATIENCE))
 
     def assert_session_goes_on(self):
-        self.assertFalse(self.server.ended.acquire(timeout=2 * AGE))
+        self.assertFalse(self.server.ended.acquire(timeout=0.5))
 
 
 @for_both_kinds
@@ -110,57 +104,19 @@ class ProducerTest(ProducerCase):
         self.assertEqual(offer(producer), Offered(1, 5))
 
 
-@for_both_kinds
-class AgeTest(ProducerCase):
-    """A session that is as old as it may be is left, and the next offer begins another."""
+class SessionTest(ProducerCase):
+    """A session goes on until it is lost or the producer is closed. That takes no thread. A forked process has its own.
+    """
 
-    def test_an_idle_producer_leaves_by_itself(self):
-        for reply in ("BYE", "hangs up"):
-            with self.produce(f"{FIRST}; QUIT > {reply}", SECOND, session=AGE) as producer:
-                self.assertEqual(offer(producer), Offered(0, 5))
-                self.assert_session_ends()
-                self.assertEqual(offer(producer), Offered(1, 5))
-
-    def test_an_offer_that_goes_on_is_answered_first(self):
-        self.old = lambda _: time.sleep(2 * AGE)
-        producer = self.produce(f"{OFFER} > old: OFFERED 0 5; QUIT", session=AGE)
+    def test_it_goes_on_between_two_offers(self):
+        producer, threads = self.produce(f"{FIRST}; {SECOND}"), threading.active_count()
         self.assertEqual(offer(producer), Offered(0, 5))
-        self.assert_session_ends()
-
-    def test_ages_that_make_no_sense(self):
-        for age in (0, -1.0, float("nan")):
-            self.assertRaises(ValueError, self.kind, 7011, session=age)
-
-
-class LeavingThreadTest(ProducerCase):
-    """The thread that leaves an old session while there is no offer."""
-
-    def test_where_no_thread_can_be_had_the_next_offer_leaves(self):
-        producer = self.produce(f"{FIRST}; QUIT", SECOND, session=AGE)
-        with unittest.mock.patch("threading.Timer.start", side_effect=RuntimeError("can't start new thread")):
-            self.assertEqual(offer(producer), Offered(0, 5))
-            self.assert_session_goes_on()
-            self.assertEqual(offer(producer), Offered(1, 5))
-
-    def test_none_keeps_it_without_a_thread(self):
-        producer = self.produce(f"{FIRST}; {SECOND}", session=None)
-        self.assertEqual(offer(producer), Offered(0, 5))
-        self.assertEqual(leaving_threads(), 0)
         self.assert_session_goes_on()
+        self.assertEqual(threading.active_count(), threads)
         self.assertEqual(offer(producer), Offered(1, 5))
 
-    def test_a_closed_producer_leaves_no_thread(self):
-        producer = self.produce(FIRST)
-        offer(producer)
-        self.assertEqual(leaving_threads(), 1)
-        producer.close()
-        deadline = time.monotonic() + PATIENCE
-        while leaving_threads() and time.monotonic() < deadline:
-            time.sleep(0.01)
-        self.assertEqual(leaving_threads(), 0)
-
     def test_a_forked_process_has_a_session_of_its_own(self):
-        producer = self.produce(f"{FIRST}; {SECOND}", session=None)
+        producer = self.produce(f"{FIRST}; {SECOND}")
         offer(producer)
         self.offer_in_fork(producer)
         self.assertEqual(offer(producer), Offered(1, 5))
@@ -183,7 +139,7 @@ class LeavingThreadTest(ProducerCase):
         is_asked, may_answer, told = threading.Event(), threading.Event(), []
         self.goes_on = lambda _: is_asked.set() or may_answer.wait(PATIENCE)
         for steps in (f"AT 0 > goes_on: ERR 1 syntax; {FIRST}", f"{OFFER} > goes_on: OFFERED 0 5"):
-            producer = self.produce(steps, session=None)
+            producer = self.produce(steps)
             thread = threading.Thread(target=lambda: told.append(offer(producer)), daemon=True)
             thread.start()
             self.assertTrue(is_asked.wait(PATIENCE))

@@ -8,7 +8,9 @@ from from_threads import for_both_kinds
 from scripted import PATIENCE
 from test_producer import ProducerCase, offer
 from worker_case import A, LAST, WorkerCase, paragraphs
-from rb_broker_client import Greeting, LostRun, NotOfferedError, Offered, Report, UnknownReplyError
+from rb_broker_client import (
+    Greeting, InDoubtError, LostRun, NotOfferedError, Offered, Report, UnknownReplyError,
+)
 from rb_broker_client.run import Run
 
 
@@ -85,6 +87,18 @@ class ProducerTest(ProducerCase):
         self.assertIn("has lost a run: what it accepted in the 3.0 seconds before its run 8 is in doubt", said[0])
         wait_for(lambda: told)
         self.assertEqual(told, [LostRun(5, 3_000_000_005)])
+
+    def test_what_a_run_did_not_answer_that_another_one_continues_is_offered_there(self):
+        unheard = f"{GREETS.format(7, 2, 5)}; OFFER 5 a > hangs up"
+        producer = self.produce(unheard, f"{GREETS.format(8, 2, 9)}; OFFER 5 a > OFFERED 0 5")
+        self.assertEqual(offer(producer).greeting.run, 8)
+        producer = self.produce(unheard, "AT 0 > hangs up", f"{GREETS.format(8, 2, 9)}; OFFER 5 a > OFFERED 0 5")
+        self.assertEqual(offer(producer), Offered(0, 5))
+        for other in (GREETS.format(8, 3, 9), GREETS.format(7, 2, 5), GREETS.format(8, 2, 4), "AT 0"):
+            with self.subTest(other):
+                producer = self.produce(unheard, other)
+                self.assertRaises(InDoubtError, offer, producer)
+                producer.close()
 
     def test_what_a_producer_says_that_waits(self):
         is_over = threading.Event()

@@ -29,11 +29,11 @@ class WorkTest(unittest.TestCase):
                     step, _, words = it.partition(" ")
                     getattr(self, step)(words)
 
-    def begin(self, concurrency=1, age=math.inf, first=0.4, longest=0.4, attempts=math.inf, run=None):
+    def begin(self, concurrency=1, first=0.4, longest=0.4, attempts=math.inf, run=None):
         """Begins a session, which is served at once."""
         known = Run(logging.getLogger("rb_broker_client.worker"), "a place")
         self.report, self.concurrency, self.running, self.is_stopping = Report(), concurrency, 0, True
-        self.work = Work(1.0, self.report, Pauses(first, longest), known, age, attempts=attempts)
+        self.work = Work(1.0, self.report, Pauses(first, longest), known, attempts)
         self.work.greeting = Greeting(run, 0, 0) if run else None
         self.due, self.jobs = deque(), {}
         self.asks("AT 0")

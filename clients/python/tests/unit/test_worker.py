@@ -8,7 +8,7 @@ import time
 
 from from_threads import for_both_kinds
 from scripted import PATIENCE, free_port
-from worker_case import A, AGE, GIVES_A, GIVES_B, LAST, WorkerCase, clock, pass_on
+from worker_case import A, GIVES_A, GIVES_B, LAST, WorkerCase
 from rb_broker_client import AsyncWorker, Job, Pauses, Report, UnknownReplyError, Worker
 
 FULL = "WAIT > ERR 6 full; QUIT"
@@ -18,7 +18,7 @@ ENDS = f"{A}; {GIVES_B}; FAIL 1 > AGAIN 2 1000; WAIT > NONE; WAIT > ITEM 2 1000 
 @for_both_kinds
 class JobTest(WorkerCase):
     def test_what_is_reported(self):
-        self.assert_scripts("worker.txt", session=AGE)
+        self.assert_scripts("worker.txt")
 
     def test_jobs_are_done_or_fail(self):
         dead = []
@@ -63,7 +63,7 @@ class JobTest(WorkerCase):
 
     def test_options_that_make_no_sense(self):
         no_duration = (0, -1.0, float("nan"))
-        for option, wrong in {"concurrency": (0, -1, 65), "session": no_duration, "timeout": no_duration}.items():
+        for option, wrong in {"concurrency": (0, -1, 65), "patience": no_duration, "timeout": no_duration}.items():
             for it in wrong:
                 self.assertRaises(ValueError, self.kind, self.handle, 7011, **{option: it})
         for handler in ("handle", None, 5):
@@ -71,14 +71,6 @@ class JobTest(WorkerCase):
                 self.assertRaisesRegex(TypeError, "a function is to be called", kind, handler, 7011)
         for concurrency in (1, 2):
             self.assertRaises(UnicodeError, self.kind(self.handle, 7011, "a..b", concurrency=concurrency).run)
-
-    def test_without_being_told_a_session_lasts_thirty_seconds_and_none_keeps_it(self):
-        seconds = iter([2.5, 0.5, 29.5, 0.5])  # the first session is brief, and none is served late
-        with clock() as now:
-            self.assert_reports(Report(done=4), f"{A}; {A}; QUIT", f"{A}; {A}; QUIT", LAST,
-                                handler=lambda _: pass_on(now, next(seconds)))
-        with clock() as now:
-            self.assert_reports(Report(done=1), f"{A}; {LAST}", handler=lambda _: pass_on(now, 1e9), session=None)
 
     def test_pauses_grow_until_a_wait_is_answered(self):
         noted = []
@@ -159,7 +151,7 @@ class LogTest(WorkerCase):
 
     def test_the_first_session_is_not_served_again(self):
         with self.logged(logging.INFO) as said:
-            self.work(f"{GIVES_B}; FAIL 1 > AGAIN 2 5; WAIT > old: NONE; QUIT", LAST, session=AGE).run()
+            self.work(f"{GIVES_B}; FAIL 1 > AGAIN 2 5; {LAST}").run()
         (text,) = said
         self.assertRegex(text, "^WARNING:.*:attempt 1 of job b failed\n")
 

@@ -6,7 +6,6 @@ import unittest.mock
 from scripted import PATIENCE, ScriptedTest, table
 from rb_broker_client import Pauses, Report, Worker
 
-AGE = 0.5  # seconds beyond which a session is left: long enough for what is to happen before, on a busy machine too
 LONG_ENOUGH = 0.05  # seconds after which a wait has waited
 GIVES_A, GIVES_B = "WAIT > ITEM 0 0 1 a", "WAIT > ITEM 1 0 1 b"
 A, LAST = f"{GIVES_A}; DONE 0", "WAIT > stops: NONE; QUIT"  # a job that is done, and the end of a worker
@@ -26,8 +25,7 @@ def paragraphs(name):
 
 
 class WorkerCase(ScriptedTest):
-    """A worker of one scripted server. The payload `b` fails, `slow` takes longer than a session, and so does `slow-b`,
-    which fails, and `stop` stops the worker."""
+    """A worker of one scripted server. The payload `b` fails, and `stop` stops the worker."""
 
     kind = Worker
 
@@ -63,11 +61,9 @@ class WorkerCase(ScriptedTest):
 
     def handle(self, job):
         self.handled.append(job)
-        if job.payload.startswith("slow"):
-            time.sleep(2 * AGE)
         if job.payload == "stop":
             self.worker.stop()
-        if job.payload.endswith("b"):
+        if job.payload == "b":
             raise ValueError("the payload is b")
 
     def stops(self, _):
@@ -77,10 +73,6 @@ class WorkerCase(ScriptedTest):
     def late(self, _):
         """The wait waits."""
         time.sleep(LONG_ENOUGH)
-
-    def old(self, _):
-        """A session of half a second is old then."""
-        time.sleep(2 * AGE)
 
 
 class Jobs:
@@ -131,13 +123,3 @@ class ConcurrencyCase(WorkerCase):
     def beside(self, _, other, payload):
         """Another job begins by the reply, whereupon this one ends."""
         threading.Thread(target=self.jobs.end_once_begun, args=(payload, other), daemon=True).start()
-
-
-def clock():
-    """The clock of sessions, which stands still."""
-    return unittest.mock.patch("rb_broker_client.work.monotonic", return_value=1_000.0)
-
-
-def pass_on(clock, seconds):
-    """The clock goes on by these seconds."""
-    clock.return_value += seconds
