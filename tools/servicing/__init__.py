@@ -11,7 +11,7 @@
     server.py        a server: how it is started, found, told to end, and what it leaves
     looking.py, connections.py, session.py   what is seen of a server
     saying.py        how others ask for the end, and what they are told
-    showing.py       what the service shows of itself
+    showing.py, hour.py                      what the service shows of itself, and keeps of its last hour
     state.py         all that the service knows and shows at one moment; `Board` holds the latest
     metrics.py       the numbers of a state, also as Prometheus reads them
     shown.py         a state as texts, for the page, --status and systemd

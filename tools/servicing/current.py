@@ -74,7 +74,7 @@ class Current:
         """Watches the server until its run has to end, and returns why. None if it has ended by itself."""
         while not self.server.has_ended:
             self._see(self.looks.look)
-            why = Reason.ASKED if self._signals.count else self._other_settings() or why_to_end(self._seen())
+            why = Reason.ASKED if self._signals.count else self._wanted() or why_to_end(self._seen())
             if why is not None:
                 return why
             self._signals.wait(self.looks.due(LOOK, SOONEST), self.server.input)
@@ -101,8 +101,11 @@ class Current:
             elements=looks.queue.elements if looks.queue else None, moment=looks.moment, aside=self.record.aside,
             first_aside=self._first_aside)
 
-    def _other_settings(self) -> Reason | None:
-        """Why the run has to end if it was begun by a service with another policy. Its history is checked by that."""
+    def _wanted(self) -> Reason | None:
+        """Why the run has to end if somebody asks for that on the page, or if it was begun by a service with another
+        policy. Its history is checked by that."""
+        if self._parts.showing.takes_end():
+            return Reason.PAGE
         run, was, now = self.record.number, self.record.policy, tuple(self._settings.policy)
         if was == now:
             return None

@@ -2,13 +2,19 @@
 from html import escape
 from typing import Iterable, Sequence
 
+from servicing.hour import charts
 from servicing.shown import attention, headline, since, tables
 from servicing.state import LOST_JOBS, LOST_RUN, Phase, State
 from rb_broker_redis.watching.page import Shown, page_of, section
 
 
-def page(state: State) -> str:
-    """The page that shows a state."""
+# Leads to site.END.
+FORM = ('<section id="changes"><h2>Changes</h2><form method="post" action="end"><input type="hidden" name="token" '
+        'value="{}"><button>End this run now</button></form></section>\n')
+
+
+def page(state: State, token: str = "") -> str:
+    """The page that shows a state. With a token it can end the run."""
     links = {str(it.number): f'<a href="runs/{it.number}">{it.number}</a>' for it in state.runs if it.has_history}
 
     def linked(row: Sequence[str]) -> Iterable[str]:
@@ -16,7 +22,10 @@ def page(state: State) -> str:
 
     return page_of(Shown(
         f"rb_broker, port {state.port}", f"{headline(state)}: rb_broker {state.port}", _kind(state), since(state),
-        attention(state), (section(it, linked) if it.heading[0] == "run" else section(it) for it in tables(state))))
+        attention(state), [
+            charts(state.hour),
+            *(section(it, linked) if it.heading[0] == "run" else section(it) for it in tables(state)),
+            FORM.format(escape(token)) if token else ""], "'self'" if token else "'none'"))
 
 
 def _kind(state: State) -> str:

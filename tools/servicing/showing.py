@@ -5,6 +5,7 @@ from dataclasses import replace
 from typing import Iterator, Sequence
 
 from histories.grammar import MOST_OPENING_ELEMENTS
+from servicing.hour import Hour, Mark
 from servicing.looking import Looks
 from servicing.runs import Runs
 from servicing.saying import notify, say
@@ -32,6 +33,7 @@ class Showing:
         self.unwritten = 0
         self._raised: dict[str, Alert] = {}  # alerts that the service has raised
         self._counted = Traffic()  # in runs that have ended
+        self._hour = Hour()
 
     def enter(self, phase: Phase, why: Reason | None = None, **told: object) -> None:
         """Another phase begins, which a line says."""
@@ -53,6 +55,11 @@ class Showing:
         if self._raised.pop(name, None):
             say("info", f"{name}-over")
 
+    def takes_end(self) -> bool:
+        """Whether somebody has asked for the end of the run on the page since this was asked last."""
+        is_to_end, self._board.is_to_end = self._board.is_to_end, False
+        return is_to_end
+
     def count(self, offered: int, left: int, failed: int) -> None:
         """Adds what is known of a run that has ended, in the place of what was seen of it."""
         it, self.looks = self._counted, None
@@ -72,8 +79,10 @@ class Showing:
         traffic = Traffic(*(max(pair) for pair in zip(traffic, self._state.traffic)))
         seen = {it: getattr(looks, it, None) for it in (
             "queue", "clients", "calls", "offered_a_second", "left_a_second")}
+        queue, now = seen["queue"], time.time()
+        hour = self._hour.add(Mark(now, *traffic, queue.elements if queue else None, queue.late if queue else None))
         self._state = state = replace(
-            self._state, at=time.time(), waits_for=self.waits_for, run=self.run, traffic=traffic, runs=runs,
+            self._state, at=now, hour=hour, waits_for=self.waits_for, run=self.run, traffic=traffic, runs=runs,
             lost_runs=last.lost if last else 0, lost_jobs=last.lost_jobs if last else 0,
             alerts=(*self._raised.values(), *self._alerts(runs)), unwritten=self.unwritten, **seen)
         self._board.put(state)

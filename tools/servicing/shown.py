@@ -14,7 +14,7 @@ LATE = 1.0  # seconds from which on lateness is told
 RUN = ("run", "began", "lasted", "at the start", "calls", "left")  # the columns of each run
 
 WHY = {
-    Reason.ASKED: "asked to end", Reason.TIME: "its time was up", Reason.CALLS: "few calls were left",
+    Reason.ASKED: "asked to end", Reason.PAGE: "asked to end on the page", Reason.TIME: "its time was up", Reason.CALLS: "few calls were left",
     Reason.SESSIONS: "no session was left", Reason.TURNS: "clients waited for a worker",
     Reason.ELEMENTS: "elements that were set aside had room",
     Reason.SETTINGS: "failed jobs are to come back otherwise", Reason.KILLED: "lost: its server was killed",

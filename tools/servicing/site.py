@@ -4,19 +4,23 @@
     /metrics  the numbers, as Prometheus reads them
     /health   the status as text: 200 as long as clients are served, or will be within seconds, and otherwise 503
     /runs/N   the report on a run that has ended
+    /end      what the page's form asks for with --allow-changes, with the token that the page has: the end of the run
 
 Whatever clients send, or leave out, the service goes on: they are answered from the board, and from histories that are
 kept, alone. The same is always answered at the socket `status` in the folder, for `tools/service --status`: to the user
 of the service, and to root.
 """
 import functools
+import hmac
 import os
+import secrets
 import socket
 import subprocess
 import sys
 import threading
 from http import HTTPStatus
 from pathlib import Path
+from urllib.parse import parse_qs
 
 from servicing.folder import Unusable
 from servicing.http import OwnerServer, short_name
@@ -29,6 +33,7 @@ from rb_broker_redis.watching.http import Answer, HttpServer, is_loopback
 
 SOCKET = "status"  # in the folder
 ACKNOWLEDGE = "/acknowledge"  # asked for there, it ends the alerts of what is lost
+END = "/end"
 PATIENCE = 5.0  # seconds for an answer
 
 TOOL = Path(__file__).resolve().parent.parent / "report"
@@ -37,18 +42,20 @@ NICENESS = 15  # the server and its clients come first
 _MAKING = threading.Lock()
 
 
-def serve_pages(board: Board, folder: str, http: tuple[str, int] | None) -> None:
+def serve_pages(board: Board, folder: str, http: tuple[str, int] | None, allows_changes: bool = False) -> None:
     """Shows what is on a board at the socket of a folder, and at an address if there is one. Raises an `Unusable` if
     that can't be had."""
+    board.token = secrets.token_urlsafe() if allows_changes else ""
     answer = functools.partial(answer_of, board, folder)
     if http:
         try:
-            HttpServer(http, answer)
+            HttpServer(http, answer, functools.partial(change, board))
         except OSError as fault:
             raise Unusable(f"--http {http[0]}:{http[1]}: {fault.strerror}") from None
         if not is_loopback(http[0]):
             say("warning", "pages", text=f"{http[0]} is not a loopback address: whoever can reach it can read what the "
-                "page shows, and payloads in reports, without a password or encryption; nothing can be changed by it")
+                "page shows, and payloads in reports, without a password or encryption; "
+                f"{'the run can be ended' if allows_changes else 'nothing can be changed'} by it")
     path = os.path.join(folder, SOCKET)
     try:
         OwnerServer(path, answer, {ACKNOWLEDGE: functools.partial(setattr, board, "is_acknowledged", True)})
@@ -60,13 +67,24 @@ def answer_of(board: Board, folder: str, path: str) -> Answer | None:
     """The answer to a path. None if there is nothing."""
     state, status = board.state, HTTPStatus.OK
     if path == "/":
-        return Answer(status, "text/html", page(state))
+        return Answer(status, "text/html", page(state, board.token))
     if path == "/metrics":
         return Answer(status, "text/plain; version=0.0.4", metrics(state))
     if path == "/health":
         return Answer(status if state.is_healthy else HTTPStatus.SERVICE_UNAVAILABLE, "text/plain", text(state))
     run = next((it for it in state.runs if it.has_history and path == f"/runs/{it.number}"), None)
     return _report_on(run, folder) if run else None
+
+
+def change(board: Board, path: str, body: bytes) -> Answer | None:
+    """Asks for the end of the run, if it is told the token, which only the page tells. None if nothing may be asked."""
+    if not board.token or path != END:
+        return None
+    given = parse_qs(body.decode("ascii", "replace")).get("token", [""])[0]
+    if not hmac.compare_digest(given.encode(), board.token.encode()):
+        return Answer(HTTPStatus.FORBIDDEN, "text/plain", "this page is old: load it again\n")
+    board.is_to_end = True
+    return Answer(HTTPStatus.SEE_OTHER, text="/")
 
 
 def _report_on(run: Run, folder: str) -> Answer | None:

@@ -10,6 +10,7 @@ from typing import Callable, NamedTuple
 
 from servicing.clock import Reading
 from servicing.connections import Connection
+from servicing.hour import Mark
 
 # Nanoseconds in which a server begins to serve, and for each element of its opening.
 SLOWEST_START, SLOWEST_ELEMENT = 10_000_000_000, 100_000
@@ -39,6 +40,7 @@ class Reason(str, Enum):
     """Why a run ends."""
 
     ASKED = "asked"  # SIGTERM or SIGINT
+    PAGE = "page"  # asked for on the page; the next run follows
     TIME = "time"  # --every
     CALLS = "calls"  # few are left, or none
     SESSIONS = "sessions"
@@ -189,6 +191,7 @@ class State:
     lost_jobs: int = 0  # the same of jobs that could not come back, since their run was full
     alerts: tuple[Alert, ...] = ()
     unwritten: int = 0  # bytes of a file that can't be written, and that are in memory only
+    hour: tuple[Mark, ...] = ()  # the last one
 
     # How many clients have a worker, wait for one, do not read and say nothing.
     served = property(lambda self: self._count(lambda it: it.is_served))
@@ -243,6 +246,8 @@ class Board:
         self.put(State(time.time(), port, Phase.STARTING, time.time(), time.time()))
 
     is_acknowledged = False  # whether somebody has acknowledged what was lost, and the service has not seen that yet
+    token = ""  # which a form of the page sends that changes something. Without one nothing can be changed
+    is_to_end = False  # whether somebody has asked for the end of the run there, and the service has not seen that yet
 
     def put(self, state: State) -> None:
         self._put, self._state = time.monotonic(), state

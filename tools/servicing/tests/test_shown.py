@@ -68,6 +68,15 @@ class ShownTest(ServiceTest):
         self.assertRaises(ConnectionRefusedError, self.get, "/health")
         self.assertEqual(self.status().returncode, 1)
 
+    def test_a_run_is_ended_on_the_page(self) -> None:
+        with self.serving("--allow-changes", "--http", f"127.0.0.1:{self.page}") as service:
+            token = re.findall('name="token" value="([^"]+)"', self.get("/")[1])[0]
+            with contextlib.closing(http.client.HTTPConnection("127.0.0.1", self.page, timeout=PATIENCE)) as it:
+                it.request("POST", "/end", f"token={token}")
+                self.assertEqual(it.getresponse().status, 303)
+            service.wait("serving", 2)
+            self.assertEqual([it["why"] for it in service.all("ending")], ["page"])
+
     def test_an_address_that_can_not_be_had(self) -> None:
         self.enterContext(socket.create_server(("127.0.0.1", self.page)))
         ran = run_tool("service", "--port", self.port, "--folder", self.path("other"), "--program", tested_program(),

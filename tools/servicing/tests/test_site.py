@@ -19,7 +19,7 @@ from servicing.http import short_name
 from servicing.metrics import metrics
 from servicing.page import page
 from servicing.shown import text
-from servicing.site import answer_of, print_status, serve_pages
+from servicing.site import answer_of, change, print_status, serve_pages
 from servicing.state import Board, Phase
 from servicing.tests.support import ENDED, FULL_DISK, HELD, LOST, connection, first_state, state, troubled_state
 from rb_broker_redis.watching.http import Answer
@@ -64,6 +64,21 @@ class PathsTest(RoomTest):
             self.assertIn("\n! the service has found nothing for -1 seconds (since 2026-11-26 08:00:00", health.text)
             self.assertIn('rb_broker_alert{port="7011",name="stale"} 1\n', self.answer("/metrics").text)
 
+
+    def test_the_end_of_a_run(self) -> None:
+        """Nobody can ask for it unless changes are allowed, nor without the token that the page has."""
+        self.assertIsNone(change(self.board, "/end", b"token="))
+        self.assertNotIn("<form", self.answer("/").text)
+        serve_pages(self.board, self.room, None, allows_changes=True)
+        text = self.answer("/").text
+        self.assertIn("form-action 'self'", unescape(text))
+        token = re.findall('name="token" value="([^"]+)"', text)[0]
+        self.assertIsNone(change(self.board, "/", f"token={token}".encode()))
+        for body in (b"", b"token=", b"token=x", b"token=\xff", token.encode()):
+            answer = change(self.board, "/end", body)
+            self.assertEqual((answer and answer.status, self.board.is_to_end), (403, False))
+        self.assertEqual(change(self.board, "/end", f"token={token}".encode()), (303, "", "/"))
+        self.assertTrue(self.board.is_to_end)
 
     def test_reports(self) -> None:
         """Of histories of ended runs that are kept, whole, compressed or not."""

@@ -10,7 +10,10 @@ async function look() {
     for (const part of page.querySelectorAll("main > section")) {
       const shown = document.getElementById(part.id);
       if (!shown.isEqualNode(part)) {
-        shown.replaceWith(part);
+        if (shown.className !== part.className) {
+          shown.className = part.className;
+        }
+        shown.replaceChildren(...part.childNodes); // the part itself stays, or what is new in it would not be read out
       }
     }
     document.title = page.title;

@@ -35,7 +35,8 @@ def page_of(shown: Shown) -> str:
         f"<body><header><h1>{escape(shown.name)}</h1>\n",
         "<noscript><p>Without JavaScript this page stays as it was loaded.</p></noscript></header>\n",
         f'<main><section id="state" class="{shown.kind}"><p>{escape(shown.since)}</p></section>\n',
-        f'<section id="attention"><h2>What needs attention</h2>{alerts or "<p>Nothing.</p>"}</section>\n',
+        '<section id="attention" aria-live="polite"><h2>What needs attention</h2>',
+        f'{alerts or "<p>Nothing.</p>"}</section>\n',
         *shown.sections,
         '</main><footer><p class="note"><a href="metrics">metrics</a> <a href="health">health</a></p></footer>\n',
         f"<script>{SCRIPT}</script>\n</body>\n</html>\n"))
