@@ -34,7 +34,7 @@ TESTS = {
     # one suite of what the JDK's pages say, over its own DelayQueue and over a queue at a server
     "queues": ("DelayQueueTest", "SharedQueueTest"),
     # what a queue at a server has beyond that
-    "served": ("ServedTest", "TurnsTest", "TlsTest"),
+    "served": ("ServedTest", "TlsTest"),
 }
 DAY = CLIENT / "tests" / "day"
 PYTHON = Path(TOP, "clients", "python")

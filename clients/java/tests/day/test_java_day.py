@@ -40,7 +40,7 @@ class JavaWorker(test_hostile_day.WorkerProcess):
 
 class JavaDayTest(test_hostile_day.HostileDayTest):
     handlers, held = [JavaWorker.handler] * 3, 2
-    verifying, probe = ["--all"], "rbbroker.client-asks-for-the-moment"
+    verifying = ["--all"]
 
     def setUp(self):
         super().setUp()

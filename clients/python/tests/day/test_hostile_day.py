@@ -64,7 +64,7 @@ class HostileDayTest(ServedTest):
     """The day. That of the Java package differs in its clients."""
 
     handlers, held = ("handle", "handle_async", "handle"), HELD
-    verifying, probe = [], None  # options of tools/verify, and what clients offer and remove by themselves
+    verifying = []  # options of tools/verify
 
     def setUp(self):
         super().setUp()
@@ -190,7 +190,6 @@ class HostileDayTest(ServedTest):
             self.verify(number)
         history, (told, told_to_killed) = History(*self.histories), self.told()
         attempts, given = history.attempts(), {}
-        attempts.pop(self.probe, None)
         for it in map(history.elements.get, history.given):
             given.setdefault(it.payload, []).append(it.attempt)
         named, unseen = [], []

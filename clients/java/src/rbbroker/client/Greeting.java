@@ -10,6 +10,11 @@ record Greeting(long run, long lost, long moment) {
         return lost == earlier.lost && Long.compareUnsigned(run, earlier.run) >= 0;
     }
 
+    /** Whether the run of an earlier greeting has ended in good order, and the one here continues it. */
+    boolean follows(Greeting earlier) {
+        return continues(earlier) && run != earlier.run && Long.compareUnsigned(moment, earlier.moment) >= 0;
+    }
+
     /** What is in doubt if the run here does not continue that of an earlier greeting. */
     LostRun lostSince(Greeting earlier) {
         boolean isLater = Long.compareUnsigned(run, earlier.run) > 0

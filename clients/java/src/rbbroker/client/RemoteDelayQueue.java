@@ -3,6 +3,7 @@ package rbbroker.client;
 import static java.util.concurrent.TimeUnit.MILLISECONDS;
 import static java.util.concurrent.TimeUnit.NANOSECONDS;
 
+import java.io.EOFException;
 import java.lang.System.Logger.Level;
 import java.time.Duration;
 import java.util.AbstractQueue;
@@ -33,15 +34,15 @@ import rbbroker.client.Session.Use;
  *
  * <p><b>Sessions.</b> The queue connects when it is first used. It keeps a session for each thread that waits, up to a
  * number that is set, and one for calls that do not wait. Each keeps one of the server's workers busy, and holds up to
- * 64 jobs. The server of a service ends a session that holds no job when its run is to end; at another one, a
- * session that has lasted for half a minute is left as soon as it holds no job, even if the queue lies idle. So servers
- * can be replaced. A held job must be answered on its own session: if another thread waits there at the time, the
- * answer takes up to {@link Builder#longestWait}.
+ * 64 jobs. The server of a service ends a session that holds no job when its run is to end, and the queue goes on at
+ * the next. A held job must be answered on its own session: if another thread waits there at the time, the answer takes
+ * up to {@link Builder#longestWait}.
  *
  * <p><b>Lost servers.</b> If there is no server, or its run is full, a call is made again until the
  * {@linkplain Builder#patience patience} is over; it then throws a {@link ServerLostException} or a
  * {@link RefusedException}. An interrupted thread does not wait for a server. If a server is lost between a request and
- * its reply, the call is in doubt. One that looks at jobs or takes them is made again then too. Any other throws a
+ * its reply, the call is in doubt. One that looks at jobs or takes them is made again then too, and so is any other if
+ * the next run of a service says that it continues one which ended in good order. Otherwise it throws a
  * {@code ServerLostException} that {@linkplain ServerLostException#isInDoubt says so}. Every method that asks the
  * server may throw these, and {@link IllegalStateException} once the queue is closed.
  */
@@ -49,8 +50,6 @@ public final class RemoteDelayQueue extends AbstractQueue<Job> implements Blocki
     private static final System.Logger LOG = System.getLogger("rbbroker.client");
     /** The least time from one wait to the next, at a server that gives waits up. */
     private static final long LEAST_WAIT = MILLISECONDS.toNanos(20);
-    /** What is offered for in 146 years and removed at once, to be told the moment of a server that does not greet. */
-    private static final String PROBE = "rbbroker.client-asks-for-the-moment";
 
     private final Options options;
     private final Runs runs;
@@ -70,7 +69,6 @@ public final class RemoteDelayQueue extends AbstractQueue<Job> implements Blocki
         private SSLSocketFactory tls;
         private int waiters = 4;
         private Duration longestWait = Duration.ofMillis(250);
-        private Duration longestSession = Duration.ofSeconds(30);
         private Duration patience = Duration.ofSeconds(30);
         private Duration overdue = Duration.ofMillis(100);
         private Consumer<LostRun> onLostRun = it -> { };
@@ -115,8 +113,7 @@ public final class RemoteDelayQueue extends AbstractQueue<Job> implements Blocki
 
         /**
          * How many threads may wait at the server at the same time. Further ones wait here until one of these has its
-         * job or looks anew. The queue keeps at most this many sessions and one more, or twice as many if old ones
-         * still hold jobs.
+         * job or looks anew. The queue keeps at most this many sessions and one more.
          *
          * @param count 1 or more; 4 if it is not set
          * @return this builder
@@ -139,12 +136,6 @@ public final class RemoteDelayQueue extends AbstractQueue<Job> implements Blocki
          */
         public Builder longestWait(Duration time) {
             longestWait = time;
-            return this;
-        }
-
-        /** How long a session lasts before it is left, which tests make short. */
-        Builder longestSession(Duration time) {
-            longestSession = time;
             return this;
         }
 
@@ -181,7 +172,7 @@ public final class RemoteDelayQueue extends AbstractQueue<Job> implements Blocki
         /** {@return a queue, which does not connect yet} */
         public RemoteDelayQueue build() {
             return new RemoteDelayQueue(new Options(host, port, tls, acknowledge, waiters, nanos(longestWait),
-                nanos(longestSession), nanos(patience), nanos(overdue)), onLostRun);
+                nanos(patience), nanos(overdue)), onLostRun);
         }
 
         private static long nanos(Duration time) {
@@ -387,40 +378,50 @@ public final class RemoteDelayQueue extends AbstractQueue<Job> implements Blocki
     private <T> T make(Supplier<Session> lender, Use use, Function<Session, T> exchange) {
         Tries tries = new Tries(use, options.patience());
         while (true) {
+            Greeting unheard = null; // of a server that was asked, and has answered nothing
             try {
                 Session session = lender.get();
                 if (session == null) {
                     return null;
                 }
+                long answered = session.answered;
                 try {
                     return exchange.apply(session);
                 } finally {
+                    unheard = session.answered == answered ? session.contact.greeting : null;
                     pool.giveBack(session);
                 }
             } catch (BrokerException fault) {
-                tries.pauseAfter(fault);
+                if (use != Use.CHANGE || !(fault.getCause() instanceof EOFException) || !isContinued(unheard)) {
+                    tries.pauseAfter(fault);
+                }
             }
         }
     }
 
-    private boolean hasRunOf(Contact contact, Session session) {
-        if (session.contact == contact) {
-            return true;
+    /**
+     * Whether the run of a server that was asked has ended in good order, and another one continues it: such a run
+     * answers what it carries out. Behind TLS a proxy may have taken the answer with it.
+     */
+    private boolean isContinued(Greeting unheard) {
+        if (unheard == null || options.tls() != null) {
+            return false;
         }
-        learnMoment(session);
-        return runs.isKnownToContinue(session.contact, contact);
+        try {
+            Greeting now = make(Use.LOOK, session -> session.contact.greeting);
+            return now != null && now.follows(unheard);
+        } catch (BrokerException gone) {
+            return false;
+        }
+    }
+
+    private boolean hasRunOf(Contact contact, Session session) {
+        return session.contact == contact || runs.isKnownToContinue(session.contact, contact);
     }
 
     /** An offer of what is overdue, at its moment. */
     private Element placed(Session session, long deadline, String payload) {
         return session.ask(Request.offerAt(runs.momentOf(deadline), payload));
-    }
-
-    /** Asks a server that does not greet for its moment, if it has not told it in this session. */
-    private void learnMoment(Session session) {
-        if (!session.contact.isTold && !session.isGreeted()) {
-            session.ask(Request.remove(offerIn(session, Long.MAX_VALUE / 2, PROBE).id()));
-        }
     }
 
     /** Makes an offer, whose reply tells the server's moment. */

@@ -10,10 +10,7 @@ import java.net.SocketTimeoutException;
 import java.nio.charset.StandardCharsets;
 import java.util.List;
 import java.util.Set;
-import java.util.concurrent.CompletableFuture;
 import java.util.concurrent.ConcurrentHashMap;
-import java.util.concurrent.TimeUnit;
-import java.util.concurrent.atomic.AtomicLong;
 import java.util.function.BooleanSupplier;
 import java.util.stream.Collectors;
 import javax.net.ssl.SSLParameters;
@@ -41,12 +38,6 @@ final class Session {
 
     /** How many jobs a session may hold. */
     static final int MOST_HELD = 64;
-    /** How long a session lasts while others may wait for a worker of the server. */
-    static final long LONGEST_TURN = TimeUnit.SECONDS.toNanos(3);
-    /** How long a session waits for a worker if there is none left. */
-    private static final long WAIT = TimeUnit.SECONDS.toNanos(1);
-    /** How long a session that has lasted long enough takes no jobs, so that it ends with those that it holds. */
-    private static final long LAST_JOBS = TimeUnit.SECONDS.toNanos(5);
 
     /** What it is lent for, or null. It is set under the pool's lock, and the borrower reads it too. */
     volatile Use use;
@@ -56,15 +47,15 @@ final class Session {
     int answering;
     /** The thread that last took jobs on it, or 0. */
     long taker;
-    /** Completed once the session is as old as it may become, and cancelled if it has ended before. */
-    CompletableFuture<Void> age = CompletableFuture.completedFuture(null);
 
     /** The ids of the jobs that it holds. */
     final Set<Long> held = ConcurrentHashMap.newKeySet();
     /** What it shows of its server, once a worker of the server serves it. */
     volatile Contact contact;
-    /** How long it is to last, which becomes shorter alone. */
-    private final AtomicLong longest;
+    /** How many times it was asked and answered. */
+    volatile long answered;
+    /** Whether its run is full, so that it is to be left as soon as it holds no job. */
+    volatile boolean isUsedUp;
     /** Whether it has ended. If not, it may be lost all the same. */
     volatile boolean isClosed;
 
@@ -73,27 +64,14 @@ final class Session {
     /** The channel, or TLS over it. */
     private Socket socket = channel;
     private InputStream input = channel.getInputStream();
-    private volatile long begun;
 
     Session(Options options) {
         this.options = options;
-        longest = new AtomicLong(options.longestSession());
-    }
-
-    /** How long it is to last. */
-    long longest() {
-        return longest.get();
-    }
-
-    /** It lasts no longer than this from now on, whatever other threads make of that. Gives whether that is shorter. */
-    boolean shorten(long most) {
-        return longest.getAndAccumulate(most, Math::min) > most;
     }
 
     /** Connects, and waits until the session is served, or is no longer wanted. Before that nothing is asked. */
     void open(Runs runs, BooleanSupplier isWanted) {
-        long sent = System.nanoTime();
-        channel.limitWaits(sent + options.patience(),
+        channel.limitWaits(System.nanoTime() + options.patience(),
             isInterrupted -> !(isInterrupted && use == Use.WAIT) && isWanted.getAsBoolean());
         String late = "it does not accept the connection";
         try {
@@ -103,14 +81,7 @@ final class Session {
             }
             late = "all its workers are busy";
             send(Request.GREETING.line() + "\n");
-            Greeting greeting = Request.GREETING.receive(input);
-            begun = System.nanoTime();
-            if (greeting != null) {
-                longest.set(Long.MAX_VALUE / 2); // its server ends it
-            } else if (begun - sent >= WAIT) {
-                shorten(LONGEST_TURN);
-            }
-            contact = runs.begin(greeting);
+            contact = runs.begin(Request.GREETING.receive(input));
         } catch (IOException fault) {
             throw new ServerLostException("no server at " + options.address(), false,
                 fault instanceof SocketTimeoutException ? new SocketTimeoutException(late) : fault);
@@ -162,15 +133,14 @@ final class Session {
                 }
             }
             contact.until = sent;
+            answered++;
         } catch (IOException fault) {
             close(); // which line answers which request is no longer known
             String what = "no answer of the server at " + options.address() + " to " + text.strip();
             throw new ServerLostException(what, use != Use.LOOK, fault);
         }
         if (refusal != null) {
-            if (refusal.reason() == Reason.FULL) {
-                shorten(0);
-            }
+            isUsedUp |= refusal.reason() == Reason.FULL;
             throw refusal;
         }
         return answer;
@@ -199,25 +169,6 @@ final class Session {
             close();
         }
         return isClosed;
-    }
-
-    /** Whether it is to be left as soon as it holds no job. */
-    boolean isToBeLeft() {
-        return System.nanoTime() - begun >= longest();
-    }
-
-    /** Whether its server greets, and so ends it. */
-    boolean isGreeted() {
-        return isServed() && contact.greeting != null;
-    }
-
-    /**
-     * Whether it is to be left, and ends with the jobs that it holds. If they keep it for long, it takes others again,
-     * and then none again.
-     */
-    boolean isLeaving() {
-        long over = System.nanoTime() - begun - longest();
-        return over >= 0 && !held.isEmpty() && over / LAST_JOBS % 2 == 0;
     }
 
     /** Hangs up. */

@@ -7,7 +7,6 @@ import java.util.ArrayList;
 import java.util.Comparator;
 import java.util.List;
 import java.util.Optional;
-import java.util.concurrent.CompletableFuture;
 import java.util.concurrent.TimeUnit;
 import rbbroker.client.RefusedException.Reason;
 import rbbroker.client.Session.Use;
@@ -19,14 +18,14 @@ import rbbroker.client.Session.Use;
  * that a call that does not wait finds one. A job can be answered on the session that holds it alone: who answers comes
  * before others that want this session.
  *
- * <p>Where a server does not serve a further session in the time of a wait, the others have to do for a while. A
- * session whose server does not greet is left once it has lasted long enough, as soon as it is given back and holds no
- * job, and by a timer if nobody uses it. So a server can end while queues lie idle. The first such sessions that take
- * jobs make way early, as nobody knows then whether other clients wait for a worker of the server.
+ * <p>Where a server does not serve a further session in the time of a wait, the others have to do for a while. The
+ * server ends a session when it is to be left, or it is left as soon as it holds no job if the run is full.
  */
 final class SessionPool {
     /** After so long a thread looks again, as a session may take jobs again, or a server serve another. */
     private static final long LOOK_AGAIN = TimeUnit.MILLISECONDS.toNanos(500);
+    /** For so long the others have to do where the server does not serve a further session. */
+    private static final long MAKE_DO = TimeUnit.SECONDS.toNanos(30);
 
     private final Options options;
     private final Runs runs;
@@ -34,8 +33,6 @@ final class SessionPool {
     private final List<Session> sessions = new ArrayList<>();
     /** Threads that wait for a session for a call that does not wait at the server. They come before those that do. */
     private int calling;
-    /** Whether a session that took jobs has been left, so that whoever waited then had a turn. */
-    private boolean hasMadeWay;
     /** Until when the others have to do, since the server did not serve a further session. */
     private long crowdedUntil = System.nanoTime();
     volatile boolean isClosed;
@@ -87,7 +84,7 @@ final class SessionPool {
     /** The borrower needs the session no longer. If it is to be left, this leaves it. */
     void giveBack(Session session) {
         boolean isLost = session.isClosed;
-        if (isClosed || session.isToBeLeft() && session.held.isEmpty()) {
+        if (isClosed || session.isUsedUp && session.held.isEmpty()) {
             session.leave();
         }
         synchronized (this) {
@@ -95,8 +92,7 @@ final class SessionPool {
             if (isLost) {
                 forgetIfLost(session);
             } else if (session.isClosed) {
-                remove(session);
-                hasMadeWay |= session.taker != 0;
+                sessions.remove(session);
             }
             notifyAll();
         }
@@ -108,7 +104,7 @@ final class SessionPool {
         notifyAll();
         for (Session it : sessions.stream().filter(it -> it.use == null).toList()) {
             it.leave();
-            remove(it);
+            sessions.remove(it);
         }
         long deadline = System.nanoTime() + options.patience() + options.longestWait();
         while (!sessions.isEmpty() && deadline - System.nanoTime() > 0 && !Thread.currentThread().isInterrupted()) {
@@ -175,18 +171,8 @@ final class SessionPool {
         session.use = use;
         if (use.takes()) {
             session.taker = Thread.currentThread().getId();
-            if (!hasMadeWay) {
-                makeWay(session);
-            }
         }
         return session;
-    }
-
-    /** A session lasts no longer than a turn, since others may wait for a worker of the server. */
-    private void makeWay(Session session) {
-        if (!session.isGreeted() && session.shorten(Session.LONGEST_TURN)) {
-            watch(session);
-        }
     }
 
     /** A session that can be lent, or a new one, or null. */
@@ -201,24 +187,21 @@ final class SessionPool {
         }
         // A thread takes its jobs on one session if it can: so none of them waits for another thread to be answered.
         long thread = Thread.currentThread().getId();
-        List<Session> staying = free.stream().filter(it -> !it.isLeaving()).toList();
-        return staying.stream().filter(it -> it.taker == thread && it.held.size() < Session.MOST_HELD).findFirst()
-            .or(() -> staying.stream().filter(it -> it.held.isEmpty()).findFirst())
+        return free.stream().filter(it -> it.taker == thread && it.held.size() < Session.MOST_HELD).findFirst()
+            .or(() -> free.stream().filter(it -> it.held.isEmpty()).findFirst())
             .or(() -> Optional.ofNullable(another()))
-            .or(() -> staying.stream().min(Comparator.comparingInt(it -> it.held.size()))).orElse(null);
+            .or(() -> free.stream().min(Comparator.comparingInt(it -> it.held.size()))).orElse(null);
     }
 
     private static boolean isFree(Session session) {
         return session.use == null && session.answering == 0;
     }
 
-    /** A further session, or null if there is no place. One that is leaving keeps no place, if that is not many. */
+    /** A further session, or null if there is no place. */
     private Session another() {
-        long most = options.waiters() + 1;
-        long leaving = Math.min(most, sessions.stream().filter(Session::isLeaving).count());
         crowdedUntil = hasServed() ? crowdedUntil : System.nanoTime();
         boolean isCrowded = System.nanoTime() - crowdedUntil < 0;
-        if (sessions.size() - leaving >= most || isCrowded) {
+        if (sessions.size() > options.waiters() || isCrowded) {
             return null;
         }
         var session = new Session(options);
@@ -258,45 +241,19 @@ final class SessionPool {
         if (isClosed || !hasServed()) {
             return isClosed;
         }
-        crowdedUntil = System.nanoTime() + options.longestSession();
-        sessions.stream().filter(Session::isServed).forEach(this::makeWay);
+        crowdedUntil = System.nanoTime() + MAKE_DO;
         return true;
     }
 
     /** A session is served now, or its place is free again. */
     private synchronized void endOpening(Session session) {
         if (!session.isServed()) {
-            remove(session);
+            sessions.remove(session);
             if (!hasServed()) {
                 runs.forgetClock();
             }
-        } else if (!session.isGreeted()) {
-            watch(session);
         }
         notifyAll();
-    }
-
-    /** Has a thread look after a session when it has lasted long enough, unless it has ended before. */
-    private void watch(Session session) {
-        session.age.cancel(false);
-        session.age = new CompletableFuture<Void>().completeOnTimeout(null, session.longest(), NANOSECONDS);
-        session.age.thenRunAsync(() -> leaveIfIdle(session), work -> new Thread(work).start());
-    }
-
-    /** Forgets a session that has ended. */
-    private void remove(Session session) {
-        sessions.remove(session);
-        session.age.cancel(false);
-    }
-
-    private void leaveIfIdle(Session session) {
-        synchronized (this) {
-            if (!isFree(session) || session.isClosed || !session.held.isEmpty()) {
-                return; // who gives it back leaves it
-            }
-            session.use = Use.LOOK;
-        }
-        giveBack(session);
     }
 
     /**
@@ -305,7 +262,7 @@ final class SessionPool {
      */
     private boolean forgetIfLost(Session session) {
         if (session.isLost()) {
-            remove(session);
+            sessions.remove(session);
             runs.forgetClock();
             notifyAll();
         }

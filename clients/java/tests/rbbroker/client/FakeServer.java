@@ -50,11 +50,6 @@ final class FakeServer implements AutoCloseable {
         return door.getLocalPort();
     }
 
-    /** How many sessions began. */
-    int sessions() {
-        return sockets.size();
-    }
-
     /** Waits until all scripts were played to their ends, and throws what went wrong in them. */
     void finish() throws Exception {
         QueueTest.allOf(List.of(playing), Server.PATIENCE);

@@ -17,7 +17,7 @@ public final class HostileProducer {
      */
     public static void main(String[] words) throws InterruptedException {
         try (RemoteDelayQueue queue = new RemoteDelayQueue.Builder(Integer.parseInt(words[0]), Acknowledge.BY_CALL)
-                .waiters(1).longestSession(Duration.ofSeconds(1)).patience(Duration.ofMinutes(10)).build()) {
+                .waiters(1).patience(Duration.ofMinutes(10)).build()) {
             for (int number = 0; number < Integer.parseInt(words[1]); number++) {
                 int delay = ThreadLocalRandom.current().nextInt(-5, 500);
                 String what = "offered ";

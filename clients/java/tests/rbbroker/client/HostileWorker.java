@@ -20,7 +20,7 @@ public final class HostileWorker {
 
     private HostileWorker(int port, String log) throws IOException {
         queue = new RemoteDelayQueue.Builder(port, Acknowledge.BY_CALL).waiters(THREADS)
-            .longestWait(Duration.ofMillis(100)).longestSession(Duration.ofSeconds(2)).patience(Duration.ofMinutes(10))
+            .longestWait(Duration.ofMillis(100)).patience(Duration.ofMinutes(10))
             .build();
         this.log = new FileOutputStream(log, true);
     }

@@ -24,7 +24,7 @@ public class LostRunTest extends QueueTest {
 
     /**
      * Whether the job is removed at a second server, whose clock is behind the first one's, and which gives this id to
-     * what is offered to learn of that. If it is asked for the job then, it replies this. The first one accepts the job
+     * another job that shows so. If it is asked for the first job then, it replies this. The first server accepts that
      * as element 5, counts once, and is lost.
      */
     private boolean removed(long id, LongSupplier behind, String reply) throws Exception {
@@ -35,7 +35,7 @@ public class LostRunTest extends QueueTest {
             talk.say("SIZE 1");
         };
         FakeServer.Script second = talk -> {
-            talk.greet().accept(id, AHEAD - behind.getAsLong()).hear("REMOVE " + id).say("REMOVED yes");
+            talk.greet().accept(id, AHEAD - behind.getAsLong());
             if (reply != null) {
                 talk.hear("REMOVE 5").say(reply);
             }
@@ -50,6 +50,7 @@ public class LostRunTest extends QueueTest {
                 Thread.sleep(400); // so long the server was there, as far as the queue knows
                 assertEquals(1, queue.size());
                 Thread.sleep(800);
+                queue.offer(in(600_000, "b"));
                 isRemoved = queue.remove(job);
             }
             server.finish();

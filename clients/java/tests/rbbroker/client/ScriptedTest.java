@@ -138,9 +138,9 @@ public class ScriptedTest extends QueueTest {
 
     @Test
     public void aServerThatGreetsEndsItsSessionsItself() throws Exception {
-        playTo(port -> byCall(PATIENCE).apply(port).longestSession(Duration.ofMillis(1)), it -> {
+        play(it -> {
             assertNull(it.peek());
-            Thread.sleep(50); // no clock of the client's ends it
+            Thread.sleep(50);
             Job job = it.take();
             assertNull(it.poll(0, MILLISECONDS));
             job.done();
@@ -152,12 +152,15 @@ public class ScriptedTest extends QueueTest {
     }
 
     @Test
-    public void theTimeOfASessionBecomesShorterAlone() {
-        var options = new Options("127.0.0.1", 7011, null, Acknowledge.BY_CALL, 4, 1, 9, 1, 1);
-        var session = new Session(options);
-        assertTrue(session.shorten(0));
-        assertFalse(session.shorten(3));
-        assertEquals(0, session.longest());
+    public void whatARunDidNotAnswerThatAnotherOneContinuesIsOfferedThere() throws Exception {
+        Script unheard = talk -> talk.greetOf(7, 2).hear("OFFER ");
+        play(it -> assertTrue(it.offer(due("a"))), unheard, talk -> talk.greetOf(8, 2).accept(4, 0));
+        for (long[] other : new long[][] {{8, 3}, {7, 2}}) {
+            play(it -> {
+                ServerLostException fault = assertThrows(ServerLostException.class, () -> it.offer(due("a")));
+                assertTrue(fault.isInDoubt());
+            }, unheard, talk -> talk.greetOf(other[0], other[1]));
+        }
     }
 
     @Test
@@ -264,12 +267,12 @@ public class ScriptedTest extends QueueTest {
     }
 
     @Test
-    public void anOldSessionTakesJobsAgainWhereNoOtherIsServed() throws Exception {
-        playTo(port -> byCall(PATIENCE).apply(port).longestSession(Duration.ofMillis(200)), it -> {
+    public void aFullRunIsAskedAgainWhileASessionHoldsAJobOfIt() throws Exception {
+        play(it -> {
             assertEquals("a", it.poll().payload());
-            Thread.sleep(300); // since then the session is to end with the job that it holds
             assertNull(it.poll());
-        }, talk -> talk.greet().hear("POLL").say("ITEM 4 0 1 a").hear("POLL").say("NONE"));
+        }, talk -> talk.greet().hear("POLL").say("ITEM 4 0 1 a").hear("POLL").say("ERR 6 full").hear("POLL")
+            .say("NONE"));
     }
 
     @Test

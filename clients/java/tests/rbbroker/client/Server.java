@@ -6,7 +6,6 @@ import static org.junit.Assert.assertTrue;
 import java.io.BufferedReader;
 import java.io.IOException;
 import java.lang.ProcessBuilder.Redirect;
-import java.net.Socket;
 import java.nio.file.Path;
 import java.util.List;
 import java.util.concurrent.ThreadLocalRandom;
@@ -28,7 +27,8 @@ final class Server implements AutoCloseable {
 
     private Server(int port, Object... options) throws IOException {
         this.port = port;
-        process = run(Stream.concat(Stream.of(PROGRAM, "serve", "--port", port), Stream.of(options)));
+        process = run(Stream.concat(Stream.of(PROGRAM, "serve", "--port", port, "--until-input-ends"),
+            Stream.of(options)));
         output = process.inputReader();
     }
 
@@ -57,19 +57,6 @@ final class Server implements AutoCloseable {
         return port;
     }
 
-    /** Uses up the sessions that are left, so that the server ends once those that go on have ended. */
-    private void useUp() throws Exception {
-        long deadline = System.nanoTime() + TimeUnit.SECONDS.toNanos(PATIENCE);
-        while (System.nanoTime() < deadline) {
-            try (var socket = new Socket("127.0.0.1", port)) {
-                assertTrue(socket.isConnected());
-            } catch (IOException gone) {
-                return;
-            }
-        }
-        throw new IOException("the server listens on and on");
-    }
-
     /** Expects that it ends in good order, with this many jobs lost, and a history that its own replay finds legal. */
     void assertEnds(int lost, Path history, Object... policy) throws Exception {
         List<String> lines = end();
@@ -78,9 +65,15 @@ final class Server implements AutoCloseable {
         assertEquals(lines.get(1), said(Stream.concat(replay, Stream.of(policy))));
     }
 
-    /** Uses up its sessions, and waits until it ends with status 0. Returns its two last lines: counts and audit. */
+    /** Has it end once no session holds a job, and waits for that. Returns its two last lines: counts and audit. */
     List<String> end() throws Exception {
-        useUp();
+        try (var input = process.outputWriter()) {
+            input.write("drain\n");
+            input.flush();
+            process.waitFor(PATIENCE, TimeUnit.SECONDS);
+        } catch (IOException ignored) {
+            // its sessions were used up, and it has ended
+        }
         assertTrue("the server goes on", process.waitFor(PATIENCE, TimeUnit.SECONDS));
         assertEquals(0, process.exitValue());
         return output.lines().toList();
