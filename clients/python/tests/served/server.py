@@ -127,8 +127,8 @@ class ServedTest(ServingTest):
 
     def command(self, port, *words):
         """Runs the package's command to its end. Its status, and what it wrote."""
-        words = [sys.executable, "-m", "rb_broker_client", *map(str, words), "--port", str(port)]
-        ran = subprocess.run(words, capture_output=True, encoding="ascii", timeout=PATIENCE)
+        words = [sys.executable, "-m", "rb_broker_client", *words, "--port", port, "--patience", PATIENCE]
+        ran = subprocess.run([*map(str, words)], capture_output=True, encoding="ascii", timeout=2 * PATIENCE)
         return ran.returncode, ran.stdout, ran.stderr
 
     def start_worker(self, port, *words, **options):

@@ -8,18 +8,20 @@ import ssl
 import subprocess
 import tempfile
 import textwrap
-import threading
 import types
 import unittest
 from pathlib import Path
 
 from encryption import Certificates, Proxy
 from scripted import free_port
-from rb_broker_client import AsyncBroker, Broker, NotOfferedError, Offered, Producer, Report, Request, Worker
+from rb_broker_client import (
+    AsyncBroker, Broker, NotOfferedError, Offered, Pauses, Producer, Report, Request, Worker,
+)
 from server import PATIENCE, TOP, ServedTest, start
 
 JOBS = 200
 REFUSED = "(?i)alert|reset|closed|broken pipe|EOF"
+ONE_TRY = Pauses(2 * PATIENCE, 2 * PATIENCE)  # after which there is no time for another
 
 
 @unittest.skipUnless(shutil.which("openssl"), "there is no openssl")
@@ -90,7 +92,7 @@ class TlsTest(ServedTest):
         self.assertRaisesRegex(OSError, text, lambda: asyncio.run(ask()))
         with self.assertRaisesRegex(OSError, text), Broker(port, patience=PATIENCE, tls=tls) as broker:
             broker.size()
-        with Producer(port, patience=0.5, tls=tls) as producer:
+        with Producer(port, patience=PATIENCE, pauses=ONE_TRY, tls=tls) as producer:
             with self.assertRaisesRegex(NotOfferedError, text):
                 producer.offer("letter")
         status, said, errors = self.command(port, "size", *(self.words(**certificates) if encrypts else []))
@@ -113,12 +115,15 @@ class TlsTest(ServedTest):
 
     def test_a_worker_logs_why_and_tries_again(self):
         worker = Worker(lambda job: None, self.protect("expired").port, tls=self.certificates.client())
-        threading.Timer(1, worker.stop).start()
         logging.disable(logging.NOTSET)
-        with self.assertLogs("rb_broker_client", logging.WARNING) as said:
-            self.assertEqual(worker.run(), Report())
-        self.assertEqual(len(said.records), 1)
-        self.assertRegex(said.records[0].getMessage(), "^no server at 127.0.0.1:[0-9]+: .*certificate has expired")
+        with self.assertLogs("rb_broker_client", logging.DEBUG) as said:
+            thread = self.begin_worker(worker)
+            self.wait_until(lambda: len(said.records) > 2)
+            self.assert_stops(worker, thread, Report())
+        levels, texts = zip(*((it.levelno, it.getMessage()) for it in said.records))
+        self.assertEqual(levels, (logging.WARNING, *[logging.DEBUG] * (len(texts) - 1)))
+        for it in texts:
+            self.assertRegex(it, "^no server at 127.0.0.1:[0-9]+: .*certificate has expired")
 
     def test_the_name_must_be_right(self):
         with self.assertRaisesRegex(ssl.SSLCertVerificationError, "(?i)hostname mismatch|IP address mismatch"):
