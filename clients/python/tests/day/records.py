@@ -1,6 +1,12 @@
-"""What the records of workers say about the attempts of jobs."""
+"""What the records of workers say about the attempts of jobs, and the names that these have for processes."""
 import json
 from collections import defaultdict
+from pathlib import Path
+
+
+def process_of(pid):
+    """What no other process has, not even a later one of this id."""
+    return f"{pid}-{Path(f'/proc/{pid}/stat').read_text('ascii').rpartition(')')[2].split()[19]}"
 
 
 def ends_in(paths):

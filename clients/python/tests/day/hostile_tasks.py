@@ -1,0 +1,44 @@
+"""Tasks of a hostile day. The processes that offer them, and those that run them, are killed at any moment."""
+import multiprocessing
+import os
+import random
+import time
+
+from rb_broker_client import task_store, tasks
+from records import process_of
+
+ROOM, DELAYS = os.environ["TASKS_ROOM"], (0, 0, 0.2, 2)
+if os.environ["TASKS_BRIEF"]:
+    tasks.STALE, task_store.STALE, task_store.UNSENT = 2.0, 2.0, 0.5
+app = tasks.Tasks(f"{ROOM}/tasks.db", int(os.environ["TASKS_PORT"]), patience=1,
+                  overdue=2 if os.environ["TASKS_BRIEF"] else 60)
+
+
+def note(name, *words):
+    """Adds a line to a file, which no kill of this process cuts."""
+    descriptor = os.open(f"{ROOM}/{name}", os.O_APPEND | os.O_CREAT | os.O_WRONLY)
+    os.write(descriptor, (" ".join(map(str, words)) + "\n").encode())
+    os.close(descriptor)
+
+
+@app.task(attempts=1_000, backoff=lambda failures: 0.05, timeout="2s", name="work")
+def work(number):
+    """One in a hundred may hang where that ends its process, and one in ten may fail."""
+    run = number, process_of(os.getpid()), time.monotonic_ns()
+    note("runs", "begins", *run)
+    if number % 100 == 7 and multiprocessing.parent_process() and random.random() < 0.5:
+        time.sleep(600)
+    time.sleep(random.uniform(0, 0.02))
+    if number % 10 == 0 and random.random() < 0.5:
+        note("runs", "fails", *run)
+        raise ValueError(number)
+    note("runs", "ends", *run)
+
+
+def offer(first, end, pause):
+    """Offers the tasks of these numbers, with pauses of up to so many seconds."""
+    for number in range(first, end):
+        note("offers", "begins", number)
+        work.later(random.choice(DELAYS), number)
+        note("offers", "ends", number)
+        time.sleep(random.uniform(0, pause))
