@@ -73,7 +73,7 @@ class PackageTest(unittest.TestCase):
             archive = os.path.join(room, run([python, "-c", PACKS, room], sources).splitlines()[-1])
             with tarfile.open(archive) as packed:
                 names = {it.partition("/")[2] for it in packed.getnames()}
-            tests = run(["git", "ls-files", "tests", "src"], sources).splitlines()
+            tests = run(["git", "ls-files", "tests", "examples", "src"], sources).splitlines()
             self.assertEqual({*tests} - names, set())
             run([*pip, "uninstall", "--yes", "rb-broker-client"], room)
             self.assertIn("ModuleNotFoundError", run([python, "-c", "import rb_broker_client"], room, status=1))
