@@ -3,6 +3,7 @@
 import json
 import logging
 import math
+import os
 import socket
 import ssl
 import threading
@@ -25,7 +26,10 @@ from .waiting import Blocking, Kind, Looping, Words, blocking, run
 log = logging.getLogger(__name__)
 
 _NOT_NOW = (BlockingIOError, ssl.SSLWantReadError, ssl.SSLWantWriteError)
-_RECORDING = threading.Lock()  # clients of several threads may write to one file
+_RECORDING = threading.Lock()  # clients of several threads may write to one file, and one of these may fork
+if hasattr(os, "register_at_fork"):
+    os.register_at_fork(before=_RECORDING.acquire, after_in_parent=_RECORDING.release,
+                        after_in_child=_RECORDING.release)
 
 
 def checked_port(port: int) -> int:

@@ -2,6 +2,8 @@
 import functools
 import io
 import json
+import os
+import signal
 import socket
 import threading
 import time
@@ -187,6 +189,25 @@ class RecordTest(BrokerCase):
         self.in_threads(*[functools.partial(ask, self.connect(steps, record=self.file)) for _ in range(4)])
         names = [it["session"] for it in self.lines()]
         self.assertEqual(sorted(names.count(it) for it in {*names}), [count] * 4)
+
+    def test_a_process_that_is_forked_while_a_line_is_written(self):
+        """It writes lines of its own, and not that one again."""
+        record, is_written = unittest.mock.Mock(wraps=self.file), threading.Event()
+        record.flush.side_effect = lambda: is_written.set() or time.sleep(0.3) or unittest.mock.DEFAULT
+        port, broker = self.play("SIZE > SIZE 3").port, self.connect("SIZE > SIZE 4", record=record)
+        thread = threading.Thread(target=broker.size)
+        thread.start()
+        self.assertTrue(is_written.wait(PATIENCE))
+        child = os.fork()
+        if child == 0:
+            try:
+                signal.alarm(PATIENCE)
+                os._exit(Broker(port, record=self.file).size())
+            finally:
+                os._exit(99)
+        self.assertEqual(os.waitstatus_to_exitcode(os.waitpid(child, 0)[1]), 3)
+        thread.join(PATIENCE)
+        self.assertEqual(sorted(it["reply"][0] for it in self.lines()), ["SIZE 3", "SIZE 4"])
 
 
 class OwnPortTest(unittest.TestCase):
