@@ -11,7 +11,7 @@ from multiprocessing.connection import Connection
 from typing import TYPE_CHECKING, Any
 
 from .job import Report
-from .task_store import StoredTask
+from .task_store import StoredTask, going_on
 
 if TYPE_CHECKING:
     from .tasks import Tasks
@@ -74,6 +74,7 @@ class Processes:
         threading.Thread(target=watch, daemon=True).start()
         report.send(self._app._run(self._threads, owner))
 
+    @going_on()
     def _look_after(self, child: _Child) -> None:
         hung = [] if child.process.exitcode is not None else self._hung(child)
         if hung:

@@ -1,5 +1,6 @@
 """Tasks in a file of SQLite: what is left of them whatever is killed."""
 
+import logging
 import os
 import sqlite3
 import threading
@@ -11,6 +12,8 @@ from dataclasses import dataclass, replace
 from typing import Any
 
 from .job import Greeting
+
+log = logging.getLogger("rb_broker_client.tasks")
 
 STALE = 10.0  # seconds after which who runs a task is dead, if nothing was heard of it
 UNSENT = 5.0  # seconds after which a task that was not offered is offered by another
@@ -40,6 +43,15 @@ _OVERDUE = f"""
 """
 # What was offered to a server that does not greet, too.
 _IN_DOUBT = "UPDATE tasks SET state = 'new', touched = 0 WHERE state = 'waiting' AND (run = 0 OR run >= ?)"
+
+
+@contextmanager
+def going_on() -> Iterator[None]:
+    """Logs that the file can't be used now, as if the disk is full. What keeps its tasks is to try again."""
+    try:
+        yield
+    except sqlite3.Error:
+        log.exception("the file of tasks can't be used now")
 
 
 @dataclass(frozen=True)
@@ -147,10 +159,10 @@ class Store:
         return self._one(f"""UPDATE OR IGNORE tasks SET state = 'new', turn = turn + 1, failures = 0, due = :now,
             touched = :now WHERE id = :id AND state = 'dead' RETURNING {_COLUMNS}""", id=id)
 
-    def beat(self, owner: str) -> None:
-        """This owner is alive, and so are the tasks that it runs."""
-        self._do("UPDATE tasks SET touched = :now WHERE owner = :owner AND state = 'running'", is_synced=False,
-                 owner=owner)
+    def beat(self, owner: str, *ids: str) -> None:
+        """This owner is alive, and so are these tasks, which it runs."""
+        self._do("UPDATE tasks SET touched = :now WHERE owner = :owner AND state = 'running' AND instr(:ids, id)",
+                 is_synced=False, owner=owner, ids=" ".join(ids))
 
     def running(self, owner: str) -> list[tuple[float, StoredTask]]:
         """The tasks that this owner runs, each with the moment at which it began."""

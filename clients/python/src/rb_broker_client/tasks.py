@@ -22,7 +22,7 @@ from .errors import BrokerError
 from .job import Greeting, Job, Report
 from .producer import Producer
 from .task_processes import Processes
-from .task_store import STALE, Store, StoredTask
+from .task_store import STALE, Store, StoredTask, going_on
 from .task_testing import Testing
 from .waiting import Blocking, Kind, Looping, blocking
 from .worker import AsyncWorker, Worker
@@ -118,7 +118,7 @@ class Tasks:
             payload, delay=delay).greeting
         self._tasks: dict[str, Task] = {}
         self._middleware: list[Middleware] = []
-        self._owner, self._is_over = "", threading.Event()
+        self._owner, self._in_hand, self._is_over = "", set[str](), threading.Event()
         self._worker: Worker | AsyncWorker | None = None
         self._producer._run.on_greeting = self._greeted
 
@@ -227,6 +227,7 @@ class Tasks:
 
     async def _attempt(self, kind: Kind, task: StoredTask) -> None:
         fault = None
+        self._in_hand.add(task.id)
         try:
             await self._call(kind, task, self._tasks[task.name])
         except Exception as raised:
@@ -234,6 +235,8 @@ class Tasks:
         except BaseException:  # such as a cancellation
             await kind.apart(partial(self._store.release, task))
             raise
+        finally:
+            self._in_hand.discard(task.id)
         await kind.apart(partial(self._fail, task, fault) if fault else partial(self._store.done, task))
 
     async def _call(self, kind: Kind, task: StoredTask, function: Task) -> None:
@@ -299,12 +302,14 @@ class Tasks:
 
     def _keep_alive(self) -> None:
         while not self._is_over.wait(STALE / 5):
-            self._store.beat(self._owner)
+            with going_on():
+                self._store.beat(self._owner, *self._in_hand)
 
     def _keep_offered(self) -> None:
         while True:
-            while found := self._store.overdue(self._overdue):
-                if self._is_over.is_set() or not all(self._offer(it) for it in found):
-                    break  # the rest later
+            with going_on():
+                while found := self._store.overdue(self._overdue):
+                    if self._is_over.is_set() or not all(self._offer(it) for it in found):
+                        break  # the rest later
             if self._is_over.wait(STALE / 2):
                 return

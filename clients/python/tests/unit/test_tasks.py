@@ -2,6 +2,7 @@
 import asyncio
 import os
 import signal
+import sqlite3
 import threading
 import time
 import unittest.mock
@@ -10,6 +11,7 @@ from datetime import datetime, timedelta, timezone
 from scripted import PATIENCE, ScriptedTest, free_port
 from test_command import run
 from rb_broker_client import Greeting, Job, Report, waiting
+from rb_broker_client.task_processes import Processes
 from rb_broker_client.tasks import Middleware, RetryLater, Tasks, exponential
 
 app = None  # that of a test, for the command
@@ -85,7 +87,7 @@ class TasksTest(ScriptedTest):
         self.assertEqual([it.id for it in after(6).overdue(60)], [id])
         self.assertEqual([after(0).claim(id, 1, it).state for it in ("this", "other")], ["claimed", "running"])
         self.assertFalse(self.app.cancel("one"))
-        after(9).beat("this")
+        after(9).beat("this", id)
         self.assertEqual(after(18).overdue(60), [])
         self.assertEqual([it.id for it in after(20).overdue(60)], [id])
         done = after(20).claim(id, 1, "other")
@@ -251,6 +253,40 @@ class TasksTest(ScriptedTest):
         for it in workers:
             it.join()
         return Report(done=1)
+
+    def test_who_keeps_tasks_goes_on_when_the_file_can_not_be_used(self):
+        calls, full = [], sqlite3.OperationalError("database or disk is full")
+        text = "ERROR:rb_broker_client.tasks:the file of tasks can't be used now"
+
+        def fail(*_):
+            calls.append(1)
+            if len(calls) % 2 == 0:
+                self.app._is_over.set()
+            raise full
+
+        for name, keep in (("beat", self.app._keep_alive), ("overdue", self.app._keep_offered)):
+            self.app._is_over.clear()
+            with unittest.mock.patch.object(self.app._store, name, fail), \
+                    unittest.mock.patch("rb_broker_client.tasks.STALE", 0.01), self.logged() as said:
+                keep()
+            self.assertEqual([it.splitlines()[0] for it in said], [text] * 2)
+        child = unittest.mock.Mock(process=unittest.mock.Mock(exitcode=None))
+        with unittest.mock.patch.object(self.app._store, "running", side_effect=full), self.logged() as said:
+            Processes(self.app, 1, 1)._look_after(child)
+        self.assertEqual([it.splitlines()[0] for it in said], [text])
+
+    def test_a_task_whose_end_could_not_be_written_is_run_again(self):
+        store, id = self.app._store, self.note.later(0, 17)
+        with unittest.mock.patch.object(store, "done", side_effect=sqlite3.OperationalError("database is locked")):
+            self.assertRaises(sqlite3.OperationalError, waiting.run,
+                              self.app._attempt(waiting.Blocking, store.claim(id, 1, "one")))
+        now = time.time()
+        store.now = lambda: now + 60
+        self.app._owner = "one"
+        with unittest.mock.patch("rb_broker_client.tasks.STALE", 0.01):
+            threading.Timer(0.2, self.app._is_over.set).start()
+            self.app._keep_alive()  # as long as it runs other tasks
+        self.assertEqual([it.id for it in store.overdue(60)], [id])
 
     def test_dead_tasks_by_the_command(self):
         store, id = self.app._store, self.note.later(0, 17)
