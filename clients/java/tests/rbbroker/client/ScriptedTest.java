@@ -101,10 +101,8 @@ public class ScriptedTest extends QueueTest {
 
     @Test
     public void anOverdueJobIsPlacedAlsoIfItIsTheFirstOfItsSession() throws Exception {
-        playTo(port -> new RemoteDelayQueue.Builder(port, Acknowledge.BY_CALL), it -> {
-            it.offer(in(-50_000, "a"));
-            it.offer(in(-40_000, "b"));
-        }, talk -> {
+        List<Job> jobs = List.of(in(-50_000, "a"), in(-40_000, "b")); // their delays count from here
+        playTo(port -> new RemoteDelayQueue.Builder(port, Acknowledge.BY_CALL), it -> jobs.forEach(it::offer), talk -> {
             talk.greet().accept(7, HOURS.toNanos(1) - System.nanoTime()).hear("REMOVE 7").say("REMOVED yes");
             long first = Long.parseLong(talk.heard("OFFERAT ").split(" ")[0]);
             long second = Long.parseLong(talk.say("OFFERED 8 5").heard("OFFERAT ").split(" ")[0]);
