@@ -6,7 +6,7 @@ import subprocess
 from unittest import mock
 
 from judging import PROGRAM
-from rb_broker_redis import pieces
+from rb_broker_redis import cuts, pieces
 from redis_test import SEAT, RedisTest
 
 
@@ -106,6 +106,30 @@ class JudgeCommandTest(RedisTest):
         status, lines, errors = self.judge()
         self.assertEqual((status, lines), (1, []))
         self.assertRegex(errors, r"^rb_broker_redis: (unchained|refused) \d+ ")
+
+    def test_a_queue_of_more_elements_than_a_file_may_begin_with(self) -> None:
+        """At a border of 1,000; that of `replay` is 1,000,000."""
+        queue, self.folder = self.joined(attempts=3), self.room / "archive"
+        with mock.patch.object(cuts, "MOST_KEPT", 1_000), mock.patch.object(pieces, "MOST_KEPT", 1_000):
+            queue.make([f"{SEAT} OFFER 3600000000000 a"] * 2_500)
+            queue.make([f"{SEAT} OFFER {it} b-{it}" for it in range(3)])
+            queue.make([f"{SEAT} POLL", f"{SEAT} END", *[f"{SEAT + 1} POLL"] * 3, f"{SEAT} SIZE", f"{SEAT} PEEK",
+                        *[f"{SEAT + 1} DONE {it}" for it in (2_501, 2_502, 2_503)]])
+            status, said, errors = self.ran("archive", self.folder, "--events", 500)
+            self.assertEqual((status, errors), (0, ""))
+            self.assertEqual(["more than 1,000,000 elements are left" in it for it in said], [False] * 2 + [True] * 4)
+            self.files = sorted(self.folder.iterdir())
+            status, lines, errors = self.judge("--events", 500)
+            self.assertEqual((status, errors), (0, ""))
+            self.assertRegex(lines[-1], r"; 2498 elements that stay are left out$")
+            self.exchange("poll 2501\n", "poll 2502\n")
+            self.assertEqual(self.judge("--events", 500)[:2], (1, lines[:-1]))
+
+    def exchange(self, one: str, other: str) -> None:
+        """Exchanges the ends of two lines of the last file."""
+        text = self.files[-1].read_text()
+        self.assertEqual((text.count(one), text.count(other)), (1, 1))
+        self.files[-1].write_text(text.replace(one, "\n\n").replace(other, one).replace("\n\n", other))
 
     def test_a_file_that_is_missing(self) -> None:
         self.archive_small_files()
