@@ -4,7 +4,7 @@ from __future__ import annotations
 import asyncio
 import unittest
 
-from rb_broker_redis.protocol import SECOND
+from rb_broker_redis.protocol import MOST_HELD, SECOND, ErrorReply
 from rb_broker_redis.session import MOST_AT_ONCE, MOST_WAITING_LINES, SECONDS_BETWEEN_ENDS, Session
 from rb_broker_redis.turns import Answered
 from rb_broker_redis.waits import Waits
@@ -117,7 +117,7 @@ class SessionTest(unittest.IsolatedAsyncioTestCase):
     def let_wait(self, *lines: bytes) -> None:
         """Its client sends a TAKE, which waits, and further lines."""
         self.session.data_received(b"".join(it + b"\n" for it in (b"TAKE", *lines)))
-        self.assert_exchange({b"7 TAKE": LATER}, b"")
+        self.assert_exchange({b"7 take": LATER}, b"")
 
     async def test_a_line_is_called_and_its_reply_is_sent(self) -> None:
         self.session.data_received(b"OFFER 5 a\nSI")
@@ -158,7 +158,7 @@ class SessionTest(unittest.IsolatedAsyncioTestCase):
         self.session.data_received(b"TAKE\n")
         self.session.data_received(b"x\n" * (MOST_WAITING_LINES + 1))
         self.assertFalse(self.transport.is_reading)
-        self.assert_exchange({b"7 TAKE": b"ITEM 0 5 1 a\n"})
+        self.assert_exchange({b"7 take": b"ITEM 0 5 1 a\n"})
         for _ in range(MOST_WAITING_LINES // MOST_AT_ONCE + 1):
             await asyncio.sleep(0)
         self.assertTrue(self.transport.is_reading)
@@ -182,7 +182,7 @@ class SessionTest(unittest.IsolatedAsyncioTestCase):
 
     async def test_a_timed_poll_is_tried_again_from_where_it_began(self) -> None:
         self.session.data_received(b"POLLFOR 5000000000\n")
-        self.assert_exchange({b"7 POLLFOR 5000000000": b"LATER 200 110 100\n"}, b"")
+        self.assert_exchange({b"7 pollfor 5000000000": b"LATER 200 110 100\n"}, b"")
         self.gateway.waits.heard(b"110 110")
         self.assert_calls(b"7 POLLFOR 5000000000 100")
 
@@ -190,7 +190,7 @@ class SessionTest(unittest.IsolatedAsyncioTestCase):
         self.let_wait()
         other, _ = self.connected()
         other.data_received(b"TAKE\n")
-        self.assert_calls(b"7 WAIT")
+        self.assert_calls(b"7 wait")
         self.answer(LATER)
         other.data_received(b"POLL\n")
         self.assert_idle()  # it waits
@@ -199,7 +199,20 @@ class SessionTest(unittest.IsolatedAsyncioTestCase):
         self.let_wait()
         other, _ = self.connected()
         other.data_received(b"POLLFOR 0\n")
-        self.assert_calls(b"7 POLLFOR 0")
+        self.assert_calls(b"7 pollfor 0")
+
+    async def test_what_a_session_holds_is_counted_where_it_may_be_too_much(self) -> None:
+        self.session.data_received(b"DRAIN 64\n")
+        items = b"".join(b"ITEM %d 5 1 a\n" % it for it in range(MOST_HELD))
+        self.assert_exchange({b"7 DRAIN 64": b"DRAINED 64\n" + items})
+        self.session.data_received(b"TAKE\n")
+        self.assert_exchange({b"7 TAKE": ErrorReply.HELD})
+        self.session.data_received(b"DONE 0\nTAKE\n")
+        self.assert_exchange({b"7 DONE 0": b"DONE 0\n", b"7 TAKE": b"ITEM 64 5 1 a\n"})
+        self.session.data_received(b"DONE 1\n")
+        self.assert_exchange({b"7 DONE 1": b"DONE 1\n"})
+        self.session.data_received(b"TAKE\n")
+        self.assert_calls(b"7 take")
 
     async def test_quit_ends_the_session_and_drops_what_follows(self) -> None:
         self.session.data_received(b"SIZE\nQUIT\nSIZE\n")
@@ -235,7 +248,7 @@ class SessionTest(unittest.IsolatedAsyncioTestCase):
 
     async def test_the_last_try_of_a_timed_poll_is_withheld_from_a_client_that_has_left(self) -> None:
         self.session.data_received(b"POLLFOR 1000\n")
-        self.assert_exchange({b"7 POLLFOR 1000": b"LATER - 100 100\n"}, b"")
+        self.assert_exchange({b"7 pollfor 1000": b"LATER - 100 100\n"}, b"")
         while not self.gateway.calls.submitted:
             await asyncio.sleep(0)
         self.session.connection_lost(None)
@@ -245,7 +258,7 @@ class SessionTest(unittest.IsolatedAsyncioTestCase):
 
     async def test_a_fetch_that_crosses_a_break_comes_back(self) -> None:
         self.session.data_received(b"TAKE\n")
-        self.assert_calls(b"7 TAKE")
+        self.assert_calls(b"7 take")
         self.session.connection_lost(None)
         self.assertEqual(self.gateway.calls.withheld, [b"7 "])
         self.assert_idle()

@@ -10,7 +10,7 @@ STEPS = 40
 MOST_CALLS = 120
 SEATS = 4
 ACTS = ("OFFER {soon} p-{n}", "OFFER 0 p-{n}", "POLL", "TAKE", "POLL", "DRAIN {few}", "DONE {id}", "FAIL {id}", "PEEK", "SIZE",
-        "REMOVE {id}", "POLLFOR 0", "WAIT")
+        "REMOVE {id}", "POLLFOR 0", "WAIT", "take", "pollfor 0", "wait")
 RARE = ("CLEAR", "END", "OFFER {soon} p-{n}")
 
 

@@ -1,4 +1,4 @@
-#!lua name=rb_broker_4
+#!lua name=rb_broker_5
 -- The broker's calls as functions of a Redis (7.0 or later). docs/PROTOCOL.md has the requests, docs/HISTORY.md the
 -- lines of events.
 --
@@ -48,7 +48,7 @@
 -- rb_renew, which ends the sessions if the score is still the same. From then on no call is made in the name of the late
 -- gateway: it gets the error LEASE, and has to join anew. So nothing is given at a seat that has ended.
 --
--- Functions. ARGS are those after the keys. The name of each ends in the version of this library, as rb_calls_4 does,
+-- Functions. ARGS are those after the keys. The name of each ends in the version of this library, as rb_calls_5 does,
 -- and so does that of the library. So gateways of several versions serve a queue side by side, as long as its format is
 -- one that they know; of a later one they get the error FORMAT.
 --   rb_version                                    the version of this library; it needs no keys
@@ -84,6 +84,7 @@
 -- (without AT and QUIT), or one of these:
 --   POLLFOR TIMEOUT START   a later try of a timed poll that began at START
 --   WAIT                    a TAKE or a POLLFOR that others wait before: it is refused, or answered LATER
+--   take, pollfor .., wait  the same as in capitals, of a session that holds fewer than 64 jobs, as its gateway knows
 --   END                     the session ends: what it holds fails, in the order of its fetches. -> 'ENDED n', n lost
 --   REVIVE ID DELAY         offers a dead job again, as a new job. -> 'OFFERED id expiry' or 'NONE'
 --   DROP ID                 forgets a dead job. -> 'DROPPED id' or 'NONE'
@@ -92,7 +93,7 @@
 --
 -- A publish is 'HEAD NOW': the expiry of an element that has become the earliest, and what the clock shows.
 
-local VERSION = '4'
+local VERSION = '5'
 local FORMAT = '1'
 local LAST = '18446744073709551615'
 local MOST_HELD = 64
@@ -112,11 +113,22 @@ for digits = 19, 0, -1 do ZEROS[digits] = ZEROS[digits + 1] .. '0' end
 
 local function pad(number) return ZEROS[#number] .. number end
 local function whole(number) return string.format('%d', number) end
-local function padded(number) return string.format('%020d', number) end
+local function plain(digits) return string.match(digits, '^0*(.+)$') end
 
-local function plain(digits)
-    local place = string.find(digits, '[1-9]')
-    return place and string.sub(digits, place) or '0'
+-- The last three digits of each number, and the 17 in front of them of some, by the number without its last three.
+local ENDS, fronts, front_count = {}, {}, 0
+for last = 0, 999 do ENDS[last] = (last < 10 and '00' or last < 100 and '0' or '') .. last end
+
+-- A number that is counted, with 20 digits: it costs less than to format each.
+local function padded(number)
+    local last = number % 1000
+    local front = fronts[number - last]
+    if not front then
+        if front_count == 1000 then fronts, front_count = {}, 0 end
+        front = string.format('%017d', (number - last) / 1000)
+        fronts[number - last], front_count = front, front_count + 1
+    end
+    return front .. ENDS[last]
 end
 
 -- The sum as 20 digits, or nil if it passes 2^64 - 1.
@@ -149,31 +161,40 @@ local function moment_of(microsecond) return pad(whole(microsecond) .. '000') en
 -- The queue as a step sees it. Events, counters and the wake are written by `close`, once for all calls of a step; what
 -- changes in due and ids by `settle`, and in held by `settle_held`, at the end or before somebody looks for it there. So
 -- an element that is given in the step that offers it is never in due.
-local FIELDS = { 'next', 'at', 'calls', 'fetched', 'wake', 'pace', 'period', 'attempts', 'limit', 'history', 'loading',
-    'format', 'most' }
+local FIELDS = { 'next', 'at', 'calls', 'fetched', 'wake', 'pace', 'limit', 'history', 'loading', 'format', 'most' }
+
+local call, sub -- redis.call and string.sub, which a library has only once it is loaded
 
 local function is_loading() return redis.error_reply('LOADING_QUEUE a load into this queue has not ended') end
 local function is_later(format) return redis.error_reply('FORMAT ' .. format .. ' ' .. FORMAT) end
 
+-- An empty list that has room.
+local function list() return { nil, nil, nil, nil, nil, nil, nil, nil } end
+
 local function open(keys, moment)
-    local state = redis.call('HMGET', keys[4], unpack(FIELDS))
-    if state[11] then return nil, is_loading() end
-    if (state[12] or FORMAT) ~= FORMAT then return nil, is_later(state[12]) end
-    if not state[6] then return nil, redis.error_reply('NOQUEUE there is no such queue') end
+    call, sub = redis.call, string.sub
+    local next, at_before, calls, fetched, wake, pace, limit, history, loading, format, most =
+        unpack(call('HMGET', keys[4], unpack(FIELDS)))
+    if loading then return nil, is_loading() end
+    if (format or FORMAT) ~= FORMAT then return nil, is_later(format) end
+    if not pace then return nil, redis.error_reply('NOQUEUE there is no such queue') end
     local now = microseconds()
-    local clock, at = moment == '' and moment_of(now) or moment, state[2]
+    local clock, at = moment == '' and moment_of(now) or moment, at_before
     if clock > at then at = clock end
     local asked = moment == '' and at or moment
+    local plain_asked = plain(asked)
+    calls = tonumber(calls)
     return {
-        keys = keys, asked = asked, at = at, plain_asked = plain(asked), plain_clock = plain(clock),
-        stamp = ' ' .. plain(asked) .. ' ' .. plain(at) .. ' ',
-        next = tonumber(state[1]), calls = tonumber(state[3]), fetched = tonumber(state[4]), wake = state[5],
-        pace = state[6], period = state[7], attempts = tonumber(state[8]), limit = tonumber(state[9] or '1e300'),
-        silent = state[10] == 'no', brief = state[10] == 'brief', lines = {}, counts = {},
-        at_before = state[2], calls_before = tonumber(state[3]), wake_before = state[5], work = 0,
-        returned = 0, died = 0, began = now,
-        heads = {}, first = 1, popped = 0, ahead = 1, new = {}, taken = {}, holds = {}, held_now = {},
-        most = tonumber(string.match(state[13] or '', '^%d+')), refuses = string.find(state[13] or '', 'refuse'),
+        keys = keys, asked = asked, at = at, plain_asked = plain_asked,
+        plain_clock = clock == asked and plain_asked or plain(clock),
+        stamp = ' ' .. plain_asked .. ' ' .. (at == asked and plain_asked or plain(at)) .. ' ',
+        next = tonumber(next), calls = calls, fetched = tonumber(fetched), wake = wake,
+        pace = pace, limit = tonumber(limit or '1e300'),
+        silent = history == 'no', brief = history == 'brief', lines = list(), counts = {},
+        at_before = at_before, calls_before = calls, wake_before = wake, work = 0, returned = 0, died = 0, began = now,
+        heads = {}, first = 1, popped = 0, ahead = 1, taken = list(), fresh = 0, new = list(), new_ids = list(),
+        holds = list(),
+        most = most and tonumber(string.match(most, '^%d+')), refuses = most and string.find(most, 'refuse'),
     }
 end
 
@@ -195,41 +216,40 @@ end
 
 -- Writes what the step did to the elements.
 local function settle(queue)
-    local keys, new = queue.keys, queue.new
+    local keys = queue.keys
     if queue.popped > 0 then
-        redis.call('ZREMRANGEBYRANK', keys[1], 0, queue.popped - 1)
-        redis.call('HDEL', keys[2], unpack(queue.taken))
+        call('ZREMRANGEBYRANK', keys[1], '0', whole(queue.popped - 1))
+        call('HDEL', keys[2], unpack(queue.taken))
+        queue.popped, queue.taken = 0, {}
     end
-    if #new > 0 then
-        local members, ids = {}, {}
-        for place, member in ipairs(new) do
-            members[2 * place - 1], members[2 * place] = 0, member
-            ids[2 * place - 1], ids[2 * place] = plain(string.sub(member, 22, 41)), string.sub(member, 1, 20)
-        end
-        redis.call('ZADD', keys[1], unpack(members))
-        redis.call('HSET', keys[2], unpack(ids))
+    if queue.fresh > 0 then
+        call('ZADD', keys[1], unpack(queue.new))
+        call('HSET', keys[2], unpack(queue.new_ids))
+        queue.fresh, queue.new, queue.new_ids, queue.least = 0, {}, {}, nil
     end
-    queue.heads, queue.first, queue.popped, queue.is_all = {}, 1, 0, nil
-    queue.new, queue.least, queue.taken = {}, nil, {}
+    queue.heads, queue.first, queue.is_all = {}, 1, nil
 end
 
 -- Writes what the step let sessions hold.
 local function settle_held(queue)
-    if #queue.holds > 0 then redis.call('ZADD', queue.keys[3], unpack(queue.holds)) end
-    queue.holds, queue.held_now = {}, {}
+    if queue.holds[1] then
+        call('ZADD', queue.keys[3], unpack(queue.holds))
+        queue.holds = {}
+    end
 end
 
 local function close(queue)
-    if queue.popped > 0 or #queue.new > 0 then settle(queue) end
-    if #queue.holds > 0 then settle_held(queue) end
+    local state = queue.keys[4]
+    if queue.popped + queue.fresh > 0 then settle(queue) end
+    settle_held(queue)
     append(queue)
-    for _, field in ipairs({ 'returned', 'died' }) do
-        if queue[field] > 0 then redis.call('HINCRBY', queue.keys[4], field, whole(queue[field])) end
-    end
-    if queue.calls > queue.calls_before or queue.wake ~= queue.wake_before then
-        local at = queue.calls > queue.calls_before and queue.at or queue.at_before
-        redis.call('HSET', queue.keys[4], 'next', whole(queue.next), 'at', at, 'calls', whole(queue.calls),
+    if queue.returned > 0 then call('HINCRBY', state, 'returned', whole(queue.returned)) end
+    if queue.died > 0 then call('HINCRBY', state, 'died', whole(queue.died)) end
+    if queue.calls > queue.calls_before then
+        call('HSET', state, 'next', whole(queue.next), 'at', queue.at, 'calls', whole(queue.calls),
             'fetched', whole(queue.fetched), 'wake', queue.wake)
+    elseif queue.wake ~= queue.wake_before then
+        call('HSET', state, 'wake', queue.wake)
     end
     if queue.earlier then
         local channel = string.gsub(queue.keys[1], ':due$', ':head')
@@ -238,10 +258,11 @@ local function close(queue)
 end
 
 local function record(queue, seat, act)
-    queue.calls = queue.calls + 1
     local lines = queue.lines
-    lines[#lines + 1] = seat .. queue.stamp .. act
-    if #lines == 1000 then append(queue) end
+    local count = #lines + 1
+    queue.calls = queue.calls + 1
+    lines[count] = seat .. queue.stamp .. act
+    if count == 1000 then append(queue) end
 end
 
 -- Records what was found, or that nothing was.
@@ -254,9 +275,9 @@ local function is_full(queue) return queue.calls >= queue.limit end
 -- The place of the earliest of the new elements, if there is one.
 local function least_new(queue)
     local new, least = queue.new, queue.least
-    if not least and #new > 0 then
-        least = 1
-        for place = 2, #new do
+    if not least and queue.fresh > 0 then
+        least = 2
+        for place = 4, 2 * queue.fresh, 2 do
             if new[place] < new[least] then least = place end
         end
         queue.least = least
@@ -268,8 +289,9 @@ end
 local function head_of(queue)
     local head = queue.heads[queue.first]
     if not head and not queue.is_all then
-        queue.heads = redis.call('ZRANGE', queue.keys[1], queue.popped, queue.popped + queue.ahead - 1)
-        queue.first, queue.is_all = 1, #queue.heads < queue.ahead
+        local popped, ahead = queue.popped, queue.ahead
+        queue.heads = call('ZRANGE', queue.keys[1], whole(popped), whole(popped + ahead - 1))
+        queue.first, queue.is_all = 1, #queue.heads < ahead
         head = queue.heads[1]
     end
     local least = least_new(queue)
@@ -279,14 +301,16 @@ end
 
 -- Inserts an element, and records its offer. A first attempt has no origin yet.
 local function insert(queue, seat, expiry, origin, first, attempt, payload)
-    local id, shown = whole(queue.next), plain(expiry)
+    local digits, shown = padded(queue.next), plain(expiry)
+    local id = plain(digits)
     local rest = (origin or id) .. ' ' .. (first or shown) .. ' ' .. attempt .. ' ' .. payload
-    local member = expiry .. ':' .. padded(queue.next) .. ' ' .. rest
-    queue.next = queue.next + 1
-    if #queue.new == MOST_NEW then settle(queue) end
-    local new = queue.new
-    new[#new + 1] = member
-    if queue.least and member < new[queue.least] then queue.least = #new end
+    local member = expiry .. ':' .. digits .. ' ' .. rest
+    if queue.fresh == MOST_NEW then settle(queue) end
+    local new, ids, fresh = queue.new, queue.new_ids, 2 * queue.fresh + 2
+    new[fresh - 1], new[fresh] = '0', member
+    ids[fresh - 1], ids[fresh] = id, expiry
+    queue.next, queue.fresh = queue.next + 1, fresh / 2
+    if queue.least and member < new[queue.least] then queue.least = fresh end
     if expiry < queue.wake then
         queue.wake = expiry
         if not queue.earlier or expiry < queue.earlier then queue.earlier = expiry end
@@ -299,44 +323,56 @@ end
 local function count_of(queue, seat)
     local count = queue.counts[seat]
     if not count then
+        settle_held(queue)
         local prefix = pad(seat)
-        count = redis.call('ZLEXCOUNT', queue.keys[3], '[' .. prefix .. ':', '(' .. prefix .. ';')
+        count = call('ZLEXCOUNT', queue.keys[3], '[' .. prefix .. ':', '(' .. prefix .. ';')
         queue.counts[seat] = count
     end
     return count
 end
 
+-- Takes an element out that due does not have yet.
+local function take_new(queue, place)
+    local new, ids, last = queue.new, queue.new_ids, 2 * queue.fresh
+    new[place], ids[place - 1], ids[place] = new[last], ids[last - 1], ids[last]
+    new[last - 1], new[last], ids[last - 1], ids[last] = nil, nil, nil, nil
+    queue.fresh, queue.least = queue.fresh - 1, nil
+end
+
 -- Takes out the earliest element, if it has expired, and lets the session hold it. -> its id and its ITEM line
 local function fetch(queue, seat)
     local head, place = head_of(queue)
-    local expiry = head and string.sub(head, 1, 20)
+    local expiry = head and sub(head, 1, 20)
     if not head or expiry > queue.at then return nil end
-    local id, rest = string.sub(head, 22, 41), string.sub(head, 43)
+    local id, rest, counts = sub(head, 22, 41), sub(head, 43), queue.counts
     local shown = plain(id)
     if place then
-        local new = queue.new
-        new[place] = new[#new]
-        new[#new] = nil
-        queue.least = nil
+        take_new(queue, place)
     else
         queue.first, queue.popped = queue.first + 1, queue.popped + 1
         queue.taken[queue.popped] = shown
     end
-    queue.counts[seat] = count_of(queue, seat) + 1
+    if counts[seat] then counts[seat] = counts[seat] + 1 end
     queue.fetched, queue.work = queue.fetched + 1, queue.work + 1
     local holds = queue.holds
-    holds[#holds + 1] = 0
-    holds[#holds + 1] = pad(seat) .. ':' .. id .. ' ' .. padded(queue.fetched) .. ' ' .. expiry .. ' ' .. rest
-    queue.held_now[shown] = true
+    local count = #holds
+    holds[count + 1] = '0'
+    holds[count + 2] = pad(seat) .. ':' .. id .. ' ' .. padded(queue.fetched) .. ' ' .. expiry .. ' ' .. rest
     return shown, 'ITEM ' .. shown .. ' ' .. plain(expiry) .. ' ' .. string.match(rest, '^%d+ %d+ (.*)$') .. '\n'
 end
 
 -- When a wait that finds nothing has to be tried again.
 local function later(queue, start)
     local head = head_of(queue)
-    local expiry = head and string.sub(head, 1, 20) or NEVER
+    local expiry = head and sub(head, 1, 20) or NEVER
     if queue.wake == '' or expiry > queue.wake then queue.wake = expiry end
     return 'LATER ' .. (head and plain(expiry) or '-') .. ' ' .. queue.plain_clock .. ' ' .. start .. '\n'
+end
+
+-- Reads the rest of the policy, which few steps need.
+local function learn_policy(queue)
+    local period, attempts = unpack(call('HMGET', queue.keys[4], 'period', 'attempts'))
+    queue.period, queue.attempts = period, tonumber(attempts)
 end
 
 -- The moment at which the next attempt of a job that fails now expires.
@@ -357,6 +393,7 @@ end
 -- Lets a held job fail. -> its reply, or nil if its next attempt is refused: then it stays held
 local function fail_job(queue, seat, job)
     local reply
+    if not queue.attempts then learn_policy(queue) end
     queue.work = queue.work + 1
     if job.attempt >= queue.attempts then
         redis.call('ZADD', queue.keys[6], 0, job.id .. ' ' .. queue.at .. ' ' .. string.sub(job.member, 64))
@@ -401,7 +438,7 @@ local MEMORY = 'ERR 7 memory\n'
 
 local function offer_at(queue, seat, expiry, payload)
     if is_full(queue) then return FULL end
-    if queue.spare or queue.refuses and redis.call('LLEN', queue.keys[5]) + #queue.lines >= queue.most then
+    if queue.spare or queue.refuses and call('LLEN', queue.keys[5]) + #queue.lines >= queue.most then
         return MEMORY
     end
     local id, shown = insert(queue, seat, expiry, nil, nil, '1', payload)
@@ -416,16 +453,22 @@ end
 
 function requests.OFFERAT(queue, seat, expiry, payload) return offer_at(queue, seat, pad(expiry), payload) end
 
-function requests.POLL(queue, seat)
-    if count_of(queue, seat) >= MOST_HELD then return HELD end
+-- A request that is refused while its session holds as many jobs as it may.
+local function counted(request)
+    return function(queue, seat, number, start)
+        if count_of(queue, seat) >= MOST_HELD then return HELD end
+        return request(queue, seat, number, start)
+    end
+end
+
+requests.POLL = counted(function(queue, seat)
     if is_full(queue) then return FULL end
     local id, item = fetch(queue, seat)
     record_found(queue, seat, id, 'poll ' .. (id or 'none'))
     return item or 'NONE\n'
-end
+end)
 
-function requests.TAKE(queue, seat)
-    if count_of(queue, seat) >= MOST_HELD then return HELD end
+function requests.take(queue, seat)
     if is_full(queue) then return FULL end
     local id, item = fetch(queue, seat)
     if not id then return later(queue, queue.plain_asked) end
@@ -433,8 +476,7 @@ function requests.TAKE(queue, seat)
     return item
 end
 
-function requests.POLLFOR(queue, seat, timeout, start)
-    if count_of(queue, seat) >= MOST_HELD then return HELD end
+function requests.pollfor(queue, seat, timeout, start)
     if is_full(queue) then return FULL end
     if start == '' then start = queue.plain_asked end
     local id, item = fetch(queue, seat)
@@ -443,11 +485,13 @@ function requests.POLLFOR(queue, seat, timeout, start)
     return item or 'NONE\n'
 end
 
-function requests.WAIT(queue, seat)
-    if count_of(queue, seat) >= MOST_HELD then return HELD end
+function requests.wait(queue)
     if is_full(queue) then return FULL end
     return later(queue, queue.plain_asked)
 end
+
+requests.TAKE, requests.POLLFOR = counted(requests.take), counted(requests.pollfor)
+requests.WAIT = counted(requests.wait)
 
 function requests.PEEK(queue, seat)
     if is_full(queue) then return FULL end
@@ -496,24 +540,31 @@ end
 
 function requests.SIZE(queue, seat)
     if is_full(queue) then return FULL end
-    local count = whole(redis.call('ZCARD', queue.keys[1]) - queue.popped + #queue.new)
+    local count = whole(call('ZCARD', queue.keys[1]) - queue.popped + queue.fresh)
     record(queue, seat, 'size ' .. count)
     return 'SIZE ' .. count .. '\n'
 end
 
+-- Makes a command that finds what a session holds by the id.
+local function on_held(queue, command, seat, id)
+    local front = pad(seat) .. ':' .. pad(id)
+    return call(command, queue.keys[3], '[' .. front .. ' ', '(' .. front .. '!')
+end
+
 function requests.DONE(queue, seat, id)
-    if queue.held_now[id] then settle_held(queue) end
-    local member = pad(seat) .. ':' .. pad(id)
-    local ended = redis.call('ZREMRANGEBYLEX', queue.keys[3], '[' .. member .. ' ', '(' .. member .. '!')
-    if ended == 0 then return NOT_HELD end
-    if queue.counts[seat] then queue.counts[seat] = queue.counts[seat] - 1 end
+    if on_held(queue, 'ZREMRANGEBYLEX', seat, id) == 0 then
+        if not queue.holds[1] then return NOT_HELD end
+        settle_held(queue) -- it may have been fetched in this step
+        return requests.DONE(queue, seat, id)
+    end
+    local counts = queue.counts
+    if counts[seat] then counts[seat] = counts[seat] - 1 end
     return 'DONE ' .. id .. '\n'
 end
 
 function requests.FAIL(queue, seat, id)
-    if queue.held_now[id] then settle_held(queue) end
-    local member = pad(seat) .. ':' .. pad(id)
-    member = redis.call('ZRANGEBYLEX', queue.keys[3], '[' .. member .. ' ', '(' .. member .. '!')[1]
+    settle_held(queue)
+    local member = on_held(queue, 'ZRANGEBYLEX', seat, id)[1]
     if not member then return NOT_HELD end
     return fail_job(queue, seat, job_of(member)) or FULL
 end
@@ -554,7 +605,7 @@ local function perform(keys, args, spare)
     queue.spare, queue.ahead = spare, math.min(#args - 2, READ_AHEAD)
     local replies, next_look = {}, WORK_BETWEEN_LOOKS
     for place = 3, #args do
-        local seat, word, number, rest = string.match(args[place], '^(%d+) (%u+) ?(%S*) ?(%S*)$')
+        local seat, word, number, rest = string.match(args[place], '^(%d+) (%a+) ?(%S*) ?(%S*)$')
         replies[place - 2] = requests[word](queue, seat, number, rest)
         queue.work = queue.work + 1
         if queue.work >= next_look then

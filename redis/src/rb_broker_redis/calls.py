@@ -45,7 +45,8 @@ class Calls:
     only some of its calls are under way, so a batch that the Redis refused can be sent again later than others."""
 
     def __init__(self, queue: str, *, replicas: int = 0, patience: float = 5.0) -> None:
-        self._head = bulks(key.encode() for key in keys_of(queue))
+        keys = bulks(key.encode() for key in keys_of(queue))
+        self._heads = {it: bulks([b"FCALL", it, b"8"]) + keys for it in (CALLS, SPARE)}
         self.replicas, self.patience = replicas, patience
         self._front = bulks([b"", b""])
         self._turns = Turns()
@@ -133,8 +134,8 @@ class Calls:
         self._flying[batch] = None
         batch.sent = time.monotonic()
         calls = batch.calls()
-        head = b"*%d\r\n" % (13 + len(calls)) + bulks([b"FCALL", batch.function, b"8"])
-        data = b"".join([head, self._head, batch.front, bulks(calls)])
+        count = b"*%d\r\n" % (13 + len(calls))
+        data = b"".join([count, self._heads[batch.function], batch.front, bulks(calls)])
         if not self.replicas:
             link.send(data, lambda answer: self._answered(link, batch, answer))
             return

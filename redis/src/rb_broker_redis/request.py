@@ -46,7 +46,8 @@ _USUAL = re.compile(
     rb"|(?:DONE|FAIL|REMOVE|DRAIN) (?:0|[1-9][0-9]{0,18})|POLL|PEEK|SIZE|CLEAR)"
     rb"|(?P<WAIT>TAKE|POLLFOR (?:0|[1-9][0-9]{0,18})))\r?"
 )
-_KINDS = {kind.name: kind for kind in Kind}
+_KINDS = [Kind[name] if name else Kind.ERROR for name in ("", *_USUAL.groupindex)]
+"""By the number of the group."""
 
 # No more of a line's beginning has to be kept to know that it is too long, even if its last byte is a CR that belongs
 # to its end.
@@ -71,8 +72,8 @@ class LineCutter:
 def read_request(line: bytes) -> Request:
     """Reads a line, which is given without its line feed. One CR at its end belongs to the end."""
     usual = _USUAL.fullmatch(line)
-    if usual and usual.lastgroup:
-        return Request(_KINDS[usual.lastgroup], usual[usual.lastgroup])
+    if usual and (group := usual.lastindex):
+        return Request(_KINDS[group], usual[group])
     return _read_unusual(line[:-1] if line.endswith(b"\r") else line)
 
 

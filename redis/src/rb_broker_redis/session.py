@@ -6,7 +6,7 @@ import socket
 from collections import deque
 from typing import TYPE_CHECKING, cast
 
-from .protocol import SECOND, ErrorReply
+from .protocol import MOST_HELD, SECOND, ErrorReply
 from .request import Kind, LineCutter, read_request, refused
 from .turns import FETCHES
 from .waits import LATER, STOPPED, Wait
@@ -33,13 +33,15 @@ NO_WAIT = b"POLLFOR 0"
 TRUNCATED = refused(ErrorReply.LINE)
 
 
+MORE_HELD = {b"ITEM": 1, b"DONE": -1, b"AGAI": -1, b"DEAD": -1}
+"""By the first bytes of a reply."""
+
+
 def more_held_by(reply: bytes) -> int:
     """How many more jobs a session holds behind this reply."""
-    if reply.startswith(b"ITEM"):
-        return 1
     if reply.startswith(b"DRAINED"):
         return int(reply.partition(b"\n")[0].split(b" ")[1])
-    return -1 if reply.startswith((b"DONE", b"AGAIN", b"DEAD")) else 0
+    return MORE_HELD.get(reply[:4], 0)
 
 
 class Session(asyncio.Protocol):
@@ -189,8 +191,8 @@ class Session(asyncio.Protocol):
                 calls.append(seat + text)
                 plan.append(None)
             elif kind is Kind.WAIT:
-                waits_behind = self._gateway.waits and text != NO_WAIT
-                calls.append(seat + (b"WAIT" if waits_behind else text))
+                call = b"WAIT" if self._gateway.waits and text != NO_WAIT else text
+                calls.append(seat + (call if plan or self._held >= MOST_HELD else call.lower()))
                 self._wait_request = text
                 break
             elif kind is Kind.QUIT:

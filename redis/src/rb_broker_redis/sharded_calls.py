@@ -8,7 +8,7 @@ from itertools import groupby
 from .calls import Calls
 from .protocol import MOST_HELD, ErrorReply
 from .shards import Rendezvous, inner_id, outer_id
-from .turns import Answered
+from .turns import UNCOUNTED, Answered
 from .waits import LATER, laters_in
 
 BY_PAYLOAD = (b"OFFER", b"OFFERAT")
@@ -39,7 +39,7 @@ class ShardedCalls:
     def submit(self, calls: list[bytes], answered: Answered) -> None:
         """Makes these calls of one session, one after the other."""
         session = self._session(calls[0].partition(b" ")[0])
-        requests = [call.partition(b" ")[2] for call in calls]
+        requests = [it.upper() if it.startswith(UNCOUNTED) else it for it in (call.partition(b" ")[2] for call in calls)]
         task = asyncio.ensure_future(self._carry_out(session, requests, answered))
         self._under_way.add(task)
         task.add_done_callback(self._under_way.discard)

@@ -9,7 +9,11 @@ from .protocol import ErrorReply
 Answered = Callable[[list[bytes] | None], None]
 """Gets the replies of what was submitted, or None where it is in doubt whether the calls were made."""
 
-FETCHES = (b"POLL", b"TAKE", b"POLLFOR", b"DRAIN")
+UNCOUNTED = (b"take", b"pollfor", b"wait")
+"""What stands for TAKE, POLLFOR and WAIT of a session that may hold another job, as its gateway knows: broker.lua need
+not count what it holds."""
+
+FETCHES = (b"POLL", b"TAKE", b"POLLFOR", b"DRAIN", *UNCOUNTED)
 
 FIRST_SHARE, SHARE = 1, 8
 """How many calls of a session go out before others have had their turn: at its first turn, and then."""
@@ -50,19 +54,14 @@ class Part:
         self.count = 0
         """How many calls are under way."""
 
-    @property
-    def left(self) -> int:
-        """How many calls have not gone out."""
-        return len(self.calls) - len(self.replies) - self.count
-
     def under_way(self) -> list[bytes]:
         """The calls that are under way."""
         start = len(self.replies)
-        return self.calls[start:start + self.count]
+        return self.calls[start:start + self.count] if start or self.count < len(self.calls) else self.calls
 
     def take(self, replies: list[bytes]) -> None:
         """The first of the calls that are under way are made, with these replies; the others are not."""
-        self.replies += replies
+        self.replies = self.replies + replies if self.replies else replies
         self.count = 0
 
     def end(self, replies: list[bytes] | None) -> None:
@@ -91,10 +90,13 @@ class Batch:
 
     def calls(self) -> list[bytes]:
         """All calls, in their order."""
-        return [call for part in self.parts for call in part.under_way()]
+        calls: list[bytes] = []
+        for part in self.parts:
+            calls += part.under_way()
+        return calls
 
     def __len__(self) -> int:
-        return sum(part.count for part in self.parts)
+        return sum([part.count for part in self.parts])
 
     def take(self, replies: list[bytes]) -> None:
         """Gives each part its replies. There may be fewer than calls: then the last ones were not made."""
@@ -132,29 +134,32 @@ class Turns:
 
     def take(self, function: bytes) -> Batch:
         """The calls that go out next, for this function. They are of one gateway's number. There must be some."""
+        new, others, room, turn = self._new, self._others, self._most, 0
+        front = (new or others)[0].front
         parts: list[Part] = []
-        room, turn = self._most, 0
-        while room and self:
-            is_new = bool(self._new) and not (self._others and turn == NEW_FOR_EACH_OTHER)
-            line = self._new if is_new else self._others
-            if parts and line[0].front is not parts[0].front:
+        waiting: list[tuple[Part, int]] = []  # those with more calls than their share
+        while room and (new or others):
+            is_new = bool(new) and not (others and turn == NEW_FOR_EACH_OTHER)
+            part = (new if is_new else others)[0]
+            if part.front is not front:
                 break
             turn = turn + 1 if is_new else 0
-            part = line.popleft()
-            part.count = min(part.left, (FIRST_SHARE if is_new else SHARE) * part.sessions, room)
+            parts.append((new if is_new else others).popleft())
+            left = len(part.calls) - len(part.replies)
+            part.count = min(left, (FIRST_SHARE if is_new else SHARE) * part.sessions, room) if left > 1 else left
             room -= part.count
-            parts.append(part)
-        for part in parts:  # what others leave is shared in the same order
-            more = min(part.left, room)
+            if part.count < left:
+                waiting.append((part, left - part.count))
+        for part, left in waiting:  # what others leave is shared in the same order
+            more = min(left, room)
             part.count, room = part.count + more, room - more
         return Batch(parts, function)
 
     def put_back(self, batch: Batch) -> None:
         """Those of whose parts calls are left have their turns again: whoever had none made is first."""
-        for part in reversed(batch.parts):
-            if not part.replies:
-                self._new.appendleft(part)
-        self._others.extend(part for part in batch.parts if part.replies and part.left)
+        left = [it for it in batch.parts if len(it.replies) < len(it.calls)]
+        self._new.extendleft(it for it in reversed(left) if not it.replies)
+        self._others.extend(it for it in left if it.replies)
 
     def adapt(self, sent: int, made: int, seconds: float) -> None:
         """So many of the calls of a command were made, in so many seconds."""
