@@ -203,7 +203,7 @@ public final class RemoteDelayQueue extends AbstractQueue<Job> implements Blocki
             boolean isPlaced = delay < 0 && runs.isClockKnown(session.contact);
             Element element = isPlaced ? placed(session, deadline, job.payload())
                 : offerIn(session, Math.max(0, delay), job.payload());
-            if (!isPlaced && delay <= -options.overdue() && session.ask(Request.remove(element.id()))) {
+            if (!isPlaced && delay <= -options.overdue() && isTakenBack(session, element)) {
                 element = placed(session, deadline, job.payload());
             }
             job.place = new Job.Place(session.contact, element);
@@ -422,6 +422,15 @@ public final class RemoteDelayQueue extends AbstractQueue<Job> implements Blocki
     /** An offer of what is overdue, at its moment. */
     private Element placed(Session session, long deadline, String payload) {
         return session.ask(Request.offerAt(runs.momentOf(deadline), payload));
+    }
+
+    /** Takes out an element again. If the run is full, it stays: it has been offered, and must not be once more. */
+    private static boolean isTakenBack(Session session, Element element) {
+        try {
+            return session.ask(Request.remove(element.id()));
+        } catch (RefusedException full) {
+            return false;
+        }
     }
 
     /** Makes an offer, whose reply tells the server's moment. */

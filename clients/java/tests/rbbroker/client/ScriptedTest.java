@@ -121,6 +121,15 @@ public class ScriptedTest extends QueueTest {
     }
 
     @Test
+    public void anOverdueJobIsOfferedOnceThoughItsRunIsFullBehindIt() throws Exception {
+        playTo(port -> new RemoteDelayQueue.Builder(port, Acknowledge.BY_CALL), it -> {
+            Job job = in(-50_000, "a");
+            it.offer(job);
+            assertEquals(7, job.id());
+        }, talk -> talk.greet().accept(7, HOURS.toNanos(1) - System.nanoTime()).hear("REMOVE 7").say("ERR 6 full"));
+    }
+
+    @Test
     public void theClockOfAServiceGoesOnThroughItsRuns() throws Exception {
         long ahead = HOURS.toNanos(1) - System.nanoTime();
         playTo(port -> new RemoteDelayQueue.Builder(port, Acknowledge.BY_CALL), it -> {
