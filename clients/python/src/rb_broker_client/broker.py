@@ -153,8 +153,8 @@ class Session:
         try:
             while self._unsent:
                 del self._unsent[:self._socket.send(self._unsent)]
-        except _NOT_NOW:
-            pass
+        except (*_NOT_NOW, BrokenPipeError):
+            pass  # if the server has ended it, what came before is read first, and then the end
 
     def received(self) -> list[Any]:
         """The answers to what has come, each refusal in its place."""

@@ -16,6 +16,7 @@ from rb_broker_client import (
     Again, AsyncBroker, AsyncProducer, Broker, DisconnectedError, FullError, Job, NotHeldError, Offered, Producer,
     Request, StoppedError, UnknownReplyError, Worker,
 )
+from rb_broker_client.errors import EndedError
 
 DRAINED_LATE = "DRAIN 2 > DRAINED 2, ITEM 0 0 1 a; SIZE > late: ITEM 1 0 1 b, SIZE 0"
 
@@ -208,6 +209,25 @@ class RecordTest(BrokerCase):
         self.assertEqual(os.waitstatus_to_exitcode(os.waitpid(child, 0)[1]), 3)
         thread.join(PATIENCE)
         self.assertEqual(sorted(it["reply"][0] for it in self.lines()), ["SIZE 3", "SIZE 4"])
+
+
+class EndTest(unittest.TestCase):
+    def test_what_came_before_an_end_is_read_though_nothing_can_be_sent(self):
+        listener = socket.create_server(("127.0.0.1", 0))
+        self.addCleanup(listener.close)
+        with Broker(listener.getsockname()[1], patience=PATIENCE) as broker:
+            broker.post(Request.size())
+            connection, _ = listener.accept()
+            connection.recv(100)
+            connection.sendall(b"SIZE 3\n")
+            connection.close()
+            for _ in range(3):  # the second is answered by a reset, and so nothing more can be sent
+                time.sleep(0.1)
+                broker.post(Request.size())
+            broker.receive()
+            broker.receive()
+            self.assertEqual(broker.received(), [3])
+            self.assertRaises(EndedError, broker.received)
 
 
 class OwnPortTest(unittest.TestCase):
