@@ -112,7 +112,7 @@ class SessionTest(ProducerCase):
         producer, threads = self.produce(f"{FIRST}; {SECOND}"), threading.active_count()
         self.assertEqual(offer(producer), Offered(0, 5))
         self.assert_session_goes_on()
-        self.assertEqual(threading.active_count(), threads)
+        self.assertLessEqual(threading.active_count(), threads)  # those of other tests end meanwhile
         self.assertEqual(offer(producer), Offered(1, 5))
 
     def test_a_forked_process_has_a_session_of_its_own(self):

@@ -40,11 +40,15 @@ def test_each_request_is_in_the_table_and_the_grammar() -> None:
     assert table == re.findall(r'%s"([A-Z]+)"', grammar)
 
 
+def test_the_first_screen(run: Run) -> None:
+    command, *replies = blocks(page("README.md"))[0].splitlines()
+    assert run(command.removeprefix("$ ")).stdout.splitlines() == replies and len(replies) == 4
+
+
 def test_the_first_look(run: Run) -> None:
-    text = section("README.md", "First look")
-    command = blocks(text)[-1].strip()
-    told = code(text.rpartition("the last replies are")[2])
-    assert run(command).stdout.splitlines()[-len(told):] == told and len(told) == 3
+    """It plays the dialogue of the protocol."""
+    command = blocks(section("README.md", "First look"))[0].strip()
+    assert run(command).stdout == dialogue(blocks(section(PROTOCOL, "Requests"))[0])[1]
 
 
 def test_the_commands_of_histories(run: Run) -> None:
@@ -117,14 +121,13 @@ def test_the_refusals_that_have_examples() -> None:
 
 
 def test_a_line_of_the_greatest_length_is_no_fault(run: Run) -> None:
-    most = int(re.search(r"A line has at most (\d+) bytes", page(PROTOCOL))[1])
+    most = int(re.search(r"Before its end it has at most (\d+) bytes", page(PROTOCOL))[1])
     long, longer = (run("rb_broker script", f"{count * 'x'}\n").stdout for count in (most, most + 1))
     assert (long, longer) == ("ERR 1 syntax\n", "ERR 8 line\n")
 
 
 def test_the_examples_that_the_protocol_names(run: Run) -> None:
-    assert "`examples/refusals.txt` shows refusals 1 to 4 and 8, and `examples/retries.txt` a job that fails twice " \
-           "and is done, and a `DRAIN` of two jobs." in page(PROTOCOL)
+    assert "`examples/refusals.txt` shows refusals 1 to 4 and 8, `examples/retries.txt` failures and a `DRAIN`." in page(PROTOCOL)
     refusals, retries = (run(f"./broker script < examples/{it}.txt").stdout for it in ("refusals", "retries"))
     assert {*re.findall(r"^ERR (\d)", refusals, re.M)} == {"1", "2", "3", "4", "8"}
     words = [it.split()[0] for it in retries.splitlines() if it.split()[0] != "NOW"]

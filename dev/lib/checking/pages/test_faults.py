@@ -88,6 +88,6 @@ LINES = [line for row in tables(section(OPERATING, "When nothing is served"))[0]
 def test_the_lines_of_a_service_that_ends(line: str) -> None:
     """Each piece between what varies, `..`, is a text of the service, or a fault of the program."""
     texts = re.sub(r'"\s*\n\s*f?"', "", of_service() + source("crates/rb_ending/src/broker_fault.rt"))
-    for piece in re.split(r"\.\.| N\b|event=|: rb_broker: |\bthe service of process\b", line):
+    for piece in re.split(r"\.\.| N\b|: Address already in use|event=|: rb_broker: |\bthe service of process\b", line):
         piece = piece.strip(" ,()")
         assert piece in texts, piece

@@ -117,12 +117,6 @@ def test_ranges_of_the_service() -> None:
             assert re.search(rf"--{option} .*\b{told}\b", help_of(sys.executable, "-B", f"{TOP}/tools/service")), row
 
 
-def test_defaults_that_are_wrong_for_a_service() -> None:
-    told = re.search(r"most defaults are wrong for a service \((.*?)\)", page(OPERATING))[1]
-    words = dict(it.removeprefix("--").split() for it in code(told))
-    assert words == {it: of_program("serve")[it] for it in words} and len(words) == 4
-
-
 def rows_of_gateways() -> list[tuple[list[str], str]]:
     rows = tables(section("redis/README.md", "Gateways"))[0]
     return [([it.partition(" ")[0].removeprefix("--") for it in code(row[0])], row[1]) for row in rows]

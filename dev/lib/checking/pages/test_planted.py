@@ -17,9 +17,8 @@ REDIS, JAVA, PYTHON = "redis/README.md", "clients/java/README.md", "clients/pyth
 # The page, a text that stands there, what is planted in its place, and the test.
 PLANTED = [
     (OPERATING, "| `--delay TIME` | 30s |", "| `--delay TIME` | 31s |", "test_a_default_of_the_service"),
-    (OPERATING, "`--turns 10000`)", "`--turns 1000`)", "test_defaults_that_are_wrong_for_a_service"),
     (OPERATING, "event=not-listening", "event=not-heard", "test_the_events_of_a_service"),
-    (OPERATING, "`no server at port ..:", "`no server listens at ..:", "test_the_lines_of_a_service_that_ends"),
+    (OPERATING, "`port .. can't be had", "`port .. is taken", "test_the_lines_of_a_service_that_ends"),
     (PROTOCOL, "`cannot start worker`", "`cannot begin worker`", "test_the_faults_of_a_run"),
     (PROTOCOL, "| 3 | `cannot read input`", "| 1 | `cannot read input`", "test_the_faults_of_a_run"),
     (PROTOCOL, "`ERR 5 not-held` | `DONE`", "`ERR 5 unheld` | `DONE`", "test_the_refusals_of_requests"),
@@ -36,7 +35,7 @@ PLANTED = [
     (REDIS, "(15s, by no node's clock)", "(16s, by no node's clock)", "test_a_row_of_the_gateway"),
     (JAVA, "| `patience` | 30 s |", "| `patience` | 31 s |", "test_the_settings_in_java"),
     (PYTHON, "raises `NotOfferedError`", "raises `UnofferedError`", "test_each_name_of_a_client_is_there"),
-    ("README.md", "`NOW 150`, `ITEM 0 150 1 a`", "`NOW 150`, `ITEM 1 150 1 a`", "test_the_first_look"),
+    ("README.md", "ITEM 0 5 1 letter-17", "ITEM 0 6 1 letter-17", "test_the_first_screen"),
     ("docs/TESTING.md", "(`dev/check server`, and", "(`dev/check servers`, and", "test_each_part_is_there"),
     ("docs/EXTENDING.md", "rb_cases/data/scripts.case", "rb_cases/data/script.case", "test_each_file_is_there"),
 ]
