@@ -19,7 +19,7 @@ BACK = "On the way back"
 
 
 def find(top: Path) -> Iterator[str | None]:
-    """Follows the way below a folder. The fault of a call is `docs/ARCHITECTURE.md: row N: REASON`."""
+    """Follows the way below a folder. The fault of a call is `docs/ARCHITECTURE.md: hop N: REASON`."""
     section = (top / PAGE).read_text("utf-8").partition(HEADING)[2].partition("\n## ")[0]
     rows, said = ROW.findall(section), COUNT.search(section)
     if not said or not rows or [int(number) for number, _, _ in rows] != [*range(1, len(rows) + 1)]:
@@ -33,7 +33,7 @@ def find(top: Path) -> Iterator[str | None]:
             is_made = not bodies or any(re.search(rf"\b{name}\(", it) for it in callers)
             bodies.append(body_of(source, name))
             reason = f"{path} has no {name}" if not bodies[-1] else "" if is_made else f"nothing before it calls {name}"
-            yield f"{PAGE}: row {number}: {reason}" if reason else None
+            yield f"{PAGE}: hop {number}: {reason}" if reason else None
     yield None if len(bodies) == int(said[1]) else f"{PAGE} shows {len(bodies)} calls, and says {said[1]}"
 
 
