@@ -1,4 +1,5 @@
-"""What a history says of elements: which were offered, and which were given. docs/HISTORY.md describes the text."""
+"""What a history says of elements: which were offered and not taken back, and which were given. docs/HISTORY.md describes
+the text."""
 from histories.acts import given_ids
 from histories.history import Element
 
@@ -18,6 +19,8 @@ class History:
                 act = words if words[0] == "keep" else words[3:]
                 if act[0] in ("keep", "offer"):
                     self.elements[int(act[1])] = Element(*map(int, act[1:6]), act[6])
+                elif act[0] == "remove" and act[2] == "yes":
+                    del self.elements[int(act[1])]  # as an overdue job that a Java queue then offers at its moment
                 self.given += given_ids(act)
 
     def attempts(self) -> dict[str, list[int]]:
