@@ -18,7 +18,7 @@ use Rattle.rb_kept.specs.declared.outcome.Outcome.TheVariants.{Done, Later}
 use Rattle.rb_kept.specs.declared.fault.CallFault.{CallFault}
 use Rattle.rb_kept.specs.declared.fault.CallFault.TheVariants as refusals
 use Rattle.rb_retry.specs.Made.{made_after, GivesOnce}
-use Rattle.rb_retry.specs.Asked.{MayGet, IsMomentOf, Makes}
+use Rattle.rb_retry.specs.Asked.{MayGet, MayWait, IsMomentOf, Makes}
 use Rattle.rb_retry.specs.RecordLaws.{recorded_reply, may_wait, made_after-more}
 use Rattle.rb_retry.specs.GivenLaws.{later_gives_once}
 use Rattle.rb_retry.specs.KeptSteps.{KeptState, KeptSteps, SetsKept, made_at, asked_at, answer_of}
@@ -111,6 +111,27 @@ module _ (old new : KeptState) (handed : ℕ) (ask : Ask) where
 pub kept_stays : (old new : KeptState) (moment : ℕ) (result : Option ℕ) → SetsKept old moment result new
     → made_at new ≡ made_at old
 kept_stays old new moment result sets = ap made_at sets.1
+
+-- a call that may wait is made at the desk's moment, whatever is handed in
+pub kept_tries_once : (old new : KeptState) (asked handed : ℕ) (ask : Ask) (answer : Result Reply DeskFault) → MayWait ask
+    → asked ≡ old.moment → KeptSteps old asked ask answer new → KeptSteps old handed ask answer new
+kept_tries_once old new asked handed Take answer waits is steps = record {
+  earlier = steps.earlier;
+  outcome = steps.outcome;
+  answers = steps.answers;
+  steps = steps.steps;
+  counts = steps.counts;
+  stays = steps.stays;
+}
+kept_tries_once old new asked handed (PollFor start timeout) answer waits is steps = record {
+  earlier = steps.earlier;
+  outcome = steps.outcome;
+  answers = steps.answers;
+  steps = steps.steps;
+  counts = steps.counts;
+  stays = steps.stays;
+}
+kept_tries_once old new asked handed _ answer waits is steps = absurd waits
 
 pub kept_keeps_name : (old new : KeptState) (asked : ℕ) (ask : Ask) (answer : Result Reply DeskFault)
     → KeptSteps old asked ask answer new → new.name ≡ old.name

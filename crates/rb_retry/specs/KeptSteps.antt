@@ -60,3 +60,7 @@ pub record KeptSteps (old : KeptState) (handed : ℕ) (ask : Ask) (result : Resu
   pub steps : StepsTo old.log (record { seat = 0; asked = asked_at old.moment ask handed; ask = ask }) outcome new.log
   pub counts : Grows old.log new.log old.share new.share
   pub stays : new ≡ record old { log = new.log; share = new.share }
+
+-- nobody else could offer what a call would wait for, so each is answered by one try
+abbrev pub NeverMisses : KeptState → KeptState → Type 0
+NeverMisses old new = ⊥

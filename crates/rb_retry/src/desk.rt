@@ -1,10 +1,10 @@
-ghost use Rattle.std.specs.Prelude.{◌≡◌, ℕ, ◌≤◌, List, length, Option, Result, Ok, Err};
+ghost use Rattle.std.specs.Prelude.{◌≡◌, ℕ, ◌≤◌, List, length, Option, Result, Ok, Err, MatchOption};
 ghost use Rattle.rb_queue.specs.declared.ask.Ask.{Ask};
 ghost use Rattle.rb_queue.specs.declared.ask.Ask.TheVariants as asks;
 ghost use Rattle.rb_queue.specs.declared.reply.Reply.{Reply};
 ghost use Rattle.rb_kept.specs.declared.kept.TheConstants.{MOST_CALLS};
 ghost use Rattle.rb_retry.specs.Made.{Made, GivesOnce};
-ghost use Rattle.rb_retry.specs.Asked.{Makes, MayGet, offer_answer};
+ghost use Rattle.rb_retry.specs.Asked.{Makes, MayGet, MayWait, offer_answer};
 ghost use Rattle.rb_retry.specs.declared.desk_fault.DeskFault.{DeskFault};
 
 use crate::desk_fault::DeskFault;
@@ -43,6 +43,12 @@ pub trait Desk {
     /// What a call does, from one state to the next.
     ghost Steps: { State → ℕ → Ask → Result Reply DeskFault → State → Type 0 };
 
+    /// What a call does that is answered by one try, at the moment that is handed in.
+    ghost Tries: { State → ℕ → Ask → Result Reply DeskFault → State → Type 0 };
+
+    /// What a try does after which the call would have to wait.
+    ghost Misses: { State → State → Type 0 };
+
     /// The moment of the desk's clock, in nanoseconds.
     fn now(&self) -> u64
         ensures { gives (state self.now) result };
@@ -64,6 +70,17 @@ pub trait Desk {
     fn call(&mut self, asked: u64, ask: Ask) -> Result<Reply, DeskFault>
         ensures step { Steps (state self.old) asked ask result (state self.new) }
         ensures few { length (mine (state self.new)) ≤ MOST_CALLS };
+
+    /// Tries a take or a timed poll once, at the moment `asked`, a reading of the desk's clock, and never waits for an
+    /// element.
+    ///
+    /// `None` if the call would have to wait: then nothing was made, and it can be made by `call`. Any other result
+    /// is that of the call.
+    fn try_call(&mut self, asked: u64, ask: Ask) -> Option<Result<Reply, DeskFault>>
+        requires { MayWait ask }
+        ensures tried { MatchOption result
+            (Misses (state self.old) (state self.new))
+            (λ answer. Tries (state self.old) asked ask answer (state self.new)) };
 
     /// Offers an element at the moment `asked`, in nanoseconds: the call of `Ask::Offer`, answered with
     /// the element.
@@ -90,9 +107,23 @@ pub trait Desk {
     ghost stays: { (old new : State) (moment : ℕ) (result : Option ℕ) → Sets old moment result new
         → mine new ≡ mine old };
 
+    /// What is answered by one try at a reading of the desk's clock is a call.
+    ghost tries_once: { (old new : State) (asked handed : ℕ) (ask : Ask) (answer : Result Reply DeskFault) → MayWait ask
+        → gives old asked → Tries old asked ask answer new → Steps old handed ask answer new };
+
+    /// A call after a try that found nothing is a call from before it.
+    ghost tries_again: { (old mid new : State) (handed : ℕ) (ask : Ask) (answer : Result Reply DeskFault)
+        → Misses old mid → Steps mid handed ask answer new → Steps old handed ask answer new };
+
+    /// A try that found nothing makes no event.
+    ghost misses: { (old new : State) → Misses old new → mine new ≡ mine old };
+
     /// No call changes the name.
     ghost keeps_name: { (old new : State) (asked : ℕ) (ask : Ask) (answer : Result Reply DeskFault)
         → Steps old asked ask answer new → name new ≡ name old };
+
+    /// A try that found nothing leaves the name.
+    ghost misses_no_name: { (old new : State) → Misses old new → name new ≡ name old };
 
     /// Setting the clock leaves the name.
     ghost sets_no_name: { (old new : State) (moment : ℕ) (result : Option ℕ) → Sets old moment result new

@@ -1,9 +1,9 @@
-ghost use Rattle.std.specs.Prelude.{◌≡◌, ℕ, ◌+◌, ◌≤◌, List, ◌++◌, length, MatchResult, vec_len, vec_capacity, Ok, Err};
+ghost use Rattle.std.specs.Prelude.{◌≡◌, ℕ, ◌+◌, ◌≤◌, List, ◌++◌, length, MatchOption, MatchResult, vec_len, vec_capacity, Ok, Err};
 ghost use Rattle.rb_delayed.specs.declared.element.Element.{Element};
 ghost use Rattle.rb_queue.specs.declared.ask.Ask.TheVariants as asks;
 ghost use Rattle.rb_queue.specs.declared.reply.Reply.TheVariants as replies;
 ghost use Rattle.rb_kept.specs.declared.kept.TheConstants.{MOST_CALLS};
-ghost use Rattle.rb_retry.specs.Asked.{IsReplyTo};
+ghost use Rattle.rb_retry.specs.Asked.{IsReplyTo, MayWait};
 ghost use Rattle.rb_retry.specs.Jobs.{answer_with, answer_with_one};
 
 use crate::desk::Desk;
@@ -44,6 +44,27 @@ pub fn poll_for<D: Desk>(desk: &mut D, start: u64, timeout: u64) -> Result<Optio
 {
     let reply = desk.call(start, Ask::PollFor { start, timeout })?;
     Ok(polled(&reply))
+}
+
+/// Tries once to fetch the head by a take or a timed poll, asked at `asked`, a reading of the desk's clock in nanoseconds,
+/// and never waits for it. `None` if the call would have to wait; then nothing was made.
+///
+/// A fault is that of the desk's call. Then no event was made, and nothing was fetched.
+pub fn try_fetch<D: Desk>(
+    desk: &mut D,
+    asked: u64,
+    ask: Ask,
+) -> Option<Result<Option<Job>, DeskFault>>
+    requires waits { MayWait ask }
+    requires read { D.gives (D.state desk.old) asked }
+    ensures tried { MatchOption result
+        (D.Misses (D.state desk.old) (D.state desk.new))
+        (λ fetched. D.Tries (D.state desk.old) asked ask (answer_with fetched) (D.state desk.new)) }
+{
+    Some(match desk.try_call(asked, ask)? {
+        Ok(reply) => Ok(polled(&reply)),
+        Err(fault) => Err(fault),
+    })
 }
 
 // The job that the reply to a poll gives, if it gives one.

@@ -1,8 +1,8 @@
 ghost use Rattle.std.specs.Prelude.{◌≡◌, ℕ, ◌≤◌, length};
 ghost use Rattle.rb_kept.specs.declared.kept.TheConstants.{MOST_CALLS};
-ghost use Rattle.rb_retry.specs.KeptSteps.{KeptState, KeptSteps, SetsKept, made_at, answer_of, asked_at};
+ghost use Rattle.rb_retry.specs.KeptSteps.{KeptState, KeptSteps, NeverMisses, SetsKept, made_at, answer_of, asked_at};
 ghost use Rattle.rb_retry.specs.KeptLaws.{kept_makes, kept_gives_once, kept_refuses, kept_stays};
-ghost use Rattle.rb_retry.specs.KeptLaws.{kept_keeps_name, kept_sets_no_name};
+ghost use Rattle.rb_retry.specs.KeptLaws.{kept_tries_once, kept_keeps_name, kept_sets_no_name};
 
 use crate::desk::Desk;
 use crate::desk_fault::DeskFault;
@@ -80,6 +80,10 @@ impl<'a, T: Timer> Desk for KeptDesk<'a, T> {
 
     ghost Steps = { KeptSteps };
 
+    ghost Tries = { KeptSteps };
+
+    ghost Misses = { NeverMisses };
+
     fn now(&self) -> u64 {
         self.moment
     }
@@ -93,6 +97,10 @@ impl<'a, T: Timer> Desk for KeptDesk<'a, T> {
     fn call(&mut self, asked: u64, ask: Ask) -> Result<Reply, DeskFault> {
         let asked = asked_at(self.moment, &ask, asked);
         answer_of(self.kept.act(self.tally, SEAT, asked, ask))
+    }
+
+    fn try_call(&mut self, asked: u64, ask: Ask) -> Option<Result<Reply, DeskFault>> {
+        Some(self.call(asked, ask))
     }
 
     #[tactic(auto, using(crate::proofs::MadeCounts::made_few))]
@@ -115,7 +123,15 @@ impl<'a, T: Timer> Desk for KeptDesk<'a, T> {
 
     ghost stays = { kept_stays };
 
+    ghost tries_once = { kept_tries_once };
+
+    ghost tries_again = { λ old mid new handed ask answer missed. absurd missed };
+
+    ghost misses = { λ old new missed. absurd missed };
+
     ghost keeps_name = { kept_keeps_name };
+
+    ghost misses_no_name = { λ old new missed. absurd missed };
 
     ghost sets_no_name = { kept_sets_no_name };
 }

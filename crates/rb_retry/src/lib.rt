@@ -18,7 +18,7 @@ mod worker;
 
 pub use desk::Desk;
 pub use desk_fault::DeskFault;
-pub use fetches::{drain, poll, poll_for, take};
+pub use fetches::{drain, poll, poll_for, take, try_fetch};
 pub use job::Job;
 pub use job_ends::{done, fail};
 pub use kept_desk::KeptDesk;

@@ -9,3 +9,4 @@ pub use Rattle.rb_retry.specs.Asked
 pub mod WaitRules
 pub mod SharedSteps
 pub mod SharedLaws
+pub mod TriedLaws

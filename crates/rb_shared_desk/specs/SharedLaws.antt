@@ -56,12 +56,12 @@ module _ (seat : ℕ) (opening : Opening) where
       rw (← is, made_by-more events more, none) (append-nil (made_by seat opening events))
 
 -- what a pass has made
-abbrev own_of : PassState → List Made
+abbrev pub own_of : PassState → List Made
 own_of pass = made_by pass.name pass.opening pass.seen
 
 module _ (old new : PassState) (sound : IsSoundPass old) (learns : Learns old new) where
   -- a pass that made no further call has made the same
-  own_stays : new.mine ≡ old.mine → own_of new ≡ own_of old
+  pub own_stays : new.mine ≡ old.mine → own_of new ≡ own_of old
   own_stays same =
       rw (learns.name, learns.opening) (made_by-same old.name old.opening old.seen new.seen learns.begins
       (ap (events_of new.seen) (sym learns.name) ∙ learns.sound.own ∙ same ∙ sym sound.own))

@@ -85,3 +85,28 @@ module _ {C G : Type 0} where
       pub gate : (turns : ℕ) (goes_on : Bool)
           → rules.answers new.gate turns goes_on ↔ rules.answers old.gate turns goes_on
       pub stays : new ≡ record old { pass = new.pass; gate = new.gate }
+
+    -- How an ask ended that was tried once, at this moment: with the reply of this one further call, or with a fault and
+    -- none, since the history that the pass has seen is full, or the gate said no before the try.
+    abbrev pub TryEnds : SharedState C G → ℕ → Ask → Result Reply DeskFault → SharedState C G → Type 0
+    TryEnds old asked ask (Ok reply) new = Replied old.pass new.pass (try_of old.pass asked ask) reply
+    TryEnds old asked ask (Err Full) new = EndsFull old.pass new.pass
+    TryEnds old asked ask (Err Memory) new = ⊥
+    TryEnds old asked ask (Err Stopped) new = IsKeptOut (rules.answers old.gate) old.pass new.pass ask
+
+    -- The ask that was tried once ended in this way, and the pass has learned. Nothing else has changed.
+    pub record TriesShared (old : SharedState C G) (asked : ℕ) (ask : Ask) (result : Result Reply DeskFault)
+        (new : SharedState C G) : Type 0 where
+      pub earlier : old.before ≤ length old.pass.mine
+      pub sound : IsSoundPass old.pass
+      pub learns : Learns old.pass new.pass
+      pub ends : TryEnds old asked ask result new
+      pub stays : new ≡ record old { pass = new.pass }
+
+  -- A try found nothing. The pass has learned and made no further call, and nothing else has changed.
+  pub record MissesShared (old new : SharedState C G) : Type 0 where
+    pub earlier : old.before ≤ length old.pass.mine
+    pub sound : IsSoundPass old.pass
+    pub learns : Learns old.pass new.pass
+    pub mine : new.pass.mine ≡ old.pass.mine
+    pub stays : new ≡ record old { pass = new.pass }

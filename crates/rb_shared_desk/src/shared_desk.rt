@@ -1,8 +1,10 @@
 ghost use Rattle.std.specs.Prelude.{◌≡◌, ◌≤◌, length};
 ghost use Rattle.rb_shared_desk.specs.WaitRules.{wait_rules};
-ghost use Rattle.rb_shared_desk.specs.SharedSteps.{SharedState, SharedName, SharedSteps, SetsShared, made_through, name_of};
+ghost use Rattle.rb_shared_desk.specs.SharedSteps.{SharedState, SharedName, SharedSteps, TriesShared, MissesShared};
+ghost use Rattle.rb_shared_desk.specs.SharedSteps.{SetsShared, made_through, name_of};
 ghost use Rattle.rb_shared_desk.specs.SharedLaws.{shared_makes, shared_gives_once, shared_refuses, shared_stays};
 ghost use Rattle.rb_shared_desk.specs.SharedLaws.{shared_keeps_name, shared_sets_no_name};
+ghost use Rattle.rb_shared_desk.specs.TriedLaws.{shared_tries_once, shared_tries_again, shared_misses, shared_misses_no_name};
 
 use rb_blocking::{Bell, Clock, Gate, WaitFault, Waiter, call_and_wait, offer_ring};
 use rb_delayed::Element;
@@ -110,6 +112,10 @@ impl<'a, T: Timer, C: Clock, G: Gate, R: Wait + time::Clock> Desk for SharedDesk
 
     ghost Steps = { SharedSteps (wait_rules C.Clock G.Gate) };
 
+    ghost Tries = { TriesShared (wait_rules C.Clock G.Gate) };
+
+    ghost Misses = { MissesShared };
+
     fn now(&self) -> u64 {
         self.waiter.clock.now()
     }
@@ -146,6 +152,19 @@ impl<'a, T: Timer, C: Clock, G: Gate, R: Wait + time::Clock> Desk for SharedDesk
         }
     }
 
+    fn try_call(&mut self, asked: u64, ask: Ask) -> Option<Result<Reply, DeskFault>> {
+        // For the proof: the pass has seen a legal history.
+        let _ = self.pass.name();
+        if !self.gate.begins() {
+            return Some(Err(DeskFault::Stopped));
+        }
+        match self.waiter.shared.call(self.rt, self.pass, asked, ask) {
+            Ok(Outcome::Done(reply)) => Some(Ok(reply)),
+            Ok(Outcome::Later(_)) => None,
+            Err(fault) => Some(Err(DeskFault::from(fault))),
+        }
+    }
+
     #[tactic(auto, using(crate::proofs::SharedEndings::call_endings))]
     fn offer(&mut self, asked: u64, draft: Draft) -> Result<Element, CallFault> {
         // For the proof: the pass has seen a legal history.
@@ -162,7 +181,16 @@ impl<'a, T: Timer, C: Clock, G: Gate, R: Wait + time::Clock> Desk for SharedDesk
 
     ghost stays = { shared_stays };
 
+    ghost tries_once = { shared_tries_once (wait_rules C.Clock G.Gate) };
+
+    ghost tries_again = { λ old mid new handed ask answer missed.
+        shared_tries_again (wait_rules C.Clock G.Gate) old mid missed new handed ask answer };
+
+    ghost misses = { shared_misses };
+
     ghost keeps_name = { shared_keeps_name (wait_rules C.Clock G.Gate) };
+
+    ghost misses_no_name = { shared_misses_no_name };
 
     ghost sets_no_name = { shared_sets_no_name };
 }
