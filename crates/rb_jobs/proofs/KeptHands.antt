@@ -195,7 +195,8 @@ own_script : {W : Type 0} (sends : W → Option (List ℕ)) (got : Option (List 
     → RanSession (script_terms sends got policy calls delivery opening) (IsAtEnd rest) served to → IsOwn opening to
 own_script sends got policy calls delivery rest opening served to ran =
     along_run (script_terms sends got policy calls delivery opening).rules (StaysOwn opening) (own_same opening)
-    (own_then opening) (own_way opening policy) (own_ends opening policy) (IsAtEnd rest) ran.from to served ran.ran
+    (own_then opening) (own_way opening policy) (own_ends opening policy) (λ from to held missed. absurd missed)
+    (IsAtEnd rest) ran.from to served ran.ran
     (own_new opening ran.from calls ran.new)
 
 pub legal_script : {W : Type 0} (sends : W → Option (List ℕ)) (got : Option (List ℕ)) (policy : Policy) (calls : ℕ)
@@ -213,7 +214,7 @@ script_keeps_jobs sends got policy calls delivery rest opening served to jobs ra
     (goes_then (kept_rules policy) whole_mine makes_whole refuses_whole stays_whole)
     (goes_way (kept_rules policy) whole_mine makes_whole refuses_whole stays_whole)
     (goes_ends (kept_rules policy) whole_mine makes_whole refuses_whole stays_whole)
-    (IsAtEnd rest) ran.from to served ran.ran in
+    (λ from to held missed. absurd missed) (IsAtEnd rest) ran.from to served ran.ran in
     let own = own_script sends got policy calls delivery rest opening served to ran in
     let hands : AreHands policy opening to.log.history empty_hands =
     λ seat. hands_at opening policy to.log.history [] own.own

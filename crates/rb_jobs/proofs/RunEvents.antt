@@ -1,5 +1,5 @@
 -- What a whole run of a session makes: what its lines made, and then what the jobs made that were still held.
-use Rattle.std.proofs.Common.{◌≡◌, ℕ, List, [], ◌∷◌, ◌++◌, Option, Result, Ok, Err, inl, inr}
+use Rattle.std.proofs.Common.{◌⊎◌, ◌≡◌, ℕ, List, [], ◌∷◌, ◌++◌, Option, Result, Ok, Err, inl, inr}
 use Rattle.std.proofs.Common.{refl, sym, ap, subst, ◌∙◌, append-nil, append_assoc, arith}
 use Rattle.std.specs.Io.KnownBytes.{IsAtEnd}
 use Rattle.rb_queue.specs.declared.ask.Ask.{Ask}
@@ -64,6 +64,15 @@ module _ {S : Type 0} (rules : DeskRules S) where
     pub answers : answers_of lines ≡ text
     pub ways : WaysAlong rules (point from []) lines to
 
+  -- the desk is where serving stopped, or was tried there for one line more, and found nothing
+  abbrev pub Starts : S → S → Type 0
+  Starts last start = (start ≡ last) ⊎ rules.Misses last start
+
+  -- a path to where serving stopped, which is this point, or one that a try that found nothing led to
+  abbrev pub PathTo : Type 0 → S → List ℕ → List ℕ → Point S → Type 0
+  PathTo Over from came text to =
+      (last : Point S) × Path Over from came text last × Starts last.desk to.desk × (to.held ≡ last.held)
+
   -- What a run comes to: a path to where serving stopped, and the end of the jobs that were held there.
   pub record Ends (Over : Type 0) (from : S) (served : Served) (ended : Result Ended SessionFault)
       (to : S) : Type 0 where
@@ -71,9 +80,11 @@ module _ {S : Type 0} (rules : DeskRules S) where
     pub all_sent : SendsAll ended unsent
     pub last : Point S
     pub path : Path Over from served.came (served.sent ++ unsent) last
+    pub start : S
+    pub begun : Starts last.desk start
     pub lost : ℕ
     pub lost_is : lost ≡ lost_in ended
-    pub closes : Closes rules last.desk last.held lost to
+    pub closes : Closes rules start last.held lost to
 
   module _ (Over : Type 0) where
     -- all was sent
@@ -85,6 +96,8 @@ module _ {S : Type 0} (rules : DeskRules S) where
       all_sent = all;
       last = last;
       path = subst (λ text. Path Over from served.came text last) (sym (append-nil served.sent)) way;
+      start = last.desk;
+      begun = inl refl;
       lost = lost;
       lost_is = lost_is;
       closes = closes;
@@ -103,6 +116,8 @@ module _ {S : Type 0} (rules : DeskRules S) where
         answers = sym silent ∙ sym (append-nil served.sent);
         ways = refl;
       };
+      start = from;
+      begun = inl refl;
       lost = 0;
       lost_is = refl;
       closes = (refl, same);
@@ -110,10 +125,19 @@ module _ {S : Type 0} (rules : DeskRules S) where
 
     -- the first part of the replies was sent
     ends_part : (from : S) (served : Served) (to : S) (last : Point S) (lost : ℕ)
-        → ((unsent : List ℕ) × Path Over from served.came (served.sent ++ unsent) last)
+        → ((unsent : List ℕ) × PathTo Over from served.came (served.sent ++ unsent) last)
         → Closes rules last.desk last.held lost to → Ends Over from served (Err (faults.Write lost)) to
-    ends_part from served to last lost (unsent, way) closes =
-        record { unsent = unsent; all_sent = tt; last = last; path = way; lost = lost; lost_is = refl; closes = closes }
+    ends_part from served to last lost (unsent, (at, way, begun, same)) closes = record {
+      unsent = unsent;
+      all_sent = tt;
+      last = at;
+      path = way;
+      start = last.desk;
+      begun = begun;
+      lost = lost;
+      lost_is = refl;
+      closes = subst (λ held. Closes rules last.desk held lost to) same closes;
+    }
 
   -- what lines and a closing add to what a desk made
   module _ (mine : S → List Made)
@@ -122,7 +146,12 @@ module _ {S : Type 0} (rules : DeskRules S) where
       (refuses : (old new : S) (asked : ℕ) (ask : Ask) (fault : DeskFault) → rules.Steps old asked ask (Err fault) new
       → MayGet ask fault × (mine new ≡ mine old))
       (stays : (old new : S) (moment : ℕ) (result : Option ℕ) → rules.Sets old moment result new
-      → mine new ≡ mine old) where
+      → mine new ≡ mine old)
+      (misses : (old new : S) → rules.Misses old new → mine new ≡ mine old) where
+    started : (last start : S) → Starts last start → mine start ≡ mine last
+    started last start (inl same) = ap mine same
+    started last start (inr missed) = misses last start missed
+
     pub made_by_ends : (Over : Type 0) (from to : S) (served : Served) → (run : Ends Over from served served.ended to)
         → (made : MadeByRun rules.policy Over served (λ made. mine to ≡ mine from ++ made))
         × (made.lines ≡ run.path.lines)
@@ -130,7 +159,7 @@ module _ {S : Type 0} (rules : DeskRules S) where
         let (by_lines, grows, done, dead, of_lines) =
         ways_make rules mine makes refuses stays (point from []) run.last run.path.lines run.path.ways in
         let (by_closing, grows_more, lost, many, of_closing) =
-        makes_by_closing rules mine makes refuses stays run.last.desk to run.last.held run.lost run.closes in (
+        makes_by_closing rules mine makes refuses stays run.start to run.last.held run.lost run.closes in (
           record {
             lines = run.path.lines;
             stand = run.path.stand;
@@ -147,7 +176,8 @@ module _ {S : Type 0} (rules : DeskRules S) where
             lost = lost;
             of_closing = of_closing;
             lost_count = many ∙ run.lost_is;
-            grows = grows_more ∙ ap (λ (m : List Made). m ++ by_closing) grows
+            grows = grows_more
+                ∙ ap (λ (m : List Made). m ++ by_closing) (started run.last.desk run.start run.begun ∙ grows)
                 ∙ append_assoc (mine from) by_lines by_closing;
           },
           refl,
@@ -244,27 +274,34 @@ module _ {S : Type 0} (rules : SessionRules S) (Over : Type 0) (from : S) where
       )
 
   path_to_some : (to : Point S) (came text : List ℕ) → ServesSome rules Over (point from []) came text to
-      → Path rules.desk Over from came text to
-  path_to_some to came text (inl quits) = path_to_quit to came text quits
-  path_to_some to came text (inr (inl ending)) = path_to_end to came text ending
-  path_to_some to came text (inr (inr first)) = path_to_first to came text first
+      → PathTo rules.desk Over from came text to
+  path_to_some to came text (inl quits) = (to, path_to_quit to came text quits, inl refl, refl)
+  path_to_some to came text (inr (inl ending)) = (to, path_to_end to came text ending, inl refl, refl)
+  path_to_some to came text (inr (inr (inl first))) = (to, path_to_first to came text first, inl refl, refl)
+  path_to_some to came text (inr (inr (inr (last, first, missed, same)))) =
+      (last, path_to_first last came text first, inr missed, same)
 
   path_to_loss : (to : Point S) (came sent : List ℕ) → LosesReplies rules Over (point from []) came sent to
-      → (unsent : List ℕ) × Path rules.desk Over from came (sent ++ unsent) to
+      → (unsent : List ℕ) × PathTo rules.desk Over from came (sent ++ unsent) to
   path_to_loss to came sent loses = late loses.passed loses.parts loses.fails
     where
       late : (passed : List ℕ) → passed ≡ sent ++ loses.held_back
           → FailsToSend rules Over (point from []) came passed to
-          → (unsent : List ℕ) × Path rules.desk Over from came (sent ++ unsent) to
+          → (unsent : List ℕ) × PathTo rules.desk Over from came (sent ++ unsent) to
       late passed parts (inl fails) =
           let found = path_to_fault to came passed fails in (
             loses.held_back ++ found.0,
-            subst (λ text. Path rules.desk Over from came text to)
-                (ap (λ (text : List ℕ). text ++ found.0) parts ∙ append_assoc sent loses.held_back found.0) found.1,
+            (
+              to,
+              subst (λ text. Path rules.desk Over from came text to)
+                  (ap (λ (text : List ℕ). text ++ found.0) parts ∙ append_assoc sent loses.held_back found.0) found.1,
+              inl refl,
+              refl,
+            ),
           )
       late passed parts (inr (gathers, some)) = (
         loses.held_back,
-        subst (λ text. Path rules.desk Over from came text to) parts (path_to_some to came passed some),
+        subst (λ text. PathTo rules.desk Over from came text to) parts (path_to_some to came passed some),
       )
 
   pub ends_of : (to : S) (served : Served) (ended : Result Ended SessionFault)
@@ -332,17 +369,24 @@ ways_moment policy old new (turn ∷ turns) (between, way, rest) =
     ways_moment policy between new turns rest
     ∙ ap (λ (m : ℕ). latest m turns) (moment_of policy turn.reading turn.replies old between way)
 
+-- a desk over a kept queue never misses
+start_moment : (policy : Policy) (last start : KeptState) → Starts (kept_rules policy) last start → start.moment ≡ last.moment
+start_moment policy last start (inl same) = ap (λ (state : KeptState). state.moment) same
+start_moment policy last start (inr missed) = absurd missed
+
 pub records_by_run : {W : Type 0} (contents : W → Option (List ℕ)) → RecordsByRun kept_rules contents
 records_by_run contents policy got delivery rest from to served ran =
     let desk = kept_rules policy in
     let rules = session_rules desk delivery (HadGotBehind contents got) in
     let run = ends_of rules (IsAtEnd rest) from to served served.ended ran in
-    let made = made_by_ends desk whole_mine makes_whole refuses_whole stays_whole (IsAtEnd rest) from to served run in (
+    let made = made_by_ends desk whole_mine makes_whole refuses_whole stays_whole (λ old new missed. absurd missed)
+    (IsAtEnd rest) from to served run in (
       made.0,
-      closing_moment policy run.last.desk to run.last.held run.lost run.closes
+      closing_moment policy run.start to run.last.held run.lost run.closes
+          ∙ start_moment policy run.last.desk run.start run.begun
           ∙ ways_moment policy (point from []) run.last run.path.lines run.path.ways
           ∙ ap (latest from.moment) (sym made.1),
       stays rules (λ (state : KeptState). state.log.opening) step_opening
-          (λ old new moment result sets. ap (λ (state : KeptState). state.log.opening) sets.1) (IsAtEnd rest) from to
-          served served.ended ran,
+          (λ old new moment result sets. ap (λ (state : KeptState). state.log.opening) sets.1)
+          (λ old new missed. absurd missed) (IsAtEnd rest) from to served served.ended ran,
     )

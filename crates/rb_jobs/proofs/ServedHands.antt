@@ -29,12 +29,12 @@ use Rattle.rb_serving.specs.DoorSteps.{DoorStep, LetIn, TurnedAway, Left}
 use Rattle.rb_serving.specs.Visits.{AreVisits, AreWorkers, IsWorker, RanVisit, shared_rules, visit_waits}
 use Rattle.rb_jobs.proofs.GatheredNames.{named_behind}
 use Rattle.rb_jobs.proofs.ServerEvents.{made_none, seen_all}
-use Rattle.rb_jobs.proofs.SharedRuns.{whole_mine, makes_whole, refuses_whole, stays_whole}
+use Rattle.rb_jobs.proofs.SharedRuns.{whole_mine, makes_whole, refuses_whole, stays_whole, misses_whole}
 use Rattle.rb_jobs.specs.Hands.{HandlesAll, AreHands}
 use Rattle.rb_jobs.specs.RunJobs.{ServerKeepsJobs, empty_hands}
 use Rattle.rb_jobs.specs.SessionHands.{LeadsOn}
 use Rattle.rb_jobs.proofs.Histories.{jobs_are_kept}
-use Rattle.rb_jobs.proofs.SessionHands.{goes_same, goes_then, goes_way, goes_ends, handles_then}
+use Rattle.rb_jobs.proofs.SessionHands.{goes_miss, goes_same, goes_then, goes_way, goes_ends, handles_then}
 use Rattle.rb_jobs.proofs.Sessions.{along_run}
 
 module _ {C G : Type 0} where
@@ -50,6 +50,8 @@ module _ {C G : Type 0} where
         (goes_then (shared_rules waits policy) whole_mine (makes_whole waits) (refuses_whole waits) (stays_whole waits))
         (goes_way (shared_rules waits policy) whole_mine (makes_whole waits) (refuses_whole waits) (stays_whole waits))
         (goes_ends (shared_rules waits policy) whole_mine (makes_whole waits) (refuses_whole waits) (stays_whole waits))
+        (goes_miss (shared_rules waits policy) whole_mine (makes_whole waits) (refuses_whole waits) (stays_whole waits)
+        (misses_whole waits))
         Over from to served ran
 
 -- From one pass to another these calls were made, and nothing was held before them or behind.

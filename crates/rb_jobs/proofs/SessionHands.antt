@@ -89,6 +89,12 @@ module _ {S : Type 0} (rules : DeskRules S) (mine : S → List Made)
       goes_none from to (ap (λ (p : Point S). mine p.desk) same)
       (subst (λ (p : Point S). AreSomeOf p.held from.held) (sym same) (some_all from.held))
 
+  -- a try that finds nothing makes no event
+  pub goes_miss : ((old new : S) → rules.Misses old new → mine new ≡ mine old) → (from to : S) (held : List Element)
+      → rules.Misses from to → Along (point from held) (point to held)
+  goes_miss misses from to held missed =
+      goes_none (point from held) (point to held) (misses from to missed) (some_all held)
+
   pub goes_then : (one two three : Point S) → Along one two → Along two three → Along one three
   goes_then one two three (made, grows, handles) (more, grows_more, handles_more) = (
     made ++ more,

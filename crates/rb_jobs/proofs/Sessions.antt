@@ -1,5 +1,5 @@
 -- What holds along each line of a session and along each end of a held job holds along a whole session.
-use Rattle.std.proofs.Common.{◌≡◌, ℕ, List, [], ◌∷◌, Result, ap}
+use Rattle.std.proofs.Common.{◌⊎◌, inl, inr, ◌≡◌, ℕ, List, [], ◌∷◌, Result, ap}
 use Rattle.rb_delayed.specs.declared.element.Element.{Element}
 use Rattle.rb_kept.specs.declared.fault.CallFault.{CallFault}
 use Rattle.rb_retry.specs.Jobs.{FailsTo}
@@ -13,7 +13,7 @@ use Rattle.rb_session.specs.Rules.{SessionRules}
 use Rattle.rb_session.specs.Served.{Served}
 use Rattle.rb_session.specs.Session.{Turn, Serves}
 use Rattle.rb_session.specs.Turn.{Point, point}
-use Rattle.rb_jobs.proofs.RunEvents.{ends_of}
+use Rattle.rb_jobs.proofs.RunEvents.{Starts, ends_of}
 use Rattle.rb_jobs.proofs.Ways.{Way, WaysAlong, ways_of}
 
 module _ {S : Type 0} (rules : SessionRules S) (Along : Point S → Point S → Type 0)
@@ -40,10 +40,21 @@ module _ {S : Type 0} (rules : SessionRules S) (Along : Point S → Point S → 
       then (point from (element ∷ held)) (point between held) (point to [])
       (ends from between element held now result fails) (along_closing between to held more rest)
 
-  pub along_run : (Over : Type 0) (from to : S) (served : Served) → Ran rules Over from served to
-      → Along (point from []) (point to [])
-  along_run Over from to served ran =
-      let run = ends_of rules Over from to served served.ended ran in
-      then (point from []) run.last (point to [])
-      (along_ways (point from []) run.last run.path.lines run.path.ways)
-      (along_closing run.last.desk to run.last.held run.lost run.closes)
+  -- a try that finds nothing leads on, too
+  module _ (misses : (from to : S) (held : List Element) → rules.desk.Misses from to
+      → Along (point from held) (point to held)) where
+    along_start : (last start : S) (held : List Element) → Starts rules.desk last start
+        → Along (point last held) (point start held)
+    along_start last start held (inl same) =
+        stays (point last held) (point start held) (ap (λ (s : S). point s held) same)
+    along_start last start held (inr missed) = misses last start held missed
+
+    pub along_run : (Over : Type 0) (from to : S) (served : Served) → Ran rules Over from served to
+        → Along (point from []) (point to [])
+    along_run Over from to served ran =
+        let run = ends_of rules Over from to served served.ended ran in
+        then (point from []) run.last (point to [])
+        (along_ways (point from []) run.last run.path.lines run.path.ways)
+        (then run.last (point run.start run.last.held) (point to [])
+        (along_start run.last.desk run.start run.last.held run.begun)
+        (along_closing run.start to run.last.held run.lost run.closes))

@@ -19,8 +19,9 @@ use Rattle.rb_serving.specs.Terms.{Terms}
 use Rattle.rb_serving.specs.Visits.{shared_rules, visit_waits}
 use Rattle.rb_jobs.proofs.RunEvents.{ends_of, grows_so, made_by_ends}
 use Rattle.rb_shared_desk.specs.WaitRules.{WaitRules}
-use Rattle.rb_shared_desk.specs.SharedSteps.{SharedState, SharedSteps, SetsShared, Ends, made_through}
+use Rattle.rb_shared_desk.specs.SharedSteps.{SharedState, SharedSteps, MissesShared, SetsShared, Ends, made_through}
 use Rattle.rb_shared_desk.specs.SharedLaws.{shared_makes, shared_refuses}
+use Rattle.rb_shared_desk.specs.TriedLaws.{shared_misses}
 
 module _ {C G : Type 0} where
   -- the desk as if it had been made before the pass's first call
@@ -67,6 +68,15 @@ module _ {C G : Type 0} where
     pub stays_whole : (old new : SharedState C G) (moment : ℕ) (result : Option ℕ) → SetsShared old moment result new → whole_mine new ≡ whole_mine old
     stays_whole old new moment result sets = ap whole_mine sets.1
 
+    pub misses_whole : (old new : SharedState C G) → MissesShared old new → whole_mine new ≡ whole_mine old
+    misses_whole old new missed = shared_misses (whole old) (whole new) (record {
+      earlier = omega arith;
+      sound = missed.sound;
+      learns = missed.learns;
+      mine = missed.mine;
+      stays = ap whole missed.stays;
+    })
+
     pub calls_by_run : (policy : Policy) (HadGot : List ℕ → Type 0) (delivery : Delivery) (Over : Type 0)
         (from to : SharedState C G) (served : Served)
         → Ran (session_rules (shared_rules waits policy) delivery HadGot) Over from served to
@@ -74,7 +84,7 @@ module _ {C G : Type 0} where
     calls_by_run policy HadGot delivery Over from to served ran =
         let desk = shared_rules waits policy in
         let run = ends_of (session_rules desk delivery HadGot) Over from to served served.ended ran in
-        (made_by_ends desk whole_mine makes_whole refuses_whole stays_whole Over from to served run).0
+        (made_by_ends desk whole_mine makes_whole refuses_whole stays_whole misses_whole Over from to served run).0
 
 -- the desk's pass was this one, and is that one now
 of_pass : (from to old new : PassState) (made : List Made) → from ≡ old → to ≡ new → made_of to ≡ made_of from ++ made

@@ -10,7 +10,7 @@ use Rattle.rb_queue.specs.declared.opening.Opening.{Opening}
 use Rattle.rb_lock.specs.Passes.{PassState, record_of}
 use Rattle.rb_lock.specs.declared.pass_record.PassRecord.{PassRecord}
 use Rattle.rb_shared_desk.specs.WaitRules.{WaitRules}
-use Rattle.rb_shared_desk.specs.SharedSteps.{SharedState, SharedSteps, SetsShared}
+use Rattle.rb_shared_desk.specs.SharedSteps.{SharedState, SharedSteps, TriesShared, MissesShared, SetsShared}
 use Rattle.rb_retry.specs.DeskRules.{DeskRules}
 use Rattle.rb_retry.specs.declared.policy.Policy.{Policy}
 use Rattle.rb_session.specs.Rules.{SessionRules, session_rules, HadGotBehind}
@@ -59,6 +59,8 @@ shared_rules waits policy = record {
   gives = λ desk moment. waits.gives desk.clock moment;
   Sets = SetsShared;
   Steps = SharedSteps waits;
+  Tries = TriesShared waits;
+  Misses = MissesShared;
   policy = policy;
 }
 

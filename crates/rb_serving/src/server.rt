@@ -62,7 +62,7 @@ pub fn serve_door<
 }
 
 /// Serves the visits of a door like `serve_door`, but gathers the replies of each: its writer gets
-/// them before each read, before each request that may wait, and at the end.
+/// them before each read, before a request waits, and at the end.
 ///
 /// A write that fails may lose the replies to lines that were served, at most 64 KiB of them. All
 /// those lines are in the history.

@@ -118,7 +118,8 @@ module _ {S X : Type 0} (rules : SessionRules S) (part : S → X)
     (by_step : (old new : S) (asked : ℕ) (ask : Ask) (answer : Result Reply DeskFault)
     → rules.desk.Steps old asked ask answer new → part new ≡ part old)
     (by_setting : (old new : S) (moment : ℕ) (result : Option ℕ) → rules.desk.Sets old moment result new
-    → part new ≡ part old) (Over : Type 0) (from to : S) where
+    → part new ≡ part old)
+    (by_miss : (old new : S) → rules.desk.Misses old new → part new ≡ part old) (Over : Type 0) (from to : S) where
   abbrev IsSame : S → List Element → Type 0
   IsSame desk held = part desk ≡ part from
 
@@ -149,7 +150,8 @@ module _ {S X : Type 0} (rules : SessionRules S) (part : S → X)
       → part last.desk ≡ part from
   some_lines (inl quits) = first_lines quits.first
   some_lines (inr (inl ending)) = first_lines ending.first
-  some_lines (inr (inr first)) = first_lines first
+  some_lines (inr (inr (inl first))) = first_lines first
+  some_lines (inr (inr (inr (last, first, missed, same)))) = by_miss last.desk _ missed ∙ first_lines first
 
   pub stays : (served : Served) (ended : Result Ended SessionFault) → RanUntil rules Over from served ended to
       → part to ≡ part from

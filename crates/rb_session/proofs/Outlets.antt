@@ -58,8 +58,8 @@ module _ {S : Type 0} (rules : SessionRules S) (Over : Type 0) {from : Point S} 
       → Stops rules Over from came sent (Ok stop) to → FailsToSend rules Over from came sent to
   stops_late late to came sent stops.Quit stopped = inr (late, inl stopped)
   stops_late late to came sent stops.EndOfInput stopped = inr (late, inr (inl stopped))
-  stops_late late to came sent stops.Read stopped = inr (late, inr (inr stopped.0))
-  stops_late late to came sent stops.ReadTurns stopped = inr (late, inr (inr stopped.0))
+  stops_late late to came sent stops.Read stopped = inr (late, inr (inr (inl stopped.0)))
+  stops_late late to came sent stops.ReadTurns stopped = inr (late, inr (inr (inl stopped.0)))
 
   module _ {here : Point S} {came sent : List ℕ} (first : ServesFirst rules from came sent here)
       (no_feed : HasNoLineFeed first.unserved) (more text : List ℕ) where
@@ -69,7 +69,7 @@ module _ {S : Type 0} (rules : SessionRules S) (Over : Type 0) {from : Point S} 
     fails_to_read delivery same (none, inl (late, nothing)) =
         at_nil (λ b. FailsToSend rules Over from b (sent ++ text) here) came more none
         (at_nil (λ t. FailsToSend rules Over from came t here) sent text nothing
-        (inr (subst IsGathered same late, inr (inr first))))
+        (inr (subst IsGathered same late, inr (inr (inl first)))))
     fails_to_read delivery same (none, inr (over, some, unsent, parts)) =
         at_nil (λ b. FailsToSend rules Over from b (sent ++ text) here) came more none
         (inl (fails_at_end rules first Over over no_feed some text unsent parts))

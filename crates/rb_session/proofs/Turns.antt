@@ -2,7 +2,6 @@
 use Rattle.std.proofs.Common.{◌≡◌, ◌≢◌, ℕ, ◌<◌, length, List, [], ◌∷◌, ◌++◌, Result, Ok, Err, inl, inr, arith}
 use Rattle.std.proofs.Common.{refl, sym, ap, subst, ◌∙◌, append_assoc}
 use Rattle.std.proofs.lemmas.List.{append-nil}
-use Rattle.rb_retry.specs.DeskRules.{DeskRules}
 use Rattle.rb_protocol.specs.Line.{HasNoLineFeed}
 use Rattle.rb_protocol.specs.ReplyText.{text_of}
 use Rattle.rb_protocol.specs.declared.format.TheConstants.{LINE_FEED}
@@ -16,8 +15,8 @@ use Rattle.rb_protocol.specs.declared.line_reply.LineReply.TheVariants as lines
 use Rattle.rb_protocol.specs.declared.err_word.ErrWord.TheVariants as words
 use Rattle.rb_session.specs.Buffer.{IsUnserved}
 use Rattle.rb_session.specs.Rules.{SessionRules}
-use Rattle.rb_session.specs.Turn.{Point, IsTurn, AsksToWait}
-use Rattle.rb_session.specs.Session.{Turn, IsLine, Serves, GotBeforeWaits, ServesFirst, ServesToQuit}
+use Rattle.rb_session.specs.Turn.{Point, IsTurn}
+use Rattle.rb_session.specs.Session.{Turn, IsLine, Serves, GotBeforeWait, GotBeforeWaits, ServesFirst, ServesToQuit}
 use Rattle.rb_session.specs.Session.{bytes_of, answers_of, texts_of, rest_text}
 use Rattle.rb_session.specs.Ran.{FailsToWrite}
 use Rattle.rb_session.specs.declared.line_buffer.LineBuffer.{LineBuffer}
@@ -50,25 +49,22 @@ pub answers_more : (turns : List Turn) (turn : Turn)
 answers_more turns turn =
     sym (answers_of-append turns (turn ∷ []) ∙ ap (λ t. answers_of turns ++ t) (append-nil (texts_of turn.replies)))
 
-module _ {S : Type 0} (rules : DeskRules S) where
-  -- lines behind others
-  pub serves_on : (old mid new : Point S) (one two : List Turn) → Serves rules old one mid → Serves rules mid two new
-      → Serves rules old (one ++ two) new
-  serves_on old mid new [] two same serves = subst (λ p. Serves rules p two new) same serves
-  serves_on old mid new (turn ∷ one) two (between, line, goes, is_turn, rest) serves =
-      (between, line, goes, is_turn, serves_on between mid new one two rest serves)
+-- lines behind others, with what had been got before their waits
+module _ {S : Type 0} (rules : SessionRules S) where
+  abbrev ServedBehind : List ℕ → Point S → List Turn → Point S → Type 0
+  ServedBehind earlier old turns new =
+      (serves : Serves rules.desk old turns new) × GotBeforeWaits rules earlier old turns new serves
 
--- what had been got before the waits of some lines, and of others behind them
-pub waits_on : (HadGot : List ℕ → Type 0) (earlier : List ℕ) (one two : List Turn) → GotBeforeWaits HadGot earlier one
-    → GotBeforeWaits HadGot (earlier ++ answers_of one) two → GotBeforeWaits HadGot earlier (one ++ two)
-waits_on HadGot earlier [] two got more =
-    subst (λ text. GotBeforeWaits HadGot text two) (append-nil earlier) more
-waits_on HadGot earlier (turn ∷ one) two (here, got) more =
-    let text = texts_of turn.replies in (
-      here,
-      waits_on HadGot (earlier ++ text) one two got
-          (subst (λ all. GotBeforeWaits HadGot all two) (sym (append_assoc earlier text (answers_of one))) more),
-    )
+  pub serves_on : (earlier : List ℕ) (old mid new : Point S) (one two : List Turn) → ServedBehind earlier old one mid
+      → ServedBehind (earlier ++ answers_of one) mid two new → ServedBehind earlier old (one ++ two) new
+  serves_on earlier old mid new [] two (same, got) more =
+      subst (λ text. ServedBehind text old two new) (append-nil earlier)
+      (subst (λ p. ServedBehind (earlier ++ []) p two new) same more)
+  serves_on earlier old mid new (turn ∷ one) two ((between, line, goes, is_turn, rest), (here, got)) more =
+      let text = texts_of turn.replies in
+      let (serves, waits) = serves_on (earlier ++ text) between mid new one two (rest, got)
+      (subst (λ all. ServedBehind all mid two new) (sym (append_assoc earlier text (answers_of one))) more) in
+      ((between, line, goes, is_turn, serves), (here, waits))
 
 -- bytes behind the last line feed get one line
 pub rest_is : (rest : List ℕ) → 0 < length rest → texts_of (lines.Err words.Line ∷ []) ≡ rest_text rest
@@ -113,9 +109,9 @@ module _ {S : Type 0} (rules : SessionRules S) where
       first = first;
       reading = Err Line;
       begins = inr (over, some, no_feed, refl);
-      waits = λ asks. absurd asks;
       replies = lines.Err words.Line ∷ [];
       turn = (refl, refl);
+      waits = inl tt;
       part = part;
       unsent = unsent;
       parts = rest_is first.unserved some ∙ parts;
@@ -125,20 +121,22 @@ module _ {S : Type 0} (rules : SessionRules S) where
     -- the next line is answered
     module _ (after : Point S) (raw rest : List ℕ) (reading : Result Request LineFault) (replies : List LineReply)
         (split : first.unserved ≡ raw ++ LINE_FEED ∷ rest) (line : IsLine raw reading)
-        (waits : AsksToWait reading → rules.HadGot sent) (turn : IsTurn rules.desk here reading replies after) where
+        (turn : IsTurn rules.desk here reading replies after)
+        (waits : GotBeforeWait rules sent here reading replies after) where
       -- its whole reply was sent, and the session goes on
       pub goes_on : reading ≢ Ok Quit → (buffer : LineBuffer) → IsUnserved buffer rest
           → (later : ServesFirst rules from came (sent ++ texts_of replies) after) × IsUnserved buffer later.unserved
       goes_on other buffer unserved =
-          let one : Turn = record { raw = raw; reading = reading; replies = replies } in (
+          let one : Turn = record { raw = raw; reading = reading; replies = replies } in
+          let got = subst (λ text. GotBeforeWait rules text here reading replies after) first.answers waits in
+          let (serves, waits) = serves_on rules [] from here after first.turns (one ∷ [])
+          (first.serves, first.waits) ((after, line, other, turn, refl), (got, tt)) in (
             record {
               turns = first.turns ++ one ∷ [];
               unserved = rest;
               split = first.split ∙ ap (λ b. bytes_of first.turns ++ b) split ∙ bytes_more first.turns one rest;
-              serves = serves_on rules.desk from here after first.turns (one ∷ []) first.serves
-                  (after, line, other, turn, refl);
-              waits = waits_on rules.HadGot [] first.turns (one ∷ []) first.waits
-                  (λ asks. subst rules.HadGot first.answers (waits asks), tt);
+              serves = serves;
+              waits = waits;
               answers = ap (λ t. t ++ texts_of replies) first.answers ∙ answers_more first.turns one;
             },
             unserved,
@@ -169,9 +167,9 @@ module _ {S : Type 0} (rules : SessionRules S) where
         first = first;
         reading = reading;
         begins = inl (raw, rest, split, line);
-        waits = waits;
         replies = replies;
         turn = turn;
+        waits = waits;
         part = part;
         unsent = unsent;
         parts = parts;

@@ -9,6 +9,9 @@ use Rattle.rb_queue.specs.declared.reply.Reply.{Reply}
 use Rattle.rb_kept.specs.declared.fault.CallFault.{CallFault}
 use Rattle.rb_retry.specs.Asked.{offer_answer}
 use Rattle.rb_retry.specs.declared.desk_fault.DeskFault.{DeskFault}
+use Rattle.rb_protocol.specs.declared.line_fault.LineFault.{LineFault}
+use Rattle.rb_protocol.specs.declared.request.Request.{Request}
+use Rattle.rb_protocol.specs.declared.request.Request.TheVariants as requests
 use Rattle.rb_protocol.specs.declared.line_reply.LineReply.{LineReply}
 use Rattle.rb_protocol.specs.declared.line_reply.LineReply.TheVariants as lines
 use Rattle.rb_protocol.specs.declared.streams.writing.WriteFault.{WriteFault}
@@ -44,6 +47,12 @@ pub record OffersAt {S : Type 0} (Steps : S → ℕ → Ask → Result Reply Des
 abbrev pub replies_of : LineReply → List Element → List LineReply
 replies_of (lines.Drained count) held = lines.Drained count ∷ map lines.Item (drop (length held - count) held)
 replies_of reply held = reply ∷ []
+
+-- the line is a request that may wait: for an expiry, or for another client's offer
+abbrev pub AsksToWait : Result Request LineFault → Type 0
+AsksToWait (Ok requests.Take) = Unit {0}
+AsksToWait (Ok (requests.PollFor timeout)) = Unit {0}
+AsksToWait _ = ⊥
 
 -- the ask is one by which a session fetches one job, at the moment that it names, or at none if it waits by the clock
 abbrev pub FetchesOne : ℕ → Ask → Type 0

@@ -8,8 +8,8 @@ use Rattle.rb_protocol.specs.declared.line_fault.LineFault.TheVariants.{Line}
 use Rattle.rb_protocol.specs.declared.line_reply.LineReply.{LineReply}
 use Rattle.rb_session.specs.Rules.{SessionRules, IsGathered, most_held_back}
 use Rattle.rb_session.specs.Served.{Served}
-use Rattle.rb_session.specs.Turn.{Point, point, IsTurn, AsksToWait}
-use Rattle.rb_session.specs.Session.{IsLine, ServesFirst, ServesToEnd, ServesToQuit, texts_of}
+use Rattle.rb_session.specs.Turn.{Point, point, IsTurn}
+use Rattle.rb_session.specs.Session.{IsLine, GotBeforeWait, ServesFirst, ServesToEnd, ServesToQuit, texts_of}
 use Rattle.rb_session.specs.Closing.{Closes}
 use Rattle.rb_session.specs.declared.ended.Ended.{Ended}
 use Rattle.rb_session.specs.declared.ended.Ended.TheVariants.{Quit, EndOfInput}
@@ -36,19 +36,26 @@ module _ {S : Type 0} (rules : SessionRules S) where
     pub first : ServesFirst rules from came text before_last
     pub reading : Result Request LineFault
     pub begins : BeginsWith Over first.unserved reading
-    pub waits : AsksToWait reading → rules.HadGot text
     pub replies : List LineReply
     pub turn : IsTurn rules.desk before_last reading replies to
+    pub waits : GotBeforeWait rules text before_last reading replies to
     pub part : List ℕ
     pub unsent : List ℕ
     pub parts : texts_of replies ≡ part ++ unsent
     pub answers : sent ≡ text ++ part
 
-  -- what a session may have served when a write fails: all that it had to, or the first lines
+  -- The first lines are served, and the desk was tried for one behind them, which would have had to wait.
+  abbrev pub MissesNext : Point S → List ℕ → List ℕ → Point S → Type 0
+  MissesNext from came text to =
+      (last : Point S) × ServesFirst rules from came text last × rules.desk.Misses last.desk to.desk × (to.held ≡ last.held)
+
+  -- What a session may have served when a write fails: all that it had to, or the first lines, and perhaps it was about
+  -- to wait.
   abbrev pub ServesSome : Type 0 → Point S → List ℕ → List ℕ → Point S → Type 0
   ServesSome Over from came text to =
       ServesToQuit rules from came text to
-      ⊎ (ServesToEnd rules Over from came text to ⊎ ServesFirst rules from came text to)
+      ⊎ (ServesToEnd rules Over from came text to
+      ⊎ (ServesFirst rules from came text to ⊎ MissesNext from came text to))
 
   -- A write failed: a reply could not be sent, or all that was served was answered, and what was held back of gathered
   -- replies could not be handed on.

@@ -17,7 +17,7 @@ abbrev pub most_held_back : Delivery → ℕ
 most_held_back AtOnce = 0
 most_held_back (Gathered hands_on) = GATHERED_BYTES
 
--- what answers the lines before is written before a request that may wait
+-- what answers the lines before is written before a request waits
 abbrev pub WritesBeforeWaits : Delivery → Type 0
 WritesBeforeWaits AtOnce = Unit {0}
 WritesBeforeWaits (Gathered BeforeReads) = ⊥

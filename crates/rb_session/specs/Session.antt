@@ -1,5 +1,5 @@
 -- What a session answers to the bytes that it reads.
-use Rattle.std.specs.Prelude.{◌≡◌, ◌≢◌, ℕ, ◌<◌, List, [], ◌∷◌, ◌++◌, length, Result, Ok}
+use Rattle.std.specs.Prelude.{◌≡◌, ◌≢◌, ◌⊎◌, ℕ, ◌<◌, List, [], ◌∷◌, ◌++◌, length, Result, Ok}
 use Rattle.rb_retry.specs.DeskRules.{DeskRules}
 use Rattle.rb_protocol.specs.Reading.{IsReading}
 use Rattle.rb_protocol.specs.ReplyText.{text_of}
@@ -14,7 +14,7 @@ use Rattle.rb_protocol.specs.Line.{HasNoLineFeed}
 use Rattle.rb_session.specs.Lines.{line_of}
 use Rattle.rb_protocol.specs.declared.limits.TheConstants.{BUFFER_BYTES}
 use Rattle.rb_session.specs.Rules.{SessionRules}
-use Rattle.rb_session.specs.Turn.{Point, IsTurn, AsksToWait}
+use Rattle.rb_session.specs.Turn.{Point, IsTurn, NeedsNoWait}
 
 -- A line that was served: its bytes before the line feed, what they were read as, and its replies.
 pub record Turn : Type 0 where
@@ -54,14 +54,21 @@ module _ {S : Type 0} (rules : DeskRules S) where
       (between : Point S) × IsLine turn.raw turn.reading × (turn.reading ≢ Ok Quit)
       × IsTurn rules old turn.reading turn.replies between × Serves between turns new
 
--- Before each of these lines that may wait, the writer had got what answers the lines before it: this text, and then
--- their replies.
-abbrev pub GotBeforeWaits : (List ℕ → Type 0) → List ℕ → List Turn → Type 0
-GotBeforeWaits HadGot earlier [] = Unit {0}
-GotBeforeWaits HadGot earlier (turn ∷ turns) =
-    (AsksToWait turn.reading → HadGot earlier) × GotBeforeWaits HadGot (earlier ++ texts_of turn.replies) turns
-
 module _ {S : Type 0} (rules : SessionRules S) where
+  -- before the line had to wait, if it had to, the writer had got this text
+  abbrev pub GotBeforeWait : List ℕ → Point S → Result Request LineFault → List LineReply → Point S → Type 0
+  GotBeforeWait earlier old reading replies new =
+      NeedsNoWait rules.desk old reading replies new ⊎ rules.HadGot earlier
+
+  -- Before each of these lines that had to wait, the writer had got what answers the lines before it: this text, and then
+  -- their replies.
+  abbrev pub GotBeforeWaits : List ℕ → (old : Point S) → (turns : List Turn) → (new : Point S)
+      → Serves rules.desk old turns new → Type 0
+  GotBeforeWaits earlier old [] new same = Unit {0}
+  GotBeforeWaits earlier old (turn ∷ turns) new (between, is_line, goes_on, is_turn, rest) =
+      GotBeforeWait earlier old turn.reading turn.replies between
+      × GotBeforeWaits (earlier ++ texts_of turn.replies) between turns new rest
+
   -- The first lines of what came are served, and this is the text that answers them. What came behind them is not
   -- served.
   pub record ServesFirst (from : Point S) (came text : List ℕ) (to : Point S) : Type 0 where
@@ -69,7 +76,7 @@ module _ {S : Type 0} (rules : SessionRules S) where
     pub unserved : List ℕ
     pub split : came ≡ bytes_of turns ++ unserved
     pub serves : Serves rules.desk from turns to
-    pub waits : GotBeforeWaits rules.HadGot [] turns
+    pub waits : GotBeforeWaits [] from turns to serves
     pub answers : text ≡ answers_of turns
 
   -- What came is served to its end, and the input is over. What stands behind its last line feed is a

@@ -72,12 +72,6 @@ abbrev pub held_after : Result Verdict (Element × CallFault) → List Element �
 held_after (Ok verdict) held place = remove held place
 held_after (Err refused) held place = held
 
--- the line is a request that may wait: for an expiry, or for another client's offer
-abbrev pub AsksToWait : Result Request LineFault → Type 0
-AsksToWait (Ok requests.Take) = Unit {0}
-AsksToWait (Ok (requests.PollFor timeout)) = Unit {0}
-AsksToWait _ = ⊥
-
 -- the draft of a first element with this expiry and this payload
 pub record IsFirstDraft (draft : Draft) (expires : ℕ) (bytes : List ℕ) : Type 0 where
   pub expiry : draft.expiry ≡ expires
@@ -164,3 +158,12 @@ module _ {S : Type 0} (rules : DeskRules S) where
   abbrev pub IsTurn : Point S → Result Request LineFault → List LineReply → Point S → Type 0
   IsTurn old (Err fault) replies new = AnswersAlone (lines.Err (word_for fault)) old replies new
   IsTurn old (Ok request) replies new = (now : ℕ) × rules.gives old.desk now × IsServed old now request replies new
+
+  -- The line did not have to wait: it is no request that may, for an expiry or for another client's offer; or one try at
+  -- a reading of the desk's clock answered it with these lines, and led to this point.
+  abbrev pub NeedsNoWait : Point S → Result Request LineFault → List LineReply → Point S → Type 0
+  NeedsNoWait old (Ok requests.Take) replies new =
+      (now : ℕ) × rules.gives old.desk now × IsFetch rules.Tries old now asks.Take replies new
+  NeedsNoWait old (Ok (requests.PollFor timeout)) replies new =
+      (now : ℕ) × rules.gives old.desk now × IsFetch rules.Tries old now (asks.PollFor now timeout) replies new
+  NeedsNoWait old reading replies new = Unit {0}

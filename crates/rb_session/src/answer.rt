@@ -1,28 +1,71 @@
-ghost use Rattle.std.specs.Prelude.{◌≡◌, ℕ, Option, Result};
+ghost use Rattle.std.specs.Prelude.{◌≡◌, ◌⊎◌, ℕ, [], Option, Result, IfOk, OnErr};
+ghost use Rattle.std.specs.Io.KnownBytes.{Keeps};
 ghost use Rattle.rb_retry.specs.DeskRules.{desk_rules};
 ghost use Rattle.rb_session.specs.Held.{AreGiven};
-ghost use Rattle.rb_session.specs.Turn.{point, moment_line, IsTurn};
-ghost use Rattle.rb_session.specs.Progress.{replies_of};
+ghost use Rattle.rb_session.specs.Outlet.{sent_to, Becomes};
+ghost use Rattle.rb_session.specs.Rules.{IsGathered, WritesBeforeWaits};
+ghost use Rattle.rb_session.specs.Turn.{point, moment_line, IsTurn, NeedsNoWait};
+ghost use Rattle.rb_session.specs.Progress.{replies_of, AsksToWait};
 
 use crate::calls::{call, offer, offer_at};
-use crate::fetches::{drain_jobs, fetch_job};
+use crate::fetches::{drain_jobs, fetch_job, fetch_or_wait};
 use crate::held_job_ends::{fail_job, finish_job};
 use crate::held_jobs::HeldJobs;
-use rb_protocol::{ErrWord, LineFault, LineReply, Request};
+use crate::outlet::Outlet;
+use rb_protocol::{ErrWord, LineFault, LineReply, Request, WriteFault};
 use rb_queue::Ask;
 use rb_retry::{Desk, Policy};
+use std::io::Write;
 
 /// Answers one line with the first line of its reply. If that is a drain's, the elements that it
 /// took are the last that are held.
 ///
-/// The desk's clock is read once for each request.
-pub(crate) fn answer<D: Desk>(
+/// A request that may wait is tried once. Only if it then has to, is what the outlet holds back handed on before.
+/// `Err` means that this failed; then the request was not served. The desk's clock is read once for each
+/// request.
+pub(crate) fn answer<W: Write, D: Desk>(
+    outlet: &mut Outlet<'_, W>,
+    desk: &mut D,
+    held: &mut HeldJobs,
+    policy: &Policy,
+    reading: Result<Request, LineFault>,
+) -> Result<LineReply, WriteFault>
+    requires { AreGiven (D.mine (D.state desk.old)) held.old }
+    ensures turn { IfOk result (λ reply. IsTurn
+        (desk_rules D.Desk policy.now) (point (D.state desk.old) held.old)
+        reading (replies_of reply held.new) (point (D.state desk.new) held.new)) }
+    ensures waits { IfOk result (λ reply. NeedsNoWait
+        (desk_rules D.Desk policy.now) (point (D.state desk.old) held.old)
+        reading (replies_of reply held.new) (point (D.state desk.new) held.new)
+        ⊎ (WritesBeforeWaits outlet.old.delivery → outlet.new.gathered.items ≡ [])) }
+    ensures missed { OnErr result (D.Misses (D.state desk.old) (D.state desk.new) × (held.new ≡ held.old)) }
+    ensures late { OnErr result (IsGathered outlet.old.delivery) }
+    ensures kept { Keeps (sent_to W.Write outlet.old) (sent_to W.Write outlet.new) }
+    ensures becomes { Becomes W.Write outlet.old outlet.new }
+{
+    match reading {
+        Ok(Request::Take) => {
+            let now = desk.now();
+            fetch_or_wait(outlet, desk, held, now, 0, &Ask::Take)
+        }
+        Ok(Request::PollFor(timeout)) => {
+            let start = desk.now();
+            let ask = Ask::PollFor { start, timeout };
+            fetch_or_wait(outlet, desk, held, start, start, &ask)
+        }
+        _ => Ok(answer_at_once(desk, held, policy, reading)),
+    }
+}
+
+// Answers a line that never waits.
+fn answer_at_once<D: Desk>(
     desk: &mut D,
     held: &mut HeldJobs,
     policy: &Policy,
     reading: Result<Request, LineFault>,
 ) -> LineReply
-    requires { AreGiven (D.mine (D.state desk.old)) held.old }
+    requires given { AreGiven (D.mine (D.state desk.old)) held.old }
+    requires at_once { AsksToWait reading → ⊥ }
     ensures { IsTurn (desk_rules D.Desk policy.now) (point (D.state desk.old) held.old)
         reading (replies_of result held.new) (point (D.state desk.new) held.new) }
 {
@@ -35,11 +78,7 @@ pub(crate) fn answer<D: Desk>(
         Request::Offer { delay, payload } => offer(desk, now, delay, payload),
         Request::OfferAt { expiry, payload } => offer_at(desk, now, expiry, payload),
         Request::Poll => fetch_job(desk, held, now, Ask::Poll),
-        Request::PollFor(timeout) => {
-            let start = now;
-            fetch_job(desk, held, now, Ask::PollFor { start, timeout })
-        }
-        Request::Take => fetch_job(desk, held, 0, Ask::Take),
+        Request::PollFor(_) | Request::Take => unreachable!(),
         Request::Peek => call(desk, now, Ask::Peek),
         Request::Remove(id) => call(desk, now, Ask::Remove(id)),
         Request::Drain(most) => drain_jobs(desk, held, now, most),

@@ -1,14 +1,20 @@
-ghost use Rattle.std.specs.Prelude.{◌-◌, ◌<◌, min, length};
+ghost use Rattle.std.specs.Prelude.{◌≡◌, ◌⊎◌, ◌-◌, ◌<◌, min, length, [], IfOk, OnErr};
+ghost use Rattle.std.specs.Io.KnownBytes.{Keeps};
+ghost use Rattle.rb_retry.specs.Asked.{MayWait};
 ghost use Rattle.rb_retry.specs.Jobs.{answer_with};
 ghost use Rattle.rb_session.specs.Held.{AreGiven, AreNew};
+ghost use Rattle.rb_session.specs.Outlet.{sent_to, Becomes};
+ghost use Rattle.rb_session.specs.Rules.{IsGathered, WritesBeforeWaits};
 ghost use Rattle.rb_session.specs.Turn.{point, fetched_by, IsCall, IsFetch};
 ghost use Rattle.rb_session.specs.Progress.{replies_of, FetchesOne, IsHolding};
 
 use crate::calls::fault_line;
 use crate::held_jobs::{HeldJobs, MOST_HELD};
-use rb_protocol::{ErrWord, LineReply};
+use crate::outlet::Outlet;
+use rb_protocol::{ErrWord, LineReply, WriteFault};
 use rb_queue::Ask;
-use rb_retry::{Desk, DeskFault, Job, poll, poll_for, take};
+use rb_retry::{Desk, DeskFault, Job, poll, poll_for, take, try_fetch};
+use std::io::Write;
 
 /// Fetches one job by this ask, which is a poll, a take or a timed poll, if there is room for it.
 #[inline(always)]
@@ -31,6 +37,44 @@ pub(crate) fn fetch_job<D: Desk>(
         Ask::PollFor { start, timeout } => hold(held, poll_for(desk, start, timeout)),
         Ask::Take => hold(held, take(desk).map(Some)),
         _ => unreachable!(),
+    }
+}
+
+/// Fetches one job like `fetch_job`, by a take or a timed poll that is asked at `now`, a reading of the desk's clock.
+///
+/// It is tried once. If it then has to wait, what the outlet holds back is handed on before. `Err` means that this
+/// failed; then nothing was fetched.
+pub(crate) fn fetch_or_wait<W: Write, D: Desk>(
+    outlet: &mut Outlet<'_, W>,
+    desk: &mut D,
+    held: &mut HeldJobs,
+    now: u64,
+    asked: u64,
+    ask: &Ask,
+) -> Result<LineReply, WriteFault>
+    requires one { FetchesOne asked ask.now }
+    requires waits { MayWait ask.now }
+    requires read { D.gives (D.state desk.old) now }
+    requires given { AreGiven (D.mine (D.state desk.old)) held.old }
+    ensures fetched { IfOk result (λ reply. IsFetch D.Steps (point (D.state desk.old) held.old) asked ask.now
+        (replies_of reply held.new) (point (D.state desk.new) held.new)) }
+    ensures waits { IfOk result (λ reply. IsFetch D.Tries (point (D.state desk.old) held.old) now ask.now
+        (replies_of reply held.new) (point (D.state desk.new) held.new)
+        ⊎ (WritesBeforeWaits outlet.old.delivery → outlet.new.gathered.items ≡ [])) }
+    ensures missed { OnErr result (D.Misses (D.state desk.old) (D.state desk.new) × (held.new ≡ held.old)) }
+    ensures late { OnErr result (IsGathered outlet.old.delivery) }
+    ensures kept { Keeps (sent_to W.Write outlet.old) (sent_to W.Write outlet.new) }
+    ensures becomes { Becomes W.Write outlet.old outlet.new }
+{
+    if held.free() == 0 {
+        return Ok(LineReply::Err(ErrWord::Held));
+    }
+    match try_fetch(desk, now, *ask) {
+        Some(fetched) => Ok(hold(held, fetched)),
+        None => {
+            outlet.before_wait()?;
+            Ok(fetch_job(desk, held, asked, *ask))
+        }
     }
 }
 

@@ -3,6 +3,6 @@
 pub enum HandsOn {
     /// Before each read. For a desk at which no request waits.
     BeforeReads,
-    /// Before each read, and before each request that may wait.
+    /// Before each read, and before a request waits.
     BeforeReadsAndWaits,
 }

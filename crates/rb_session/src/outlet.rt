@@ -3,13 +3,10 @@ ghost use Rattle.std.specs.Io.KnownBytes.{Keeps};
 ghost use Rattle.rb_protocol.specs.ReplyText.{text_of};
 ghost use Rattle.rb_protocol.specs.Sending.{Sends};
 ghost use Rattle.rb_session.specs.Rules.{most_held_back, IsGathered, WritesBeforeWaits};
-ghost use Rattle.rb_session.specs.Turn.{AsksToWait};
 
 use crate::delivery::Delivery;
 use crate::hands_on::HandsOn;
-use rb_protocol::{
-    LineFault, LineReply, ReplyLine, Request, WriteFault, flush, send_line, write_out,
-};
+use rb_protocol::{LineReply, ReplyLine, WriteFault, flush, send_line, write_out};
 use std::io::Write;
 
 /// Where the replies of a session go: to a writer, each when its request is served or, if they are
@@ -84,22 +81,16 @@ impl<'a, W: Write> Outlet<'a, W> {
         }
     }
 
-    /// A line is served next: hands on what is held back if its request may wait, unless that is for reads
-    /// alone.
-    pub(crate) fn before_line(
-        &mut self,
-        reading: &Result<Request, LineFault>,
-    ) -> Result<(), WriteFault>
+    /// A request has to wait: hands on what is held back, unless that is for reads alone.
+    pub(crate) fn before_wait(&mut self) -> Result<(), WriteFault>
         ensures kept { Keeps (sent_to W.Write self.old) (sent_to W.Write self.new) }
-        ensures clear { OnOk result
-            (AsksToWait reading.now → WritesBeforeWaits self.old.delivery → self.new.gathered.items ≡ []) }
+        ensures clear { OnOk result (WritesBeforeWaits self.old.delivery → self.new.gathered.items ≡ []) }
         ensures late { OnErr result (IsGathered self.old.delivery) }
         ensures becomes { Becomes W.Write self.old self.new }
     {
-        match (self.delivery, reading) {
-            (Delivery::Gathered(HandsOn::BeforeReads), _) => Ok(()),
-            (_, Ok(Request::Take | Request::PollFor(_))) => self.hand_on(),
-            _ => Ok(()),
+        match self.delivery {
+            Delivery::Gathered(HandsOn::BeforeReads) => Ok(()),
+            _ => self.hand_on(),
         }
     }
 

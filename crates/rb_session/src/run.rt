@@ -53,8 +53,8 @@ pub fn run_session<R: Read, W: Write, D: Desk>(
 /// a session that ends otherwise has had no read that failed.
 ///
 /// If replies are gathered, the writer gets them before each read, at the end and, if `HandsOn` says
-/// so, before each request that may wait. So a batch of requests costs one write for each read or
-/// wait, and no client waits for a reply that is held back. The room of 64 KiB is taken before the
+/// so, before a request waits. So a batch of requests costs one write for each read or wait, and no
+/// client waits for a reply that is held back. The room of 64 KiB is taken before the
 /// first read. A write that fails comes later than the replies that it loses. The session then ends
 /// as after any fault of a write.
 pub fn run_limited<R: Read, W: Write, D: Desk>(

@@ -77,9 +77,8 @@ impl Session {
                 return Ok(stop);
             };
             desk.hear(!self.held.is_empty(), self.buffer.has_rest());
-            outlet.before_line(&reading)?;
             let quits = matches!(reading, Ok(Request::Quit));
-            let reply = answer(desk, &mut self.held, policy, reading);
+            let reply = answer(outlet, desk, &mut self.held, policy, reading)?;
             send_replies(outlet, &reply, &self.held)?;
             if quits {
                 outlet.hand_on()?;

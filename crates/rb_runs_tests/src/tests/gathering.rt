@@ -166,15 +166,15 @@ fn held_jobs_fail_after_a_late_write_fault(rt: HostRuntime) -> Result<(), Fail> 
     Ok(())
 }
 
-// The element that a take would fetch stays in the queue if the replies before the take can't be
+// A take that need not wait hands nothing on before. Its job fails at the end of the session, as the replies can't be
 // handed on.
 #[test]
-fn a_take_behind_a_write_fault_is_not_served(rt: HostRuntime) -> Result<(), Fail> {
+fn a_take_that_need_not_wait_is_served_before_a_write_fault(rt: HostRuntime) -> Result<(), Fail> {
     let script = b"OFFER 0 a\nTAKE\n";
     let cut = cut_off(&rt, rt.alloc(), script, HandsOn::BeforeReadsAndWaits)?;
     expect_cut(&rt, &cut);
     expect_bytes(&rt, &cut.bytes, b"OFFER", 0);
-    expect_count(&rt, cut.events, 1, 0);
+    expect_count(&rt, cut.events, 3, 0);
     expect(&rt, cut.left == 1);
     Ok(())
 }

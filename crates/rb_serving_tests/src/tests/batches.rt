@@ -8,29 +8,29 @@ use crate::tests::visits::{all_given, served};
 use rb_session::Delivery;
 use std::alloc::Global;
 use std::io::Write;
-use std::sync::atomic::AtomicU64;
+use std::sync::atomic::{AtomicU64, Ordering};
 use std::test::Fail;
 
-// The second take waits for an offer. Another visitor makes the offer once it sees the replies to
-// the lines before that take.
+// The first take finds its element, and the second waits for an offer. Another visitor makes the offer once it
+// sees the replies to the lines before the second.
 #[test]
 fn no_reply_waits_for_a_take(rt: HostRuntime) {
     let alloc = rt.alloc();
     let (turns, others) = (AtomicU64::new(0), AtomicU64::new(0));
     let (first, second) = (Received::none(alloc), Received::none(alloc));
-    let before = b"OFFERED 0 7\nITEM 0 7 1 a\n";
+    let before = b"OFFERED 0 7\nITEM 0 7 1 a\nDONE 0\n";
     let offers = Sends::OnceSent(b"OFFER 0 b\nQUIT\n", &first, before);
-    let takes = at_once(b"OFFER 0 a\nTAKE\nTAKE\nDONE 0\nDONE 1\nQUIT\n");
+    let takes = at_once(b"OFFER 0 a\nTAKE\nDONE 0\nTAKE\nDONE 1\nQUIT\n");
     let plans = [
         planned(takes, &first, &turns),
         planned(Some(offers), &second, &others),
     ];
     let counts = served(&rt, alloc, GATHERED, &plans, 2);
     expect_text(&rt, &second, b"OFFERED 1 7\nBYE\n");
-    let all = b"OFFERED 0 7\nITEM 0 7 1 a\nITEM 1 7 1 b\nDONE 0\nDONE 1\nBYE\n";
+    let all = b"OFFERED 0 7\nITEM 0 7 1 a\nDONE 0\nITEM 1 7 1 b\nDONE 1\nBYE\n";
     expect_text(&rt, &first, all);
-    // There is one write before each take, and one at the end.
-    expect_writes(&rt, &first, 3);
+    // There is one write before the wait, and one at the end.
+    expect_writes(&rt, &first, 2);
     expect_counts(&rt, counts, 2, 0, 0);
     expect_audit(&rt, counts.audit, all_given(2));
 }
@@ -75,6 +75,27 @@ fn a_batch_of_offers_is_one_write(rt: HostRuntime) -> Result<(), Fail> {
     expect_writes(&rt, &received, 1);
     expect_counts(&rt, counts, 1, 0, 0);
     expect_number(&rt, counts.audit.offered, 32);
+    Ok(())
+}
+
+// Each take finds its element, and each timed poll either, so nothing waits.
+#[test]
+fn a_batch_of_takes_that_find_their_elements_is_one_write(rt: HostRuntime) -> Result<(), Fail> {
+    let alloc = rt.alloc();
+    let (mut lines, mut replies) = (Vec::new(alloc), Vec::new(alloc));
+    for id in 0..32 {
+        let take = if id % 2 == 0 { "TAKE" } else { "POLLFOR 1000" };
+        write!(lines, "OFFER 0 a\n{take}\nDONE {id}\n")?;
+        write!(replies, "OFFERED {id} 7\nITEM {id} 7 1 a\nDONE {id}\n")?;
+    }
+    let turns = AtomicU64::new(0);
+    let received = Received::none(alloc);
+    let plans = [planned(at_once(&lines), &received, &turns)];
+    let counts = served(&rt, alloc, GATHERED, &plans, 1);
+    expect_text(&rt, &received, &replies);
+    expect_writes(&rt, &received, 1);
+    expect_number(&rt, turns.load(Ordering::SeqCst), 0);
+    expect_audit(&rt, counts.audit, all_given(32));
     Ok(())
 }
 

@@ -1,6 +1,6 @@
 ghost use Rattle.rb_retry.specs.KeptLaws.{kept_makes, kept_gives_once, kept_refuses, kept_stays};
-ghost use Rattle.rb_retry.specs.KeptLaws.{kept_keeps_name, kept_sets_no_name};
-ghost use Rattle.rb_retry.specs.KeptSteps.{KeptState, KeptSteps, SetsKept, made_at};
+ghost use Rattle.rb_retry.specs.KeptLaws.{kept_tries_once, kept_keeps_name, kept_sets_no_name};
+ghost use Rattle.rb_retry.specs.KeptSteps.{KeptState, KeptSteps, NeverMisses, SetsKept, made_at};
 ghost use Rattle.std.specs.Prelude.{◌≡◌, ℕ};
 
 use crate::tests::devices::{NEVER, Sheet, expect_bytes, expect_end, expect_number, with_kept};
@@ -43,6 +43,10 @@ impl<'a, T: Timer> Desk for CountingDesk<'a, T> {
 
     ghost Steps = { KeptSteps };
 
+    ghost Tries = { KeptSteps };
+
+    ghost Misses = { NeverMisses };
+
     fn now(&self) -> u64 {
         self.readings.set(self.readings.get().saturating_add(1));
         self.desk.now()
@@ -62,6 +66,10 @@ impl<'a, T: Timer> Desk for CountingDesk<'a, T> {
         self.desk.call(asked, ask)
     }
 
+    fn try_call(&mut self, asked: u64, ask: Ask) -> Option<Result<Reply, DeskFault>> {
+        self.desk.try_call(asked, ask)
+    }
+
     fn offer(&mut self, asked: u64, draft: Draft) -> Result<Element, CallFault> {
         self.desk.offer(asked, draft)
     }
@@ -74,7 +82,15 @@ impl<'a, T: Timer> Desk for CountingDesk<'a, T> {
 
     ghost stays = { kept_stays };
 
+    ghost tries_once = { kept_tries_once };
+
+    ghost tries_again = { λ old mid new handed ask answer missed. absurd missed };
+
+    ghost misses = { λ old new missed. absurd missed };
+
     ghost keeps_name = { kept_keeps_name };
+
+    ghost misses_no_name = { λ old new missed. absurd missed };
 
     ghost sets_no_name = { kept_sets_no_name };
 }

@@ -9,5 +9,5 @@ pub returns : goal.returns
 returns g c policy got delivery rest from to served ran =
     let desk = desk_rules g.D.Desk policy in
     let rules = session_rules desk delivery (HadGotBehind g.W.Write.contents got) in
-    (made_by_ends desk g.D.Desk.mine g.met.D.Desk.makes g.met.D.Desk.refuses g.met.D.Desk.stays (IsAtEnd rest) from to
+    (made_by_ends desk g.D.Desk.mine g.met.D.Desk.makes g.met.D.Desk.refuses g.met.D.Desk.stays g.met.D.Desk.misses (IsAtEnd rest) from to
     served (ends_of rules (IsAtEnd rest) from to served served.ended ran)).0

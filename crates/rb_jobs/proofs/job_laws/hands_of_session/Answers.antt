@@ -4,7 +4,7 @@ use Rattle.rb_retry.specs.DeskRules.{desk_rules}
 use Rattle.rb_session.specs.Rules.{session_rules, HadGotBehind}
 use Rattle.rb_session.specs.declared.delivery.Delivery.TheVariants.{AtOnce}
 use Rattle.rb_jobs.specs.SessionHands.{LeadsOn}
-use Rattle.rb_jobs.proofs.SessionHands.{goes_same, goes_then, goes_way, goes_ends}
+use Rattle.rb_jobs.proofs.SessionHands.{goes_miss, goes_same, goes_then, goes_way, goes_ends}
 use Rattle.rb_jobs.proofs.Sessions.{along_lines, along_closing, along_run}
 use Rattle.rb_jobs.proofs.job_laws.hands_of_session.Goals as goal
 
@@ -33,4 +33,6 @@ returns-clause-run g c policy got delivery rest from to served =
     (goes_same desk g.D.Desk.mine g.met.D.Desk.makes g.met.D.Desk.refuses g.met.D.Desk.stays)
     (goes_then desk g.D.Desk.mine g.met.D.Desk.makes g.met.D.Desk.refuses g.met.D.Desk.stays)
     (goes_way desk g.D.Desk.mine g.met.D.Desk.makes g.met.D.Desk.refuses g.met.D.Desk.stays)
-    (goes_ends desk g.D.Desk.mine g.met.D.Desk.makes g.met.D.Desk.refuses g.met.D.Desk.stays) (IsAtEnd rest) from to served
+    (goes_ends desk g.D.Desk.mine g.met.D.Desk.makes g.met.D.Desk.refuses g.met.D.Desk.stays)
+    (goes_miss desk g.D.Desk.mine g.met.D.Desk.makes g.met.D.Desk.refuses g.met.D.Desk.stays g.met.D.Desk.misses)
+    (IsAtEnd rest) from to served

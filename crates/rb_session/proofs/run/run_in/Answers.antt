@@ -143,7 +143,7 @@ returns-clause-name g c =
     let ran = whole g (goal.at.returns-clause-name g c).After-end_of in
     stays (session_rules (desk_rules g.D.Desk c.args.policy.now) c.args.room.delivery
     (HadGotBehind g.W.Write.contents (g.W.Write.contents c.args.writer.now)))
-    g.D.Desk.name g.met.D.Desk.keeps_name g.met.D.Desk.sets_no_name
+    g.D.Desk.name g.met.D.Desk.keeps_name g.met.D.Desk.sets_no_name g.met.D.Desk.misses_no_name
     (IsAtEnd (g.R.Read.remaining c.serve-stopped.new.reader.inner.now)) (g.D.Desk.state c.args.desk.now)
     (g.D.Desk.state c.fail_all-lost.new.desk)
     (record { came = ran.came; sent = ran.sent; ended = c.end_of.result }) c.end_of.result ran.holds

@@ -1,5 +1,5 @@
 -- Each line adds its turn to those before it, each read adds bytes behind them, and each way out is an end.
-use Rattle.std.proofs.Common.{rules, ◌≡◌, refl, [], Ok, inl, inr, sym, subst, ◌∙◌, true, false, arith}
+use Rattle.std.proofs.Common.{rules, ◌≡◌, ◌⊎◌, refl, [], Ok, inl, inr, sym, subst, ◌∙◌, true, false, arith}
 use Rattle.std.proofs.KnownBytes.{Appends-nil, Appends-kept, Consumes-nil, Keeps-refl}
 use Rattle.std.specs.Io.KnownBytes.{IsAtEnd}
 use Rattle.rb_retry.specs.DeskRules.{desk_rules}
@@ -7,8 +7,8 @@ use Rattle.rb_session.specs.Outlet.{sent_to, rules_at}
 use Rattle.rb_session.specs.Exchange.{Exchanges}
 use Rattle.rb_session.specs.Progress.{replies_of, Stops}
 use Rattle.rb_session.specs.Rules.{SessionRules, IsGathered, WritesBeforeWaits}
-use Rattle.rb_session.specs.Session.{ServesToQuit, texts_of}
-use Rattle.rb_session.specs.Turn.{Point, point, AsksToWait}
+use Rattle.rb_session.specs.Session.{GotBeforeWait, ServesToQuit, texts_of}
+use Rattle.rb_session.specs.Turn.{Point, point, NeedsNoWait}
 use Rattle.rb_session.specs.declared.delivery.Delivery.{Delivery}
 use Rattle.rb_session.proofs.Gatherings.{goes_on as becomes_on, gets, stays}
 use Rattle.rb_session.proofs.GivenJobs.{given_along}
@@ -17,24 +17,35 @@ use Rattle.rb_session.proofs.Outlets.{gathers, stops_failed, stops_late, fails_t
 use Rattle.rb_session.proofs.Turns.{serves_none, reads_more, goes_on, quits, fails}
 use Rattle.rb_session.proofs.session.Session.serve.Given.{Over}
 use Rattle.rb_session.proofs.session.Session.serve.Goals as goal
-use Rattle.rb_session.proofs.session.Session.serve.Goals.{After-next_request, After-answer-reply, In-Some-2, Then-quits}
+use Rattle.rb_session.proofs.session.Session.serve.Goals.{After-next_request, In_ok-reply, In-Some-2, Then-quits}
 use Rattle.rb_session.proofs.session.Session.serve.Goals.{in-Ok-Quit, in_default-matches, in_default-matches-2}
 
 abbrev own : (g : Over) → After-next_request g → SessionRules g.D.Desk.State
 own g c = rules_at (desk_rules g.D.Desk c.args.policy.now) g.W.Write c.args.outlet.now
 
-abbrev after : (g : Over) → After-answer-reply g → Point g.D.Desk.State
-after g c = point (g.D.Desk.state c.answer-reply.new.desk) c.answer-reply.new.held
+abbrev after : (g : Over) → In_ok-reply g → Point g.D.Desk.State
+after g c = point (g.D.Desk.state c.answer.new.desk) c.answer.new.held
 
--- before the line, if it may wait, the writer had got what answers those before it
-waits : (g : Over) (c : After-answer-reply g) → AsksToWait c.in-Some.reading
-    → (own g (goal.at.After-answer-reply g c).After-next_request).HadGot c.loop-reading.invariant.served.sent
-waits g c asks writes =
-    let s = c.loop-reading.invariant in
-    gets g.W.Write c.args.outlet.now c.before_line.new.self s.served.sent
-    (c.in_ok-before_line.ensures.clear asks
-    (subst (λ (d : Delivery). WritesBeforeWaits d) (sym s.becomes.delivery) writes))
-    (Appends-kept _ _ _ _ s.served.appended c.before_line.ensures.kept)
+-- before the line waited, if it had to, the writer had got what answers those before it
+waits : (g : Over) (c : In_ok-reply g)
+    → GotBeforeWait (own g (goal.at.In_ok-reply g c).After-next_request) c.loop-reading.invariant.served.sent
+    (point (g.D.Desk.state c.loop-reading.desk) c.loop-reading.self.held) c.in-Some.reading
+    (replies_of c.in_ok-reply.reply c.answer.new.held) (after g c)
+waits g c = of_case c.in_ok-reply.ensures.waits
+  where
+    of_case : NeedsNoWait (desk_rules g.D.Desk c.args.policy.now)
+        (point (g.D.Desk.state c.loop-reading.desk) c.loop-reading.self.held) c.in-Some.reading
+        (replies_of c.in_ok-reply.reply c.answer.new.held) (after g c)
+        ⊎ (WritesBeforeWaits c.loop-reading.outlet.delivery → c.answer.new.outlet.gathered.items ≡ [])
+        → GotBeforeWait (own g (goal.at.In_ok-reply g c).After-next_request) c.loop-reading.invariant.served.sent
+        (point (g.D.Desk.state c.loop-reading.desk) c.loop-reading.self.held) c.in-Some.reading
+        (replies_of c.in_ok-reply.reply c.answer.new.held) (after g c)
+    of_case (inl at_once) = inl at_once
+    of_case (inr clear) =
+        let s = c.loop-reading.invariant in
+        inr (λ writes. gets g.W.Write c.args.outlet.now c.answer.new.outlet s.served.sent
+        (clear (subst (λ (d : Delivery). WritesBeforeWaits d) (sym s.becomes.delivery) writes))
+        (Appends-kept _ _ _ _ s.served.appended c.answer.ensures.kept))
 
 pub loop-reading-init : goal.loop-reading-init
 unfolding serves_none
@@ -129,56 +140,65 @@ returns-in_err-hand_on-clause-becomes g c =
     (becomes_on g.W.Write _ _ _ c.loop-reading.invariant.becomes c.read_more.ensures.becomes)
     c.hand_on.ensures.becomes
 
--- what answers the lines so far could not be handed on
-pub returns-in_err-before_line-clause-stops : goal.returns-in_err-before_line-clause-stops
-returns-in_err-before_line-clause-stops g c =
-    let s = c.loop-reading.invariant.served in
-    let late = subst (λ (d : Delivery). IsGathered d) c.loop-reading.invariant.becomes.delivery
-    c.in_err-before_line.ensures.late in
-    exchanges_same s _ c.before_line.ensures.kept (Keeps-refl _)
-    (stops_failed _ _ _ _ _ c.from_residual-in_err-before_line.result c.from_residual-in_err-before_line.ensures.0
-    (inr (late, inr (inr s.holds.0))))
-
-pub returns-in_err-before_line-clause-becomes : goal.returns-in_err-before_line-clause-becomes
-returns-in_err-before_line-clause-becomes g c =
-    becomes_on g.W.Write _ _ _ c.loop-reading.invariant.becomes c.before_line.ensures.becomes
-
 -- what is held was given by the desk
-pub answer-reply-requires : goal.answer-reply-requires
-answer-reply-requires g c =
+pub answer-requires : goal.answer-requires
+answer-requires g c =
     let first = c.loop-reading.invariant.served.holds.0 in
     given_along (desk_rules g.D.Desk c.args.policy.now) g.D.Desk.mine g.met.D.Desk.makes g.met.D.Desk.gives_once
     g.met.D.Desk.refuses g.met.D.Desk.stays (point (g.D.Desk.state c.args.desk.now) c.args.self.now.held)
     (point (g.D.Desk.state c.loop-reading.desk) c.loop-reading.self.held) first.turns c.requires.none first.serves
+
+-- what answers the lines so far could not be handed on before a wait
+pub returns-in_err-reply-clause-stops : goal.returns-in_err-reply-clause-stops
+returns-in_err-reply-clause-stops g c =
+    let s = c.loop-reading.invariant.served in
+    let late = subst (λ (d : Delivery). IsGathered d) c.loop-reading.invariant.becomes.delivery
+    c.in_err-reply.ensures.late in
+    let (missed, same) = c.in_err-reply.ensures.missed in
+    exchanges_same s _ c.answer.ensures.kept (Keeps-refl _)
+    (stops_failed _ _ _ _ _ c.from_residual-in_err-reply.result c.from_residual-in_err-reply.ensures.0
+    (inr (
+      late,
+      inr (inr (inr (
+        point (g.D.Desk.state c.loop-reading.desk) c.loop-reading.self.held,
+        s.holds.0,
+        missed,
+        same,
+      ))),
+    )))
+
+pub returns-in_err-reply-clause-becomes : goal.returns-in_err-reply-clause-becomes
+returns-in_err-reply-clause-becomes g c =
+    becomes_on g.W.Write _ _ _ c.loop-reading.invariant.becomes c.answer.ensures.becomes
 
 -- a reply could not be sent
 pub returns-in_err-send_replies-clause-stops : goal.returns-in_err-send_replies-clause-stops
 returns-in_err-send_replies-clause-stops g c =
     let s = c.loop-reading.invariant.served in
     let line = c.in-Some.ensures.line s.holds.0.unserved s.holds.1 in
-    let on = (goal.at.returns-in_err-send_replies-clause-stops g c).After-answer-reply in
+    let on = (goal.at.returns-in_err-send_replies-clause-stops g c).In_ok-reply in
     let sent = c.in_err-send_replies.ensures.sent in
-    exchanges_sent s _ c.before_line.ensures.kept sent.0 _ sent.3
+    exchanges_sent s _ c.answer.ensures.kept sent.0 _ sent.3
     (stops_failed _ _ _ _ _ c.from_residual-in_err-send_replies.result c.from_residual-in_err-send_replies.ensures.0
-    (inl (fails _ s.holds.0 (after g on) line.0 line.1 c.in-Some.reading _ line.2 (line.3, line.4) (waits g on)
-    c.answer-reply.ensures _ sent.0 sent.1 sent.2)))
+    (inl (fails _ s.holds.0 (after g on) line.0 line.1 c.in-Some.reading _ line.2 (line.3, line.4)
+    c.in_ok-reply.ensures.turn (waits g on) _ sent.0 sent.1 sent.2)))
 
 pub returns-in_err-send_replies-clause-becomes : goal.returns-in_err-send_replies-clause-becomes
 returns-in_err-send_replies-clause-becomes g c =
     becomes_on g.W.Write _ _ _
-    (becomes_on g.W.Write _ _ _ c.loop-reading.invariant.becomes c.before_line.ensures.becomes)
+    (becomes_on g.W.Write _ _ _ c.loop-reading.invariant.becomes c.answer.ensures.becomes)
     c.send_replies.ensures.becomes
 
 pub loop-reading-preserved : goal.loop-reading-preserved
 loop-reading-preserved g c =
     let s = c.loop-reading.invariant.served in
     let line = c.in-Some.ensures.line s.holds.0.unserved s.holds.1 in
-    let on = (goal.at.loop-reading-preserved g c).After-answer-reply in
+    let on = (goal.at.loop-reading-preserved g c).In_ok-reply in
     record {
-      served = exchanges_sent s _ c.before_line.ensures.kept
-          (texts_of (replies_of c.answer-reply.result c.answer-reply.new.held)) _ c.in_ok-send_replies.ensures.sent
-          (goes_on _ s.holds.0 (after g on) line.0 line.1 c.in-Some.reading _ line.2 (line.3, line.4) (waits g on)
-          c.answer-reply.ensures
+      served = exchanges_sent s _ c.answer.ensures.kept
+          (texts_of (replies_of c.in_ok-reply.reply c.answer.new.held)) _ c.in_ok-send_replies.ensures.sent
+          (goes_on _ s.holds.0 (after g on) line.0 line.1 c.in-Some.reading _ line.2 (line.3, line.4)
+          c.in_ok-reply.ensures.turn (waits g on)
           (λ quit. elim c.match-matches.branch [
             | in-Ok-Quit w ↦ let clash : true ≡ false = sym w.matches-is ∙ c.if-quits.false in absurd (cc)
             | in_default-matches w ↦ let arm = w.in_default-matches in search rules
@@ -189,7 +209,7 @@ loop-reading-preserved g c =
       still = c.loop-reading.invariant.still;
       same_reference = c.loop-reading.invariant.same_reference;
       becomes = becomes_on g.W.Write _ _ _
-          (becomes_on g.W.Write _ _ _ c.loop-reading.invariant.becomes c.before_line.ensures.becomes)
+          (becomes_on g.W.Write _ _ _ c.loop-reading.invariant.becomes c.answer.ensures.becomes)
           c.send_replies.ensures.becomes;
     }
 
@@ -199,15 +219,15 @@ ended : (g : Over) (c : Then-quits g) → Exchanges
     (sent_to g.W.Write c.args.outlet.now) (sent_to g.W.Write c.send_replies.new.outlet)
     (λ came sent. ServesToQuit (own g (goal.at.Then-quits g c).After-next_request)
     (point (g.D.Desk.state c.args.desk.now) c.args.self.now.held) came sent
-    (after g (goal.at.Then-quits g c).After-answer-reply))
+    (after g (goal.at.Then-quits g c).In_ok-reply))
 ended g c =
     let s = c.loop-reading.invariant.served in
     let line = c.in-Some.ensures.line s.holds.0.unserved s.holds.1 in
-    let on = (goal.at.Then-quits g c).After-answer-reply in
-    exchanges_sent s _ c.before_line.ensures.kept
-    (texts_of (replies_of c.answer-reply.result c.answer-reply.new.held)) _ c.in_ok-send_replies.ensures.sent
-    (quits _ s.holds.0 (after g on) line.0 line.1 c.in-Some.reading _ line.2 (line.3, line.4) (waits g on)
-    c.answer-reply.ensures line.6 (elim c.match-matches.branch [
+    let on = (goal.at.Then-quits g c).In_ok-reply in
+    exchanges_sent s _ c.answer.ensures.kept
+    (texts_of (replies_of c.in_ok-reply.reply c.answer.new.held)) _ c.in_ok-send_replies.ensures.sent
+    (quits _ s.holds.0 (after g on) line.0 line.1 c.in-Some.reading _ line.2 (line.3, line.4)
+    c.in_ok-reply.ensures.turn (waits g on) line.6 (elim c.match-matches.branch [
       | in-Ok-Quit w ↦ let arm = w.in-Ok-Quit in search rules
       | in_default-matches w ↦ let clash : true ≡ false = sym c.if-quits.true ∙ w.matches-is in absurd (cc)
       | in_default-matches-2 w ↦ let clash : true ≡ false = sym c.if-quits.true ∙ w.matches-is in absurd (cc)
@@ -222,7 +242,7 @@ pub returns-then-quits-clause-becomes : goal.returns-then-quits-clause-becomes
 returns-then-quits-clause-becomes g c =
     becomes_on g.W.Write _ _ _
     (becomes_on g.W.Write _ _ _
-    (becomes_on g.W.Write _ _ _ c.loop-reading.invariant.becomes c.before_line.ensures.becomes)
+    (becomes_on g.W.Write _ _ _ c.loop-reading.invariant.becomes c.answer.ensures.becomes)
     c.send_replies.ensures.becomes) c.hand_on-then-quits.ensures.becomes
 
 -- and then a reply could not be handed on
@@ -230,7 +250,7 @@ pub returns-in_err-hand_on-2-clause-stops : goal.returns-in_err-hand_on-2-clause
 returns-in_err-hand_on-2-clause-stops g c =
     let s = ended g (goal.at.returns-in_err-hand_on-2-clause-stops g c).Then-quits in
     let late = subst (λ (d : Delivery). IsGathered d)
-    (c.send_replies.ensures.becomes.delivery ∙ c.before_line.ensures.becomes.delivery
+    (c.send_replies.ensures.becomes.delivery ∙ c.answer.ensures.becomes.delivery
     ∙ c.loop-reading.invariant.becomes.delivery)
     (gathers _ _ c.in_err-hand_on-2.ensures.late c.send_replies.new.outlet.few) in
     exchanges_same s _ c.hand_on-then-quits.ensures.kept (Keeps-refl _)
@@ -241,5 +261,5 @@ pub returns-in_err-hand_on-2-clause-becomes : goal.returns-in_err-hand_on-2-clau
 returns-in_err-hand_on-2-clause-becomes g c =
     becomes_on g.W.Write _ _ _
     (becomes_on g.W.Write _ _ _
-    (becomes_on g.W.Write _ _ _ c.loop-reading.invariant.becomes c.before_line.ensures.becomes)
+    (becomes_on g.W.Write _ _ _ c.loop-reading.invariant.becomes c.answer.ensures.becomes)
     c.send_replies.ensures.becomes) c.hand_on-then-quits.ensures.becomes
