@@ -6,7 +6,7 @@ use rb_blocking::MachineClock;
 use rb_ending::BrokerFault;
 use rb_history::HistoryRoom;
 use rb_options::{ReplayOptions, ScriptOptions, ServeOptions, ServerRunOptions};
-use rb_protocol::LimitedReader;
+use rb_protocol::{LimitedReader, LimitedWriter};
 use rb_queue::Opening;
 use rb_runs::{ReadyScript, opening_in, over_timer, run_replay};
 use rb_serving::{
@@ -52,10 +52,11 @@ fn script_over<T: Timer>(
     let ready = ReadyScript::<T>::new(rt.alloc(), options, delivery, opening)?;
     history.begin().map_err(|_| BrokerFault::WriteHistory)?;
     let mut input = rt.stdin();
+    let mut output = rt.stdout();
     let mut reader = LimitedReader::new(&mut input);
-    ready
-        .run(&mut reader, &mut rt.stdout(), history.device())
-        .result()
+    let writer = LimitedWriter::new(&mut output);
+    let (_, report) = ready.run(&mut reader, writer, history.device());
+    report.result()
 }
 
 /// Checks the history in a file, prints the line about it, and returns the exit status.

@@ -10,7 +10,7 @@ use crate::timers::{TIMERS, timer_name};
 use rb_arguments::Words;
 use rb_ending::BrokerFault;
 use rb_options::{ScriptOptions, TimerKind};
-use rb_protocol::LimitedReader;
+use rb_protocol::{LimitedReader, LimitedWriter};
 use rb_queue::Opening;
 use rb_runs::{opening_in, run_script, run_script_delivered};
 use rb_session::{Delivery, Ended, HandsOn};
@@ -187,16 +187,18 @@ fn ended(
     let mut source = source;
     match delivery {
         Delivery::AtOnce => run_script(alloc, options, opening, &mut source, writer, recorder),
-        gathered => run_script_delivered(
-            alloc,
-            options,
-            gathered,
-            opening,
-            &mut LimitedReader::new(&mut source),
-            writer,
-            recorder,
-        )
-        .result(),
+        gathered => {
+            let (_, report) = run_script_delivered(
+                alloc,
+                options,
+                gathered,
+                opening,
+                &mut LimitedReader::new(&mut source),
+                LimitedWriter::new(writer),
+                recorder,
+            );
+            report.result()
+        }
     }
 }
 

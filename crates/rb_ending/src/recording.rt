@@ -4,6 +4,7 @@ ghost use Rattle.rb_ending.specs.Recording.{RecordsLog};
 
 use rb_history::{HistoryFault, HistoryRoom, write_history_in};
 use rb_kept::Kept;
+use rb_protocol::{LimitedWriter, WriteFault};
 use rb_timer::Timer;
 use std::io;
 
@@ -21,8 +22,10 @@ pub fn write_recording<T: Timer, H: io::Write>(
 {
     // For the proof: how long the history may get.
     let _ = kept.capacity();
-    let Ok(()) = write_history_in(room, kept.opening(), kept.history(), device) else {
-        return Err(HistoryFault::Write);
-    };
-    Ok(())
+    let device = LimitedWriter::new(device);
+    let (_, written) = write_history_in(room, kept.opening(), kept.history(), device);
+    match written {
+        Ok(()) => Ok(()),
+        Err(WriteFault) => Err(HistoryFault::Write),
+    }
 }

@@ -6,6 +6,9 @@ use Rattle.std.specs.declared.io.Write as Write
 use Rattle.std.proofs.KnownBytes.{Appends-nil, Appends-trans}
 use Rattle.rb_protocol.specs.Sending.{Sends}
 use Rattle.rb_protocol.proofs.Sending.{sends_all}
+use Rattle.rb_protocol.specs.Writes.{WritesOn}
+use Rattle.rb_protocol.proofs.WrittenBytes.{writes_same, writes_then}
+use Rattle.rb_protocol.specs.declared.streams.limited_writer.LimitedWriter.{LimitedWriter}
 use Rattle.rb_protocol.specs.declared.streams.writing.WriteFault.{WriteFault}
 use Rattle.rb_history.specs.Outlet.{IsShared, Holds, Grows}
 use Rattle.rb_history.specs.declared.outlet.Outlet.{Outlet}
@@ -53,7 +56,7 @@ module _ {W : Type 0} (writer : Write.Ghosts W) where
   pub grows_then : (one two three : Outlet W writer) (first second : List ℕ) → Grows writer one first two
       → Grows writer two second three → Grows writer one (first ++ second) three
   grows_then one two three first second begun more = record {
-    same_reference = more.same_reference ∙ begun.same_reference;
+    on = writes_then begun.on more.on;
     holds = λ got text held. subst (λ t. Holds writer got t three) (append_assoc text first second)
         (more.holds got (text ++ first) (begun.holds got text held));
   }
@@ -62,8 +65,8 @@ module _ {W : Type 0} (writer : Write.Ghosts W) where
   pub grows_more : (old new : Outlet W writer) (bytes : List ℕ) → new.writer ≡ old.writer → new.sent ≡ old.sent
       → new.gathered.items ≡ old.gathered.items ++ bytes → Grows writer old bytes new
   grows_more old new bytes same_writer same_sent more = record {
-    same_reference = ap (λ w. w.ghost_name) same_writer;
-    holds = λ got text held. subst (λ w. IsShared new.sent got (writer.contents w.now) new.gathered.items (text ++ bytes)) (sym same_writer)
-        (subst (λ s. IsShared s got (writer.contents old.writer.now) new.gathered.items (text ++ bytes)) (sym same_sent)
-        (shares_more old.sent got (writer.contents old.writer.now) old.gathered.items new.gathered.items text bytes more held));
+    on = subst (λ (w : LimitedWriter W). WritesOn old.writer w) (sym same_writer) (writes_same old.writer);
+    holds = λ got text held. subst (λ (w : LimitedWriter W). IsShared new.sent got (writer.contents w.inner.now) new.gathered.items (text ++ bytes)) (sym same_writer)
+        (subst (λ s. IsShared s got (writer.contents old.writer.inner.now) new.gathered.items (text ++ bytes)) (sym same_sent)
+        (shares_more old.sent got (writer.contents old.writer.inner.now) old.gathered.items new.gathered.items text bytes more held));
   }

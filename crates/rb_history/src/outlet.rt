@@ -1,9 +1,10 @@
-ghost use Rattle.std.specs.Prelude.{◌≡◌, ◌≤◌, ◌+◌, ℕ, List, Option, [], length, vec_len, vec_capacity};
+ghost use Rattle.std.specs.Prelude.{◌≡◌, ◌≤◌, ◌+◌, ℕ, List, Option, [], length, IsErr, OnErr, vec_len, vec_capacity};
 ghost use Rattle.rb_history.specs.declared.history_room.TheConstants.{PIECE_BYTES};
 ghost use Rattle.rb_protocol.specs.Sending.{Sends};
+ghost use Rattle.rb_protocol.specs.Writes.{CannotWrite, WritesOn};
 
 use crate::history_room::{HistoryRoom, PIECE_BYTES};
-use rb_protocol::{WriteFault, flush, send_line};
+use rb_protocol::{LimitedWriter, WriteFault, send_line};
 use std::io::Write;
 
 /// Where the text of a history goes: to a writer, in pieces of at most 64 KiB.
@@ -12,21 +13,22 @@ use std::io::Write;
 /// nothing more is written and what is pushed is lost, so the writer has a first part of it.
 #[derive(Drop)]
 pub(crate) struct Outlet<'a, W: Write> {
-    writer: &'a mut W,
+    writer: LimitedWriter<'a, W>,
     gathered: Vec<u8>,
     // What became of the writes so far.
     sent: Result<(), WriteFault>,
     ghost few: { vec_len gathered ≤ PIECE_BYTES },
     ghost room: { PIECE_BYTES ≤ vec_capacity gathered },
+    ghost told: { IsErr sent → CannotWrite writer },
 }
 
 impl<'a, W: Write> Outlet<'a, W> {
     ghost use Rattle.rb_history.specs.Outlet.{Holds, Grows};
 
     /// An outlet to this writer, to which nothing was pushed. It takes no more memory than the room.
-    pub(crate) fn new(writer: &'a mut W, room: HistoryRoom) -> Outlet<'a, W>
-        ensures same_reference { result.writer.ghost_name ≡ writer.entry.ghost_name }
-        ensures holds { Holds W.Write (W.contents writer.old) [] result }
+    pub(crate) fn new(writer: LimitedWriter<'a, W>, room: HistoryRoom) -> Outlet<'a, W>
+        ensures same { result.writer ≡ writer.entry }
+        ensures holds { Holds W.Write (W.contents writer.entry.inner.now) [] result }
     {
         Outlet {
             writer,
@@ -46,19 +48,19 @@ impl<'a, W: Write> Outlet<'a, W> {
 
     /// Writes what is gathered, and flushes. `Err` means that this or an earlier write failed.
     pub(crate) fn finish(&mut self) -> Result<(), WriteFault>
-        ensures same_reference { self.new.writer.ghost_name ≡ self.old.writer.ghost_name }
+        ensures on { WritesOn self.old.writer self.new.writer }
+        ensures told { OnErr result (CannotWrite self.new.writer) }
         ensures sent { (got : Option (List ℕ)) (text : List ℕ) → Holds W.Write got text self.old
-            → Sends result got text (W.contents self.new.writer.now) }
+            → Sends result got text (W.contents self.new.writer.inner.now) }
     {
         self.hand_on();
         self.sent?;
-        flush(self.writer)
+        self.writer.flush()
     }
 
     /// The writer. What is still gathered is dropped.
-    pub(crate) fn into_writer(self) -> &'a mut W
-        ensures same_reference { result.ghost_name ≡ self.entry.writer.ghost_name }
-        ensures same { result.now ≡ self.entry.writer.now }
+    pub(crate) fn into_writer(self) -> LimitedWriter<'a, W>
+        ensures { result ≡ self.entry.writer }
     {
         let Outlet { writer, .. } = self;
         writer
@@ -81,7 +83,7 @@ impl<'a, W: Write> Outlet<'a, W> {
         ensures clear { self.new.gathered.items ≡ [] }
     {
         if self.sent.is_ok() {
-            self.sent = send_line(self.writer, &self.gathered);
+            self.sent = send_line(&mut self.writer, &self.gathered);
         }
         self.gathered.clear();
     }

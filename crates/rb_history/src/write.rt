@@ -1,14 +1,15 @@
-ghost use Rattle.std.specs.Prelude.{◌≤◌, length, OnOk};
+ghost use Rattle.std.specs.Prelude.{◌≤◌, length, OnOk, OnErr};
 ghost use Rattle.rb_history.specs.HistoryText.{history_text};
 ghost use Rattle.rb_history.specs.Ranges.{IsRightOpening, AreRightEvents};
 ghost use Rattle.rb_history.specs.Written.{Writes};
 ghost use Rattle.rb_protocol.specs.Sending.{Sends};
+ghost use Rattle.rb_protocol.specs.Writes.{CannotWrite, WritesOn};
 
 use crate::history_fault::HistoryFault;
 use crate::history_room::HistoryRoom;
 use crate::history_text::push_history;
 use crate::outlet::Outlet;
-use rb_protocol::WriteFault;
+use rb_protocol::{LimitedWriter, WriteFault};
 use rb_queue::{Event, Opening};
 use std::alloc::Global;
 use std::io::Write;
@@ -38,10 +39,11 @@ pub fn write_history<W: Write>(
     let Ok(room) = HistoryRoom::new(alloc) else {
         return Err(HistoryFault::Memory);
     };
-    let Ok(()) = write_history_in(room, opening, events, writer) else {
-        return Err(HistoryFault::Write);
-    };
-    Ok(())
+    let (_, written) = write_history_in(room, opening, events, LimitedWriter::new(writer));
+    match written {
+        Ok(()) => Ok(()),
+        Err(WriteFault) => Err(HistoryFault::Write),
+    }
 }
 
 /// Writes like `write_history`, in pieces of at most 64 KiB, which it gathers in the room. It takes no
@@ -49,22 +51,22 @@ pub fn write_history<W: Write>(
 ///
 /// `Err` means that a write or the flush failed, or that a write took no byte. Nothing is written after
 /// that, so the writer has got a first part of the text, perhaps nothing or all of it.
-pub fn write_history_in<W: Write>(
+pub fn write_history_in<'a, W: Write>(
     room: HistoryRoom,
     opening: &Opening,
     events: &[Event],
-    writer: &mut W,
-) -> Result<(), WriteFault>
+    writer: LimitedWriter<'a, W>,
+) -> (LimitedWriter<'a, W>, Result<(), WriteFault>)
     requires { length events.now ≤ MOST_EVENTS }
-    ensures writes { Sends result (W.contents writer.old) (history_text opening.now events.now)
-        (W.contents writer.new) }
+    ensures writes { Sends result.1 (W.contents writer.entry.inner.now) (history_text opening.now events.now)
+        (W.contents result.0.inner.now) }
+    ensures reason { OnErr result.1 (CannotWrite result.0) }
+    ensures on { WritesOn writer.entry result.0 }
     ensures opening { IsRightOpening opening.now }
     ensures events { AreRightEvents events.now }
 {
     let mut outlet = Outlet::new(writer, room);
     push_history(&mut outlet, opening, events);
     let ended = outlet.finish();
-    // For the proof: what the writer has got.
-    let _ = &*outlet.into_writer();
-    ended
+    (outlet.into_writer(), ended)
 }

@@ -8,3 +8,4 @@ pub mod ReplyText
 pub mod FaultWord
 pub mod Sending
 pub mod Reads
+pub mod Writes

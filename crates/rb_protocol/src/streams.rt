@@ -2,6 +2,8 @@
 //! loop that writes.
 
 pub(crate) mod limited_reader;
+pub(crate) mod limited_writer;
 pub(crate) mod reader_state;
 pub(crate) mod send;
+pub(crate) mod writer_state;
 pub(crate) mod writing;

@@ -2,7 +2,8 @@ ghost use Rattle.std.specs.Prelude.{◌≡◌, ◌≢◌, ◌≤◌, [], Result,
 ghost use Rattle.std.specs.Io.KnownBytes.{IsAtEnd};
 ghost use Rattle.rb_ledger.specs.Totals.{nothing};
 ghost use Rattle.rb_session.specs.Exchange.{Exchanges};
-ghost use Rattle.rb_session.specs.Reasons.{IsReason};
+ghost use Rattle.rb_session.specs.Reasons.{IsReason, IsWriteReason};
+ghost use Rattle.rb_protocol.specs.Writes.{WritesOn};
 ghost use Rattle.rb_ending.specs.Recording.{lent, given_back};
 ghost use Rattle.rb_runs.specs.Script.{IsFresh, IsRecording, RanScript, script_terms, device_of};
 
@@ -13,7 +14,7 @@ use rb_history::HistoryRoom;
 use rb_kept::Kept;
 use rb_ledger::Tally;
 use rb_options::ScriptOptions;
-use rb_protocol::LimitedReader;
+use rb_protocol::{LimitedReader, LimitedWriter};
 use rb_queue::Opening;
 use rb_retry::{KeptDesk, Policy};
 use rb_session::{Delivery, Ended, SessionFault, SessionRoom, run_in};
@@ -67,22 +68,25 @@ impl<T: Timer> ReadyScript<T> {
     ///
     /// The history is also written after a session that ended with a fault. `EndOfInput` means that the last
     /// read met the end of the input, `Read` that it failed, and `ReadTurns` that there is none left; a session
-    /// that ends otherwise has had no read that failed. None ends for want of memory.
-    pub fn run<R: Read, W: Write, H: Write>(
+    /// that ends otherwise has had no read that failed. `Write` means that a write or a flush failed or a write
+    /// took no byte, and in a session that ends otherwise none did. None ends for want of memory.
+    pub fn run<'a, R: Read, W: Write, H: Write>(
         self,
         reader: &mut LimitedReader<'_, R>,
-        writer: &mut W,
+        writer: LimitedWriter<'a, W>,
         history: Option<&mut H>,
-    ) -> ScriptReport
+    ) -> (LimitedWriter<'a, W>, ScriptReport)
         ensures ran { Exchanges
             (R.remaining reader.old.inner.now) (R.remaining reader.new.inner.now)
-            (W.contents writer.old) (W.contents writer.new) (λ came sent.
-            RanScript (script_terms W.contents (W.contents writer.old)
+            (W.contents writer.entry.inner.now) (W.contents result.0.inner.now) (λ came sent.
+            RanScript (script_terms W.contents (W.contents writer.entry.inner.now)
             self.policy self.kept.capacity self.session.delivery self.kept.opening)
-            (IsAtEnd (R.remaining reader.new.inner.now)) came sent result
+            (IsAtEnd (R.remaining reader.new.inner.now)) came sent result.1
             (device_of H.contents (lent history.entry) (given_back history.exit))) }
-        ensures begun { result.session ≢ Err SessionFault.Memory }
-        ensures reason { IsReason reader.old.state reader.new result.session }
+        ensures begun { result.1.session ≢ Err SessionFault.Memory }
+        ensures reason { IsReason reader.old.state reader.new result.1.session }
+        ensures write_reason { IsWriteReason writer.entry result.0 result.1.session }
+        ensures on { WritesOn writer.entry result.0 }
         ensures counted { reader.new.left ≤ reader.old.left }
         ensures same_reference { reader.new.inner.ghost_name ≡ reader.old.inner.ghost_name }
     {
@@ -94,16 +98,16 @@ impl<T: Timer> ReadyScript<T> {
             text,
         } = self;
         let mut desk = KeptDesk::new(&mut kept, &mut tally);
-        let session = run_in(session, reader, writer, &mut desk, &policy);
+        let (writer, session) = run_in(session, reader, writer, &mut desk, &policy);
         match history {
-            Some(device) => ScriptReport {
-                session,
-                recording: recorded(text, &kept, device),
-            },
-            None => ScriptReport {
-                session,
-                recording: Recording::NotAsked,
-            },
+            Some(device) => {
+                let recording = recorded(text, &kept, device);
+                (writer, ScriptReport { session, recording })
+            }
+            None => {
+                let recording = Recording::NotAsked;
+                (writer, ScriptReport { session, recording })
+            }
         }
     }
 }

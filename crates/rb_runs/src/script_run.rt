@@ -1,7 +1,8 @@
 ghost use Rattle.std.specs.Prelude.{◌≡◌, ◌≤◌};
 ghost use Rattle.std.specs.Io.KnownBytes.{IsAtEnd};
 ghost use Rattle.rb_session.specs.Exchange.{Exchanges};
-ghost use Rattle.rb_session.specs.Reasons.{IsReason};
+ghost use Rattle.rb_session.specs.Reasons.{IsReason, IsWriteReason};
+ghost use Rattle.rb_protocol.specs.Writes.{WritesOn};
 ghost use Rattle.rb_ending.specs.Recording.{lent, given_back};
 ghost use Rattle.rb_runs.specs.Script.{RanScript, script_terms, device_of};
 
@@ -9,7 +10,7 @@ use crate::ready_script::ReadyScript;
 use crate::recording::Recording;
 use crate::script_report::ScriptReport;
 use rb_options::ScriptOptions;
-use rb_protocol::LimitedReader;
+use rb_protocol::{LimitedReader, LimitedWriter};
 use rb_queue::Opening;
 use rb_session::Delivery;
 use rb_timer::Timer;
@@ -26,21 +27,23 @@ pub(crate) struct Script<'a> {
 
 /// Runs a script over this timer, and then writes its history, if there is a device for it. If there is
 /// not enough memory before the first read, the session is not begun.
-pub(crate) fn script_over<T: Timer, R: Read, W: Write, H: Write>(
+pub(crate) fn script_over<'a, T: Timer, R: Read, W: Write, H: Write>(
     alloc: Global,
     script: Script<'_>,
     reader: &mut LimitedReader<'_, R>,
-    writer: &mut W,
+    writer: LimitedWriter<'a, W>,
     history: Option<&mut H>,
-) -> ScriptReport
+) -> (LimitedWriter<'a, W>, ScriptReport)
     ensures ran { Exchanges
         (R.remaining reader.old.inner.now) (R.remaining reader.new.inner.now)
-        (W.contents writer.old) (W.contents writer.new) (λ came sent.
-        RanScript (script_terms W.contents (W.contents writer.old) script.entry.options.now.policy
+        (W.contents writer.entry.inner.now) (W.contents result.0.inner.now) (λ came sent.
+        RanScript (script_terms W.contents (W.contents writer.entry.inner.now) script.entry.options.now.policy
         script.entry.options.now.calls script.entry.delivery script.entry.opening)
-        (IsAtEnd (R.remaining reader.new.inner.now)) came sent result
+        (IsAtEnd (R.remaining reader.new.inner.now)) came sent result.1
         (device_of H.contents (lent history.entry) (given_back history.exit))) }
-    ensures reason { IsReason reader.old.state reader.new result.session }
+    ensures reason { IsReason reader.old.state reader.new result.1.session }
+    ensures write_reason { IsWriteReason writer.entry result.0 result.1.session }
+    ensures on { WritesOn writer.entry result.0 }
     ensures counted { reader.new.left ≤ reader.old.left }
     ensures same_reference { reader.new.inner.ghost_name ≡ reader.old.inner.ghost_name }
 {
@@ -51,8 +54,8 @@ pub(crate) fn script_over<T: Timer, R: Read, W: Write, H: Write>(
     } = script;
     let Ok(ready) = ReadyScript::<T>::new(alloc, options, delivery, opening) else {
         return match history {
-            Some(_device) => ScriptReport::unbegun(Recording::NotBegun),
-            None => ScriptReport::unbegun(Recording::NotAsked),
+            Some(_device) => (writer, ScriptReport::unbegun(Recording::NotBegun)),
+            None => (writer, ScriptReport::unbegun(Recording::NotAsked)),
         };
     };
     // For the proof: it follows the device only where it knows that there is one.

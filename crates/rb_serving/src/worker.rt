@@ -12,7 +12,7 @@ use crate::visit::Visit;
 use crate::visit_counts::VisitCounts;
 use rb_blocking::Clock;
 use rb_lock::Pass;
-use rb_protocol::LimitedReader;
+use rb_protocol::{LimitedReader, LimitedWriter};
 use rb_session::{Ended, SessionFault, run_limited};
 use rb_shared_desk::SharedDesk;
 use rb_timer::Timer;
@@ -118,10 +118,11 @@ fn serve_visit<T: Timer, D: Door, C: Clock, V, R: Wait + time::Clock>(
         &mut gate,
         service.bell,
     );
-    let ended = run_limited(
+    let outlet = LimitedWriter::new(&mut writer);
+    let (_, ended) = run_limited(
         service.alloc,
         &mut limited,
-        &mut writer,
+        outlet,
         &mut desk,
         service.policy,
         service.delivery,

@@ -5,7 +5,10 @@ use Rattle.std.proofs.lemmas.List.{append-nil, append_cancel_left}
 use Rattle.std.specs.declared.io.Write as Write
 use Rattle.std.specs.Io.KnownBytes.{Appends, append_known}
 use Rattle.rb_protocol.specs.Sending.{Sends}
+use Rattle.rb_protocol.specs.Writes.{FailsNoMore, TellsOf}
+use Rattle.rb_protocol.specs.declared.streams.limited_writer.LimitedWriter.{LimitedWriter}
 use Rattle.rb_protocol.specs.declared.streams.writing.WriteFault.{WriteFault}
+use Rattle.rb_protocol.proofs.WrittenBytes.{writes_same, writes_then}
 use Rattle.rb_session.specs.Growth.{KeepsFront, grows_same, grows_on, all_got}
 use Rattle.rb_session.specs.Outlet.{sent_to, Becomes}
 use Rattle.rb_session.specs.Rules.{HadGotBehind}
@@ -54,6 +57,12 @@ is_shared (Some xs) (Some ys) most before gathered passed empty few (more, grown
   got = grown;
 }
 
+-- what a writer tells after nothing failed it tells from before
+pub tells_then : {T E W : Type 0} (result : Result T E) (one two three : LimitedWriter W) → FailsNoMore one two
+    → TellsOf result two three → TellsOf result one three
+tells_then (Ok done) one two three well told = λ failed. well (told failed)
+tells_then (Err fault) one two three well told = told
+
 -- an outlet that holds nothing back at first was sent just what its writer had got
 pub known_at_first : (got got' : Option (List ℕ)) (gathered : List ℕ) → gathered ≡ [] → got ≡ got'
     → append_known got gathered ≡ got'
@@ -64,13 +73,17 @@ known_at_first (Some xs) got' gathered none same =
 module _ {W : Type 0} (words : Write.Ghosts W) where
   -- an outlet may stay as it is
   pub stays : (outlet : Outlet W words) → Becomes words outlet outlet
-  stays outlet = record { same_reference = refl; grows = grows_same _; delivery = refl }
+  stays outlet = record {
+    on = writes_same outlet.writer;
+    grows = grows_same _;
+    delivery = refl;
+  }
 
   -- what an outlet becomes in two steps it may become
   pub goes_on : (one two three : Outlet W words) → Becomes words one two → Becomes words two three
       → Becomes words one three
   goes_on one two three first second = record {
-    same_reference = second.same_reference ∙ first.same_reference;
+    on = writes_then first.on second.on;
     grows = grows_on _ _ _ first.grows second.grows;
     delivery = second.delivery ∙ first.delivery;
   }
@@ -79,4 +92,4 @@ module _ {W : Type 0} (words : Write.Ghosts W) where
   pub gets : (old new : Outlet W words) (text : List ℕ) → new.gathered.items ≡ []
       → Appends (sent_to words old) (sent_to words new) text
       → HadGotBehind words.contents (sent_to words old) text
-  gets old new text clear sent = (new.writer.now, all_got _ _ new.gathered.items text clear sent)
+  gets old new text clear sent = (new.writer.inner.now, all_got _ _ new.gathered.items text clear sent)

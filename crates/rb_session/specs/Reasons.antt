@@ -1,6 +1,8 @@
--- Why a session ended, as its reader tells.
+-- Why a session ended, as its reader and its writer tell.
 use Rattle.std.specs.Prelude.{◌≡◌, Result, Ok, Err}
 use Rattle.rb_protocol.specs.Reads.{HasNotFailed}
+use Rattle.rb_protocol.specs.Writes.{CannotWrite, FailsNoMore}
+use Rattle.rb_protocol.specs.declared.streams.limited_writer.LimitedWriter.{LimitedWriter}
 use Rattle.rb_protocol.specs.declared.streams.limited_reader.LimitedReader.{LimitedReader}
 use Rattle.rb_protocol.specs.declared.streams.reader_state.ReaderState.{ReaderState}
 use Rattle.rb_protocol.specs.declared.streams.reader_state.ReaderState.TheVariants.{AtEnd, Failed}
@@ -18,3 +20,9 @@ IsReason old new (Err (Read lost)) = new.state ≡ Failed
 IsReason old new (Err (Write lost)) = HasNotFailed old new.state
 IsReason old new (Err (ReadTurns lost)) = HasNotFailed old new.state × (new.left ≡ 0)
 IsReason old new (Err Memory) = new.state ≡ old
+
+-- A session says that it could not write only where its writer has failed, or has no write left. In one that ends
+-- otherwise no write and no flush failed.
+abbrev pub IsWriteReason : {W : Type 0} → LimitedWriter W → LimitedWriter W → Result Ended SessionFault → Type 0
+IsWriteReason old new (Err (Write lost)) = CannotWrite new
+IsWriteReason old new ended = FailsNoMore old new

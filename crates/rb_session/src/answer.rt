@@ -2,7 +2,7 @@ ghost use Rattle.std.specs.Prelude.{◌≡◌, ◌⊎◌, ℕ, [], Option, Resul
 ghost use Rattle.std.specs.Io.KnownBytes.{Keeps};
 ghost use Rattle.rb_retry.specs.DeskRules.{desk_rules};
 ghost use Rattle.rb_session.specs.Held.{AreGiven};
-ghost use Rattle.rb_session.specs.Outlet.{sent_to, Becomes};
+ghost use Rattle.rb_session.specs.Outlet.{sent_to, Becomes, WriterTells};
 ghost use Rattle.rb_session.specs.Rules.{IsGathered, WritesBeforeWaits};
 ghost use Rattle.rb_session.specs.Turn.{point, moment_line, IsTurn, NeedsNoWait};
 ghost use Rattle.rb_session.specs.Progress.{replies_of, AsksToWait};
@@ -41,6 +41,7 @@ pub(crate) fn answer<W: Write, D: Desk>(
     ensures missed { OnErr result (D.Misses (D.state desk.old) (D.state desk.new) × (held.new ≡ held.old)) }
     ensures late { OnErr result (IsGathered outlet.old.delivery) }
     ensures kept { Keeps (sent_to W.Write outlet.old) (sent_to W.Write outlet.new) }
+    ensures told { WriterTells W.Write result outlet.old outlet.new }
     ensures becomes { Becomes W.Write outlet.old outlet.new }
 {
     match reading {

@@ -3,7 +3,7 @@ ghost use Rattle.std.specs.Io.KnownBytes.{Keeps};
 ghost use Rattle.rb_retry.specs.Asked.{MayWait};
 ghost use Rattle.rb_retry.specs.Jobs.{answer_with};
 ghost use Rattle.rb_session.specs.Held.{AreGiven, AreNew};
-ghost use Rattle.rb_session.specs.Outlet.{sent_to, Becomes};
+ghost use Rattle.rb_session.specs.Outlet.{sent_to, Becomes, WriterTells};
 ghost use Rattle.rb_session.specs.Rules.{IsGathered, WritesBeforeWaits};
 ghost use Rattle.rb_session.specs.Turn.{point, fetched_by, IsCall, IsFetch};
 ghost use Rattle.rb_session.specs.Progress.{replies_of, FetchesOne, IsHolding};
@@ -64,6 +64,7 @@ pub(crate) fn fetch_or_wait<W: Write, D: Desk>(
     ensures missed { OnErr result (D.Misses (D.state desk.old) (D.state desk.new) × (held.new ≡ held.old)) }
     ensures late { OnErr result (IsGathered outlet.old.delivery) }
     ensures kept { Keeps (sent_to W.Write outlet.old) (sent_to W.Write outlet.new) }
+    ensures told { WriterTells W.Write result outlet.old outlet.new }
     ensures becomes { Becomes W.Write outlet.old outlet.new }
 {
     if held.free() == 0 {

@@ -6,7 +6,7 @@ ghost use Rattle.rb_session.specs.Rules.{most_held_back, IsGathered, WritesBefor
 
 use crate::delivery::Delivery;
 use crate::hands_on::HandsOn;
-use rb_protocol::{LineReply, ReplyLine, WriteFault, flush, send_line, write_out};
+use rb_protocol::{LimitedWriter, LineReply, ReplyLine, WriteFault, send_line, write_out};
 use std::io::Write;
 
 /// Where the replies of a session go: to a writer, each when its request is served or, if they are
@@ -16,20 +16,23 @@ use std::io::Write;
 /// handed on before each read and at its end, so no client waits for a reply that is held back.
 #[derive(Drop)]
 pub(crate) struct Outlet<'a, W: Write> {
-    writer: &'a mut W,
+    writer: LimitedWriter<'a, W>,
     gathered: Vec<u8>,
     delivery: Delivery,
     ghost few: { vec_len gathered ≤ most_held_back delivery },
 }
 
 impl<'a, W: Write> Outlet<'a, W> {
-    ghost use Rattle.rb_session.specs.Outlet.{sent_to, Becomes};
+    ghost use Rattle.rb_session.specs.Outlet.{sent_to, Becomes, WriterTells};
 
     /// An outlet to this writer, which gathers in the room of an empty vector. It takes no more memory.
-    pub(crate) fn new(writer: &'a mut W, room: Vec<u8>, delivery: Delivery) -> Outlet<'a, W>
+    pub(crate) fn new(
+        writer: LimitedWriter<'a, W>,
+        room: Vec<u8>,
+        delivery: Delivery,
+    ) -> Outlet<'a, W>
         requires { room.items ≡ [] }
-        ensures same_reference { result.writer.ghost_name ≡ writer.entry.ghost_name }
-        ensures same { result.writer.now ≡ writer.old }
+        ensures same { result.writer ≡ writer.entry }
         ensures empty { result.gathered.items ≡ [] }
         ensures delivery { result.delivery ≡ delivery }
     {
@@ -41,9 +44,8 @@ impl<'a, W: Write> Outlet<'a, W> {
     }
 
     /// The writer. What is still held back is dropped.
-    pub(crate) fn into_writer(self) -> &'a mut W
-        ensures same_reference { result.ghost_name ≡ self.entry.writer.ghost_name }
-        ensures same { result.now ≡ self.entry.writer.now }
+    pub(crate) fn into_writer(self) -> LimitedWriter<'a, W>
+        ensures { result ≡ self.entry.writer }
     {
         let Outlet { writer, .. } = self;
         writer
@@ -55,6 +57,7 @@ impl<'a, W: Write> Outlet<'a, W> {
     /// After an `Err` the first bytes of the line were sent, perhaps none.
     pub(crate) fn send(&mut self, reply: &LineReply) -> Result<(), WriteFault>
         ensures sent { Sends result (sent_to W.Write self.old) (text_of reply.now) (sent_to W.Write self.new) }
+        ensures told { WriterTells W.Write result self.old self.new }
         ensures becomes { Becomes W.Write self.old self.new }
     {
         let mut text = ReplyLine::new();
@@ -63,7 +66,7 @@ impl<'a, W: Write> Outlet<'a, W> {
         if line.len() > self.room() {
             self.hand_on()?;
             if line.len() > self.room() {
-                return send_line(self.writer, line);
+                return send_line(&mut self.writer, line);
             }
         }
         self.gathered.extend_from_slice(line).unwrap();
@@ -73,10 +76,11 @@ impl<'a, W: Write> Outlet<'a, W> {
     /// The replies to a request have been sent: what is not gathered is flushed.
     pub(crate) fn after_replies(&mut self) -> Result<(), WriteFault>
         ensures kept { Keeps (sent_to W.Write self.old) (sent_to W.Write self.new) }
+        ensures told { WriterTells W.Write result self.old self.new }
         ensures becomes { Becomes W.Write self.old self.new }
     {
         match self.delivery {
-            Delivery::AtOnce => flush(self.writer),
+            Delivery::AtOnce => self.writer.flush(),
             Delivery::Gathered(_) => Ok(()),
         }
     }
@@ -84,6 +88,7 @@ impl<'a, W: Write> Outlet<'a, W> {
     /// A request has to wait: hands on what is held back, unless that is for reads alone.
     pub(crate) fn before_wait(&mut self) -> Result<(), WriteFault>
         ensures kept { Keeps (sent_to W.Write self.old) (sent_to W.Write self.new) }
+        ensures told { WriterTells W.Write result self.old self.new }
         ensures clear { OnOk result (WritesBeforeWaits self.old.delivery → self.new.gathered.items ≡ []) }
         ensures late { OnErr result (IsGathered self.old.delivery) }
         ensures becomes { Becomes W.Write self.old self.new }
@@ -97,6 +102,7 @@ impl<'a, W: Write> Outlet<'a, W> {
     /// Hands on what is held back. What the writer did not take before a failing write stays there.
     pub(crate) fn hand_on(&mut self) -> Result<(), WriteFault>
         ensures kept { Keeps (sent_to W.Write self.old) (sent_to W.Write self.new) }
+        ensures told { WriterTells W.Write result self.old self.new }
         ensures clear { OnOk result (self.new.gathered.items ≡ []) }
         ensures late { OnErr result (0 < vec_len self.old.gathered) }
         ensures becomes { Becomes W.Write self.old self.new }
@@ -104,12 +110,12 @@ impl<'a, W: Write> Outlet<'a, W> {
         if self.gathered.is_empty() {
             return Ok(());
         }
-        let taken = write_out(self.writer, &self.gathered);
+        let taken = write_out(&mut self.writer, &self.gathered);
         remove_first(&mut self.gathered, taken);
         if !self.gathered.is_empty() {
             return Err(WriteFault);
         }
-        flush(self.writer)
+        self.writer.flush()
     }
 
     // How many bytes can still be gathered.

@@ -1,6 +1,6 @@
 ghost use Rattle.rb_session.specs.Session.{texts_of};
 ghost use Rattle.rb_protocol.specs.Sending.{Sends};
-ghost use Rattle.rb_session.specs.Outlet.{sent_to, Becomes};
+ghost use Rattle.rb_session.specs.Outlet.{sent_to, Becomes, WriterTells};
 ghost use Rattle.rb_session.specs.Progress.{replies_of};
 
 use crate::held_jobs::HeldJobs;
@@ -19,6 +19,7 @@ pub(crate) fn send_replies<W: Write>(
 ) -> Result<(), WriteFault>
     ensures sent { Sends result
         (sent_to W.Write outlet.old) (texts_of (replies_of reply.now held.now)) (sent_to W.Write outlet.new) }
+    ensures told { WriterTells W.Write result outlet.old outlet.new }
     ensures becomes { Becomes W.Write outlet.old outlet.new }
 {
     outlet.send(reply)?;

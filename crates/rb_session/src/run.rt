@@ -5,7 +5,8 @@ ghost use Rattle.rb_session.specs.Exchange.{Exchanges};
 ghost use Rattle.rb_session.specs.Rules.{session_rules, HadGotBehind};
 ghost use Rattle.rb_session.specs.Ran.{Ran};
 ghost use Rattle.rb_session.specs.Progress.{end_of};
-ghost use Rattle.rb_session.specs.Reasons.{IsReason};
+ghost use Rattle.rb_session.specs.Reasons.{IsReason, IsWriteReason};
+ghost use Rattle.rb_protocol.specs.Writes.{WritesOn};
 
 use crate::delivery::Delivery;
 use crate::ended::Ended;
@@ -14,7 +15,7 @@ use crate::outlet::Outlet;
 use crate::session_fault::SessionFault;
 use crate::session_room::SessionRoom;
 use crate::stop::Stop;
-use rb_protocol::{LimitedReader, WriteFault};
+use rb_protocol::{LimitedReader, LimitedWriter, WriteFault};
 use rb_retry::{Desk, Policy};
 use std::alloc::Global;
 use std::io::{Read, Write};
@@ -41,8 +42,10 @@ pub fn run_session<R: Read, W: Write, D: Desk>(
         (D.state desk.old) (record { came = came; sent = sent; ended = result }) (D.state desk.new)) }
     ensures name { D.name (D.state desk.new) ≡ D.name (D.state desk.old) }
 {
-    let mut limited = LimitedReader::new(reader);
-    run_limited(alloc, &mut limited, writer, desk, policy, Delivery::AtOnce)
+    let mut reader = LimitedReader::new(reader);
+    let writer = LimitedWriter::new(writer);
+    let (_, ended) = run_limited(alloc, &mut reader, writer, desk, policy, Delivery::AtOnce);
+    ended
 }
 
 /// Runs a session like `run_session`, over a reader that counts its reads, whose replies are written
@@ -50,56 +53,61 @@ pub fn run_session<R: Read, W: Write, D: Desk>(
 ///
 /// The session makes at most as many reads as this one has left, and `ReadTurns` means that it made
 /// all of them. `EndOfInput` means that the last read met the end of the input, and `Read` that it failed;
-/// a session that ends otherwise has had no read that failed.
+/// a session that ends otherwise has had no read that failed. `Write` means that a write or a flush
+/// failed or a write took no byte, and in a session that ends otherwise none did.
 ///
 /// If replies are gathered, the writer gets them before each read, at the end and, if `HandsOn` says
 /// so, before a request waits. So a batch of requests costs one write for each read or wait, and no
 /// client waits for a reply that is held back. The room of 64 KiB is taken before the
 /// first read. A write that fails comes later than the replies that it loses. The session then ends
 /// as after any fault of a write.
-pub fn run_limited<R: Read, W: Write, D: Desk>(
+pub fn run_limited<'a, R: Read, W: Write, D: Desk>(
     alloc: Global,
     reader: &mut LimitedReader<'_, R>,
-    writer: &mut W,
+    writer: LimitedWriter<'a, W>,
     desk: &mut D,
     policy: &Policy,
     delivery: Delivery,
-) -> Result<Ended, SessionFault>
+) -> (LimitedWriter<'a, W>, Result<Ended, SessionFault>)
     ensures ran { Exchanges
         (R.remaining reader.old.inner.now) (R.remaining reader.new.inner.now)
-        (W.contents writer.old) (W.contents writer.new)
+        (W.contents writer.entry.inner.now) (W.contents result.0.inner.now)
         (λ came sent. Ran
-        (session_rules (desk_rules D.Desk policy.now) delivery (HadGotBehind W.contents (W.contents writer.old)))
+        (session_rules (desk_rules D.Desk policy.now) delivery (HadGotBehind W.contents (W.contents writer.entry.inner.now)))
         (IsAtEnd (R.remaining reader.new.inner.now))
-        (D.state desk.old) (record { came = came; sent = sent; ended = result }) (D.state desk.new)) }
-    ensures reason { IsReason reader.old.state reader.new result }
+        (D.state desk.old) (record { came = came; sent = sent; ended = result.1 }) (D.state desk.new)) }
+    ensures reason { IsReason reader.old.state reader.new result.1 }
+    ensures write_reason { IsWriteReason writer.entry result.0 result.1 }
+    ensures on { WritesOn writer.entry result.0 }
     ensures counted { reader.new.left ≤ reader.old.left }
     ensures same_reference { reader.new.inner.ghost_name ≡ reader.old.inner.ghost_name }
     ensures name { D.name (D.state desk.new) ≡ D.name (D.state desk.old) }
 {
     let Ok(room) = SessionRoom::new(alloc, delivery) else {
-        return Err(SessionFault::Memory);
+        return (writer, Err(SessionFault::Memory));
     };
     run_in(room, reader, writer, desk, policy)
 }
 
 /// Runs a session like `run_limited`, in memory that was taken before. So it is never answered by `Memory`.
-pub fn run_in<R: Read, W: Write, D: Desk>(
+pub fn run_in<'a, R: Read, W: Write, D: Desk>(
     room: SessionRoom,
     reader: &mut LimitedReader<'_, R>,
-    writer: &mut W,
+    writer: LimitedWriter<'a, W>,
     desk: &mut D,
     policy: &Policy,
-) -> Result<Ended, SessionFault>
+) -> (LimitedWriter<'a, W>, Result<Ended, SessionFault>)
     ensures ran { Exchanges
         (R.remaining reader.old.inner.now) (R.remaining reader.new.inner.now)
-        (W.contents writer.old) (W.contents writer.new)
+        (W.contents writer.entry.inner.now) (W.contents result.0.inner.now)
         (λ came sent. Ran
-        (session_rules (desk_rules D.Desk policy.now) room.delivery (HadGotBehind W.contents (W.contents writer.old)))
+        (session_rules (desk_rules D.Desk policy.now) room.delivery (HadGotBehind W.contents (W.contents writer.entry.inner.now)))
         (IsAtEnd (R.remaining reader.new.inner.now))
-        (D.state desk.old) (record { came = came; sent = sent; ended = result }) (D.state desk.new)) }
-    ensures begun { result ≢ Err SessionFault.Memory }
-    ensures reason { IsReason reader.old.state reader.new result }
+        (D.state desk.old) (record { came = came; sent = sent; ended = result.1 }) (D.state desk.new)) }
+    ensures begun { result.1 ≢ Err SessionFault.Memory }
+    ensures reason { IsReason reader.old.state reader.new result.1 }
+    ensures write_reason { IsWriteReason writer.entry result.0 result.1 }
+    ensures on { WritesOn writer.entry result.0 }
     ensures counted { reader.new.left ≤ reader.old.left }
     ensures same_reference { reader.new.inner.ghost_name ≡ reader.old.inner.ghost_name }
     ensures name { D.name (D.state desk.new) ≡ D.name (D.state desk.old) }
@@ -112,9 +120,7 @@ pub fn run_in<R: Read, W: Write, D: Desk>(
     let mut outlet = Outlet::new(writer, gathered, delivery);
     let stopped = session.serve(reader, &mut outlet, desk, policy);
     let lost = fail_all(desk, policy, session.held);
-    // For the proof: what the writer has got.
-    let _ = &*outlet.into_writer();
-    end_of(stopped, lost)
+    (outlet.into_writer(), end_of(stopped, lost))
 }
 
 // How the session ended, with the number of jobs that were lost at its end.

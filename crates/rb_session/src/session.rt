@@ -4,7 +4,7 @@ ghost use Rattle.rb_retry.specs.DeskRules.{desk_rules};
 ghost use Rattle.rb_protocol.specs.Line.{HasNoLineFeed};
 ghost use Rattle.rb_protocol.specs.Reads.{HasNotFailed};
 ghost use Rattle.rb_session.specs.Buffer.{IsUnserved};
-ghost use Rattle.rb_session.specs.Outlet.{sent_to, rules_at, Becomes};
+ghost use Rattle.rb_session.specs.Outlet.{sent_to, rules_at, Becomes, WriterTells};
 ghost use Rattle.rb_session.specs.Turn.{point};
 ghost use Rattle.rb_session.specs.Exchange.{Exchanges};
 ghost use Rattle.rb_session.specs.Reasons.{IsReason};
@@ -65,6 +65,7 @@ impl Session {
         ensures counted { reader.new.left ≤ reader.old.left }
         ensures same_reference { reader.new.inner.ghost_name ≡ reader.old.inner.ghost_name }
         ensures clear { OnOk result (outlet.new.gathered.items ≡ []) }
+        ensures told { WriterTells W.Write result outlet.old outlet.new }
         ensures becomes { Becomes W.Write outlet.old outlet.new }
     {
         loop {
@@ -107,6 +108,7 @@ fn read_more<R: Read, W: Write>(
     ensures fewer { (result ≡ Ok None) → reader.new.left + 1 ≡ reader.old.left }
     ensures same_reference { reader.new.inner.ghost_name ≡ reader.old.inner.ghost_name }
     ensures clear { (result ≡ Ok (Some Stop.Read)) → outlet.new.gathered.items ≡ [] }
+    ensures told { WriterTells W.Write result outlet.old outlet.new }
     ensures becomes { Becomes W.Write outlet.old outlet.new }
 {
     if !reader.may_read() {

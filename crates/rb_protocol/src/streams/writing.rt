@@ -1,6 +1,8 @@
-ghost use Rattle.std.specs.Prelude.{◌≤◌, take, length};
+ghost use Rattle.std.specs.Prelude.{◌≡◌, ◌≤◌, ◌<◌, take, length};
 ghost use Rattle.std.specs.Io.KnownBytes.{Appends};
+ghost use Rattle.rb_protocol.specs.Writes.{CannotWrite, FailsNoMore, WritesOn};
 
+use crate::streams::limited_writer::LimitedWriter;
 use std::io::{ErrorKind, Write};
 
 /// A write or a flush failed, or a write took no byte.
@@ -12,16 +14,15 @@ pub struct WriteFault;
 ///
 /// Returns how many bytes the writer has got, from the first on: all of them, unless a write failed
 /// or took none.
-pub fn write_out<W: Write>(writer: &mut W, bytes: &[u8]) -> usize
+pub fn write_out<W: Write>(writer: &mut LimitedWriter<'_, W>, bytes: &[u8]) -> usize
     ensures within { result ≤ length bytes.now }
-    ensures taken { Appends (W.contents writer.old) (W.contents writer.new) (take result bytes.now) }
+    ensures taken { Appends (W.contents writer.old.inner.now) (W.contents writer.new.inner.now) (take result bytes.now) }
+    ensures reason { result < length bytes.now → CannotWrite writer.new }
+    ensures well { result ≡ length bytes.now → FailsNoMore writer.old writer.new }
+    ensures on { WritesOn writer.old writer.new }
 {
     let mut taken = 0;
-    // Nothing says that interruptions end, so the writes are counted.
-    for _ in 0..u64::MAX {
-        if taken == bytes.len() {
-            return taken;
-        }
+    while taken < bytes.len() && writer.may_write() {
         match writer.write(&bytes[taken..]) {
             Ok(0) => return taken,
             Ok(count) => taken += count,

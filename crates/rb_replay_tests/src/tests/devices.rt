@@ -1,5 +1,5 @@
 use rb_history::{HistoryRoom, write_history_in};
-use rb_protocol::WriteFault;
+use rb_protocol::{LimitedWriter, WriteFault};
 use rb_queue::{Event, Opening};
 use rb_replay::{HistoryFault, TextFault, TextReason, write_history};
 use std::alloc::Global;
@@ -117,7 +117,8 @@ pub fn write_in<W: Write>(
     device: &mut W,
 ) -> Result<(), WriteFault> {
     assert!(rt; events.len() <= 1_000_000);
-    write_history_in(room, opening, events, device)
+    let (_, written) = write_history_in(room, opening, events, LimitedWriter::new(device));
+    written
 }
 
 // Comparisons are functions without clauses, so tests that call them have nothing to prove.

@@ -2,7 +2,7 @@ ghost use Rattle.std.specs.Prelude.{◌≤◌, length, IfOk};
 
 use rb_ending::BrokerFault;
 use rb_options::{ScriptOptions, TimerKind};
-use rb_protocol::LimitedReader;
+use rb_protocol::{LimitedReader, LimitedWriter};
 use rb_queue::Opening;
 use rb_retry::Policy;
 use rb_runs::{run_script, run_script_delivered};
@@ -359,16 +359,18 @@ pub fn recorded(
     let history = history.as_mut();
     let ended = match delivery {
         Delivery::AtOnce => run_script(alloc, &options, opening, &mut source, &mut sink, history),
-        gathered => run_script_delivered(
-            alloc,
-            &options,
-            gathered,
-            opening,
-            &mut LimitedReader::new(&mut source),
-            &mut sink,
-            history,
-        )
-        .result(),
+        gathered => {
+            let (_, report) = run_script_delivered(
+                alloc,
+                &options,
+                gathered,
+                opening,
+                &mut LimitedReader::new(&mut source),
+                LimitedWriter::new(&mut sink),
+                history,
+            );
+            report.result()
+        }
     };
     Outcome {
         ended,

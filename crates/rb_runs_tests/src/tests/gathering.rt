@@ -5,7 +5,7 @@ use crate::tests::devices::{
 use rb_binary::BinaryTimer;
 use rb_ending::BrokerFault;
 use rb_kept::Kept;
-use rb_protocol::LimitedReader;
+use rb_protocol::{LimitedReader, LimitedWriter};
 use rb_retry::{KeptDesk, Policy};
 use rb_session::{Delivery, Ended, HandsOn, SessionFault, run_limited};
 use std::alloc::{AllocError, Global};
@@ -142,7 +142,8 @@ fn cut_off(rt: &impl Abort, alloc: Global, script: &[u8], hands_on: HandsOn) -> 
     let mut sink = Sink::bounded(alloc, 5, true);
     let delivery = Delivery::Gathered(hands_on);
     let mut reader = LimitedReader::new(&mut source);
-    let ended = run_limited(alloc, &mut reader, &mut sink, &mut desk, &policy, delivery);
+    let outlet = LimitedWriter::new(&mut sink);
+    let (_, ended) = run_limited(alloc, &mut reader, outlet, &mut desk, &policy, delivery);
     Ok(Cut {
         ended,
         bytes: sink.bytes,

@@ -3,7 +3,7 @@
 use crate::tests::devices::{End, Fault, Sink, Source, expect, expect_bytes, options};
 use rb_history::HistoryFault;
 use rb_options::TimerKind;
-use rb_protocol::LimitedReader;
+use rb_protocol::{LimitedReader, LimitedWriter};
 use rb_queue::Opening;
 use rb_runs::{Recording, ScriptReport, run_script_delivered};
 use rb_session::{Delivery, Ended, HandsOn, SessionFault};
@@ -27,15 +27,16 @@ fn reported(
     device: &mut Option<Sink<'static>>,
 ) -> ScriptReport {
     let (mut source, mut sink) = (Source::ending(REQUESTS, end), Sink::new(alloc));
-    run_script_delivered(
+    let (_, report) = run_script_delivered(
         alloc,
         &options(rt, TimerKind::Heap, 10),
         Delivery::Gathered(HandsOn::BeforeReads),
         Opening::empty(alloc),
         &mut LimitedReader::new(&mut source),
-        &mut sink,
+        LimitedWriter::new(&mut sink),
         device.as_mut(),
-    )
+    );
+    report
 }
 
 fn expect_report(

@@ -4,7 +4,7 @@ use crate::tests::devices::{
 use rb_binary::BinaryTimer;
 use rb_kept::Kept;
 use rb_ledger::Tally;
-use rb_protocol::{LimitedReader, ReaderState};
+use rb_protocol::{LimitedReader, LimitedWriter, ReaderState, WriterState};
 use rb_retry::{KeptDesk, Policy};
 use rb_session::{Delivery, Ended, SessionFault, run_limited};
 use std::alloc::Global;
@@ -26,12 +26,14 @@ fn expect_reads(rt: &impl Abort, alloc: Global, desk: &mut KeptDesk<'_, BinaryTi
     let (mut script, mut writer) = (b"AT 7\n".as_slice(), Vec::new(alloc));
     let mut reader = LimitedReader::new(&mut script);
     let delivery = Delivery::AtOnce;
-    let ended = run_limited(alloc, &mut reader, &mut writer, desk, &policy, delivery);
-    let (leaves_some, state) = (reader.may_read(), reader.state());
+    let outlet = LimitedWriter::new(&mut writer);
+    let (outlet, ended) = run_limited(alloc, &mut reader, outlet, desk, &policy, delivery);
+    let (leaves_some, state, written) = (reader.may_read(), reader.state(), outlet.state());
     expect_end(rt, ended, Ok(Ended::EndOfInput { lost: 0 }), 0);
     expect_bytes(rt, &writer, b"NOW 7\n", 0);
     expect(rt, leaves_some);
     expect(rt, state == ReaderState::AtEnd);
+    expect(rt, written == WriterState::Open);
 }
 
 // A reader that gives a byte at each read, never a line feed, and has no end.

@@ -1,5 +1,5 @@
 -- The device got the text of the kept queue's opening and history, and these are what the kept queue keeps true.
-use Rattle.std.proofs.Common.{◌≡◌, List, ℕ, Option, Result, OnOk, subst, ap, Ok, Err, arith}
+use Rattle.std.proofs.Common.{◌≡◌, List, ℕ, Option, Result, OnOk, subst, sym, ap, ◌∙◌, Ok, Err, arith, rules}
 use Rattle.rb_queue.specs.declared.event.Event.{Event}
 use Rattle.rb_queue.specs.declared.opening.Opening.{Opening}
 use Rattle.rb_queue.specs.History.{IsLegal}
@@ -9,6 +9,7 @@ use Rattle.rb_history.specs.HistoryText.{history_text}
 use Rattle.rb_history.specs.Ranges.{IsRightOpening, AreRightEvents}
 use Rattle.rb_history.specs.Written.{Writes}
 use Rattle.rb_history.specs.declared.history_fault.HistoryFault.{HistoryFault}
+use Rattle.rb_history.specs.declared.history_fault.HistoryFault.TheVariants.{Write}
 use Rattle.rb_history.proofs.Writings.{writes_part}
 use Rattle.rb_ending.specs.Recording.{RecordsLog}
 use Rattle.std.specs.Prelude.{◌≤◌, length, is_err}
@@ -29,16 +30,14 @@ recorded log opening events wrote got got' begun are legal few writes right righ
   readable = on_ok wrote (record { opening = subst IsRightOpening begun right; events = subst AreRightEvents are rights; legal = legal; few = few });
 }
 
-pub returns-in_default-clause-records : goal.returns-in_default-clause-records
-returns-in_default-clause-records g c =
-    recorded c.args.kept.now c.opening.result.now c.history.result.now _ _ _
+pub returns-in-Err-clause-records : goal.returns-in-Err-clause-records
+returns-in-Err-clause-records g c =
+    let written = c.write_history_in-written in
+    let records = subst (λ (got : Option (List ℕ)). RecordsLog c.args.kept.now (Err Write) got
+    (g.H.Write.contents written.result.0.inner.now)) (ap g.H.Write.contents c.new-device.ensures.same)
+    (recorded c.args.kept.now c.opening.result.now c.history.result.now _ _ _
     c.opening.ensures c.history.ensures.events c.history.ensures.legal (omega (arith, c.capacity.ensures.few, c.capacity.ensures.most))
-    (writes_part c.write_history_in.result _ _ _ (ap is_err c.in_default.is) c.write_history_in.ensures.writes)
-    c.write_history_in.ensures.opening c.write_history_in.ensures.events
-
-pub returns-clause-records : goal.returns-clause-records
-returns-clause-records g c =
-    recorded c.args.kept.now c.opening.result.now c.history.result.now (Ok tt)
-    (g.H.Write.contents c.args.device.now) (g.H.Write.contents c.write_history_in.new.writer)
-    c.opening.ensures c.history.ensures.events c.history.ensures.legal (omega (arith, c.capacity.ensures.few, c.capacity.ensures.most))
-    c.in-Ok.ensures.writes c.write_history_in.ensures.opening c.write_history_in.ensures.events
+    (writes_part written.result.1 _ _ _ (ap is_err c.in-Err.is) written.ensures.writes)
+    written.ensures.opening written.ensures.events) in
+    let name = sym (written.ensures.on.same_reference ∙ c.new-device.ensures.same_reference) in
+    search rules

@@ -5,7 +5,7 @@ use Rattle.rb_runs.proofs.script.run_script.Goals as goal
 
 pub returns-in-Some : goal.returns-in-Some
 returns-in-Some g c =
-    let script = c.run_script_delivered.ensures in
+    let script = c.script_to.ensures in
     let limited = c.new-limited.ensures in
     let name = sym (script.same_reference ∙ limited.same_reference) in
     let ends = ends_script _ _ _ _ _ _ _ _ _ (ap g.R.Read.remaining limited.same) c.result.ensures script.ran in

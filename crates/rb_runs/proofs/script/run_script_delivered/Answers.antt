@@ -4,8 +4,8 @@ use Rattle.rb_runs.proofs.script.run_script_delivered.Goals.{in-List, in-Heap, i
 
 pub returns-after-options-clause-ran : goal.returns-after-options-clause-ran
 returns-after-options-clause-ran g c = rw c.in-Some.is (elim c.match-options.branch [
-  | in-List w ↦ rw (w.reader-is, w.writer-is, w.to-is, w.result-is) w.script_over.ensures.ran
-  | in-Heap w ↦ rw (w.reader-is, w.writer-is, w.to-is, w.result-is) w.script_over-in-Heap.ensures.ran
-  | in-Pairing w ↦ rw (w.reader-is, w.writer-is, w.to-is, w.result-is) w.script_over-in-Pairing.ensures.ran
-  | in-Wheel w ↦ rw (w.reader-is, w.writer-is, w.to-is, w.result-is) w.script_over-in-Wheel.ensures.ran
+  | in-List w ↦ rw (w.reader-is, w.to-is, w.result-is) w.script_over.ensures.ran
+  | in-Heap w ↦ rw (w.reader-is, w.to-is, w.result-is) w.script_over-in-Heap.ensures.ran
+  | in-Pairing w ↦ rw (w.reader-is, w.to-is, w.result-is) w.script_over-in-Pairing.ensures.ran
+  | in-Wheel w ↦ rw (w.reader-is, w.to-is, w.result-is) w.script_over-in-Wheel.ensures.ran
 ])

@@ -13,7 +13,7 @@ use Rattle.rb_session.specs.JobMap.{present}
 use Rattle.rb_session.specs.Outlet.{sent_to}
 use Rattle.rb_session.specs.Progress.{replies_of}
 use Rattle.rb_session.specs.Session.{texts_of}
-use Rattle.rb_session.proofs.Gatherings.{goes_on}
+use Rattle.rb_session.proofs.Gatherings.{goes_on, tells_then}
 use Rattle.rb_session.proofs.JobMaps.{present_some, present-append}
 use Rattle.rb_session.proofs.ReplyTexts.{texts_of-append}
 use Rattle.rb_session.proofs.replies.send_replies.Goals as goal
@@ -132,6 +132,7 @@ loop-job-preserved g c =
                 ∙ ap (λ (t : List ℕ). first ++ t) (sym (text_longer items at c.job-item.result c.loop-job-test.true
                 c.job-item.is w.in-Some.job w.in-Some.is)))
                 (Appends-trans _ _ _ _ _ c.loop-job.invariant.sent more));
+            well = rw w.outlet-is (λ failed. c.loop-job.invariant.well (w.in_ok-send-2.ensures.told failed));
             becomes = rw w.outlet-is
                 (goes_on g.W.Write _ _ _ c.loop-job.invariant.becomes w.send-in-Some.ensures.becomes);
           }
@@ -139,6 +140,7 @@ loop-job-preserved g c =
         sent = rw w.outlet-is
             (subst (Appends _ _) (ap (λ (t : List ℕ). first ++ t) (sym (text_same items at c.job-item.result
             c.loop-job-test.true c.job-item.is w.in_default-job.is))) c.loop-job.invariant.sent);
+        well = rw w.outlet-is c.loop-job.invariant.well;
         becomes = rw w.outlet-is c.loop-job.invariant.becomes;
       }
     ]
@@ -168,4 +170,14 @@ returns-clause-becomes g c = elim c.match-reply.branch [
       goes_on g.W.Write _ _ _ (rw w.outlet-is w.loop-job.invariant.becomes) c.after_replies.ensures.becomes
   | in_default w ↦
       goes_on g.W.Write _ _ _ (rw w.outlet-is c.send.ensures.becomes) c.after_replies.ensures.becomes
+]
+
+pub returns-clause-told : goal.returns-clause-told
+returns-clause-told g c = elim c.match-reply.branch [
+  | in-Drained+else-loop-job-test w ↦
+      tells_then c.after_replies.result c.args.outlet.now.writer c.match-reply.outlet.writer
+      c.after_replies.new.self.writer (rw w.outlet-is w.loop-job.invariant.well) c.after_replies.ensures.told
+  | in_default w ↦
+      tells_then c.after_replies.result c.args.outlet.now.writer c.match-reply.outlet.writer
+      c.after_replies.new.self.writer (rw w.outlet-is c.in_ok-send.ensures.told) c.after_replies.ensures.told
 ]

@@ -2,6 +2,7 @@
 use Rattle.std.proofs.Common.{◌++◌, map, take}
 use Rattle.std.specs.Io.KnownBytes.{Appends}
 use Rattle.rb_protocol.specs.ReplyText.{text_of}
+use Rattle.rb_protocol.specs.Writes.{FailsNoMore}
 use Rattle.rb_protocol.specs.declared.line_reply.LineReply.TheVariants as lines
 use Rattle.rb_session.specs.JobMap.{present}
 use Rattle.rb_session.specs.Session.{texts_of}
@@ -12,5 +13,6 @@ abbrev pub invariant-loop-job : goal.invariant-loop-job
 invariant-loop-job g l = record {
   sent : Appends (sent_to g.W.Write l.fn.outlet) (sent_to g.W.Write l.outlet)
       (text_of l.reply ++ texts_of (map lines.Item (present (take l.job-index l.job-items))));
+  well : FailsNoMore l.fn.outlet.writer l.outlet.writer;
   becomes : Becomes g.W.Write l.fn.outlet l.outlet;
 }

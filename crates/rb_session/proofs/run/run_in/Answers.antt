@@ -2,6 +2,8 @@
 -- session's replies, one behind the other.
 use Rattle.std.proofs.Common.{rules, ◌≡◌, ◌≤◌, ℕ, List, [], Option, Result, Ok, Err, sym, ap, subst, ◌∙◌, arith, length}
 use Rattle.std.specs.Prelude.{OnOk}
+use Rattle.rb_protocol.specs.Writes.{TellsOf, WritesOn}
+use Rattle.rb_protocol.specs.declared.streams.limited_writer.LimitedWriter.{LimitedWriter}
 use Rattle.rb_protocol.specs.declared.streams.writing.WriteFault.{WriteFault}
 use Rattle.std.specs.Io.KnownBytes.{Appends, Consumes, IsAtEnd, append_known}
 use Rattle.rb_delayed.specs.declared.element.Element.{Element}
@@ -10,7 +12,7 @@ use Rattle.rb_session.specs.Closing.{Closes}
 use Rattle.rb_session.specs.Exchange.{Exchanges}
 use Rattle.rb_session.specs.Growth.{KeepsFront}
 use Rattle.rb_session.specs.Ran.{RanUntil}
-use Rattle.rb_session.specs.Reasons.{IsReason}
+use Rattle.rb_session.specs.Reasons.{IsReason, IsWriteReason}
 use Rattle.rb_session.specs.Rules.{SessionRules, session_rules, HadGotBehind, most_held_back}
 use Rattle.rb_session.specs.Turn.{Point, point}
 use Rattle.rb_session.specs.Progress.{Stops, end_of}
@@ -88,13 +90,22 @@ stops_by desk contents Over from to came sent stop one other same got got' same_
     (subst (λ (d : Delivery). Stops (session_rules desk d (HadGotBehind contents got)) Over (point from held) came sent
     stop to) same stops))
 
+-- why the lines stopped tells why a session could not write
+write_reason : {W : Type 0} (old new : LimitedWriter W) (stopped : Result Stop WriteFault) (lost : ℕ)
+    → TellsOf stopped old new → IsWriteReason old new (end_of stopped lost)
+write_reason old new (Ok stops.Quit) lost told = told
+write_reason old new (Ok stops.EndOfInput) lost told = told
+write_reason old new (Ok stops.Read) lost told = told
+write_reason old new (Ok stops.ReadTurns) lost told = told
+write_reason old new (Err fault) lost told = told
+
 -- the session from the caller's reader to the caller's writer
 whole : (g : Over) (c : After-end_of g)
     → Exchanges (g.R.Read.remaining c.args.reader.now.inner.now)
-    (g.R.Read.remaining c.serve-stopped.new.reader.inner.now) (g.W.Write.contents c.args.writer.now)
-    (g.W.Write.contents c.serve-stopped.new.outlet.writer.now) (λ came sent. RanUntil
+    (g.R.Read.remaining c.serve-stopped.new.reader.inner.now) (g.W.Write.contents c.args.writer.inner.now)
+    (g.W.Write.contents c.serve-stopped.new.outlet.writer.inner.now) (λ came sent. RanUntil
     (session_rules (desk_rules g.D.Desk c.args.policy.now) c.args.room.delivery
-    (HadGotBehind g.W.Write.contents (g.W.Write.contents c.args.writer.now)))
+    (HadGotBehind g.W.Write.contents (g.W.Write.contents c.args.writer.inner.now)))
     (IsAtEnd (g.R.Read.remaining c.serve-stopped.new.reader.inner.now)) (g.D.Desk.state c.args.desk.now)
     (record { came = came; sent = sent; ended = c.end_of.result }) c.end_of.result
     (g.D.Desk.state c.fail_all-lost.new.desk))
@@ -103,13 +114,13 @@ whole g c =
     let stop = c.serve-stopped in
     let last = stop.new.outlet in
     let did = stop.ensures.stops in
-    let old = g.W.Write.contents c.args.writer.now in
-    let new = g.W.Write.contents last.writer.now in
+    let old = g.W.Write.contents c.args.writer.inner.now in
+    let new = g.W.Write.contents last.writer.inner.now in
     let over = IsAtEnd (g.R.Read.remaining stop.new.reader.inner.now) in
     let from = g.D.Desk.state c.args.desk.now in
     let desk = desk_rules g.D.Desk c.args.policy.now in
     let own_rules = session_rules desk c.args.room.delivery (HadGotBehind g.W.Write.contents old) in
-    let fresh = ap g.W.Write.contents made.same in
+    let fresh = ap (λ (writer : LimitedWriter g.row.W.Denot). g.W.Write.contents writer.inner.now) made.same in
     let got = known_at_first _ old c.new-outlet.result.gathered.items made.empty fresh in
     let grows = subst (λ (first : Option (List ℕ)). KeepsFront first new) fresh stop.ensures.becomes.grows in
     let sent = subst (λ (first : Option (List ℕ)).
@@ -132,9 +143,8 @@ whole g c =
 
 pub returns-clause-ran : goal.returns-clause-ran
 returns-clause-ran g c =
-    let ran = whole g (goal.at.returns-clause-ran g c).After-end_of in
-    let back = sym (ap g.W.Write.contents c.into_writer.ensures.same) in
-    let name = sym (c.into_writer.ensures.same_reference ∙ c.serve-stopped.ensures.becomes.same_reference ∙ c.new-outlet.ensures.same_reference) in
+    let on = (goal.at.returns-clause-ran g c).After-end_of in
+    let ran = whole g on in
     search rules
 
 -- no call changed what names the desk
@@ -142,7 +152,7 @@ pub returns-clause-name : goal.returns-clause-name
 returns-clause-name g c =
     let ran = whole g (goal.at.returns-clause-name g c).After-end_of in
     stays (session_rules (desk_rules g.D.Desk c.args.policy.now) c.args.room.delivery
-    (HadGotBehind g.W.Write.contents (g.W.Write.contents c.args.writer.now)))
+    (HadGotBehind g.W.Write.contents (g.W.Write.contents c.args.writer.inner.now)))
     g.D.Desk.name g.met.D.Desk.keeps_name g.met.D.Desk.sets_no_name g.met.D.Desk.misses_no_name
     (IsAtEnd (g.R.Read.remaining c.serve-stopped.new.reader.inner.now)) (g.D.Desk.state c.args.desk.now)
     (g.D.Desk.state c.fail_all-lost.new.desk)

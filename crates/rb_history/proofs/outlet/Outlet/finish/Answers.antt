@@ -9,5 +9,5 @@ returns-in_err-self-clause-sent g c = λ got text held.
 
 pub returns-clause-sent : goal.returns-clause-sent
 returns-clause-sent g c = λ got text held.
-    all_sent c.flush.result c.hand_on.new.self.sent got _ _ _ text (search rules) c.hand_on.ensures.clear c.flush.ensures
+    all_sent c.flush.result c.hand_on.new.self.sent got _ _ _ text (search rules) c.hand_on.ensures.clear c.flush.ensures.kept
     (c.hand_on.ensures.grows.holds got text held)

@@ -1,4 +1,5 @@
 -- A line that fits is gathered without new memory; a longer one goes out behind what was gathered.
+use Rattle.rb_protocol.proofs.WrittenBytes.{writes_then}
 use Rattle.rb_session.specs.Growth.{grows_on}
 use Rattle.rb_protocol.proofs.Sending.{sends_nothing}
 use Rattle.rb_session.proofs.Gatherings.{sends_grow}
@@ -10,8 +11,8 @@ returns-in_err-hand_on-clause-sent g c =
 
 pub returns-then-line-room-2-clause-becomes : goal.returns-then-line-room-2-clause-becomes
 returns-then-line-room-2-clause-becomes g c = record {
-  same_reference = c.hand_on.ensures.becomes.same_reference;
+  on = writes_then c.hand_on.ensures.becomes.on c.send_line.ensures.on;
   grows = grows_on _ _ _ c.hand_on.ensures.becomes.grows
-      (sends_grow c.send_line.result _ _ _ c.send_line.ensures);
+      (sends_grow c.send_line.result _ _ _ c.send_line.ensures.sent);
   delivery = c.hand_on.ensures.becomes.delivery;
 }

@@ -64,6 +64,7 @@ loop-reading-init g c = record {
   counted = omega arith;
   still = λ failed. failed;
   same_reference = refl;
+  well = λ failed. failed;
   becomes = stays g.W.Write c.args.outlet.now;
 }
 
@@ -94,6 +95,7 @@ loop-reading-preserved-in_default-2 g c =
       counted = omega (arith, c.loop-reading.invariant.counted, c.read_more.ensures.counted);
       still = λ failed. c.loop-reading.invariant.still ((rw c.in_default-2.is at c.in_ok-stop.ensures.reason) failed);
       same_reference = c.read_more.ensures.same_reference ∙ c.loop-reading.invariant.same_reference;
+      well = λ failed. c.loop-reading.invariant.well (c.in_ok-stop.ensures.told failed);
       becomes = becomes_on g.W.Write _ _ _ c.loop-reading.invariant.becomes c.read_more.ensures.becomes;
     }
 
@@ -116,6 +118,10 @@ pub returns-in_default-clause-stops : goal.returns-in_default-clause-stops
 returns-in_default-clause-stops g c =
     let s = stopped g (goal.at.returns-in_default-clause-stops g c).In-Some-2 in
     exchanges_same s _ c.hand_on.ensures.kept (Keeps-refl _) s.holds
+
+pub returns-in_default-clause-told : goal.returns-in_default-clause-told
+returns-in_default-clause-told g c =
+    λ failed. c.loop-reading.invariant.well (c.in_ok-stop.ensures.told (c.in_ok-hand_on.ensures.told failed))
 
 pub returns-in_default-clause-becomes : goal.returns-in_default-clause-becomes
 returns-in_default-clause-becomes g c =
@@ -208,6 +214,7 @@ loop-reading-preserved g c =
       counted = c.loop-reading.invariant.counted;
       still = c.loop-reading.invariant.still;
       same_reference = c.loop-reading.invariant.same_reference;
+      well = λ failed. c.loop-reading.invariant.well (c.in_ok-reply.ensures.told (c.in_ok-send_replies.ensures.told failed));
       becomes = becomes_on g.W.Write _ _ _
           (becomes_on g.W.Write _ _ _ c.loop-reading.invariant.becomes c.answer.ensures.becomes)
           c.send_replies.ensures.becomes;
@@ -237,6 +244,11 @@ pub returns-then-quits-clause-stops : goal.returns-then-quits-clause-stops
 returns-then-quits-clause-stops g c =
     let s = ended g (goal.at.returns-then-quits-clause-stops g c).Then-quits in
     exchanges_same s _ c.hand_on-then-quits.ensures.kept (Keeps-refl _) s.holds
+
+pub returns-then-quits-clause-told : goal.returns-then-quits-clause-told
+returns-then-quits-clause-told g c =
+    λ failed. c.loop-reading.invariant.well (c.in_ok-reply.ensures.told (c.in_ok-send_replies.ensures.told
+    (c.in_ok-hand_on-2.ensures.told failed)))
 
 pub returns-then-quits-clause-becomes : goal.returns-then-quits-clause-becomes
 returns-then-quits-clause-becomes g c =

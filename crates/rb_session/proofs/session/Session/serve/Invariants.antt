@@ -1,5 +1,6 @@
 -- Of what came the first lines are served, and the buffer has the rest. Each turn takes a line out of it or reads once.
 use Rattle.std.proofs.Common.{◌≡◌, ◌≤◌, ◌+◌, ◌-◌, ◌*◌}
+use Rattle.rb_protocol.specs.Writes.{FailsNoMore}
 use Rattle.rb_protocol.specs.Reads.{HasNotFailed}
 use Rattle.rb_protocol.specs.declared.limits.TheConstants.{BUFFER_BYTES}
 use Rattle.rb_retry.specs.DeskRules.{desk_rules}
@@ -20,6 +21,7 @@ invariant-loop-reading g l = record {
   counted : l.reader.left ≤ l.fn.reader.left;
   still : HasNotFailed l.fn.reader.state l.reader.state;
   same_reference : l.reader.inner.ghost_name ≡ l.fn.reader.inner.ghost_name;
+  well : FailsNoMore l.fn.outlet.writer l.outlet.writer;
   becomes : Becomes g.W.Write l.fn.outlet l.outlet;
 }
 
