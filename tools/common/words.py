@@ -2,10 +2,14 @@
 import argparse
 import os
 import re
+import subprocess
 import sys
-from typing import Callable
+from typing import Any, Callable, Final
+
+from common.program import TOP
 
 Number = int | float
+PACKAGE: Final = "rb-broker"
 
 
 def parser_of(name: str, doc: str | None, usage: str | None = None) -> argparse.ArgumentParser:
@@ -14,7 +18,29 @@ def parser_of(name: str, doc: str | None, usage: str | None = None) -> argparse.
     name, doc = (_as_called(it) for it in (name, doc or ""))
     about, _, rest = doc.partition("\n\n")
     form = argparse.RawDescriptionHelpFormatter
-    return argparse.ArgumentParser(name, usage, about, rest, formatter_class=form, allow_abbrev=False)
+    parser = argparse.ArgumentParser(name, usage, about, rest, formatter_class=form, allow_abbrev=False)
+    parser.add_argument("--version", action=_Version, nargs=0, help="prints the version, and does nothing else")
+    return parser
+
+
+class _Version(argparse.Action):
+    """Prints the version. Only then is git asked for it."""
+
+    def __call__(self, parser: argparse.ArgumentParser, *_: Any) -> None:
+        print(f"{parser.prog} {version()}")
+        parser.exit()
+
+
+def version() -> str:
+    """The checkout's version as git describes it, or that of the installed package."""
+    is_checkout = os.path.exists(f"{TOP}/.git")
+    of_git = ["git", "-C", TOP, "describe", "--always", "--dirty"]
+    of_package = ["dpkg-query", "--show", "--showformat", "${Version}", PACKAGE]
+    try:
+        ran = subprocess.run(of_git if is_checkout else of_package, capture_output=True, text=True, check=False)
+    except FileNotFoundError as fault:
+        return f"unknown: there is no {fault.filename}"
+    return ran.stdout.strip() or f"unknown: {ran.stderr.strip()}"
 
 
 def _as_called(text: str) -> str:

@@ -10,7 +10,7 @@ from unittest import mock
 
 from common.program import TOP
 from common.tests.support import Terminal
-from common.words import exit_status, number, parser_of
+from common.words import exit_status, number, parser_of, version
 
 DOC = """Does something: tools/it [--n N]
 
@@ -58,6 +58,18 @@ class WordsTest(unittest.TestCase):
             self.assertIn(f"{word} is not from 1 to 65535", self.ended("--number", word)[1])
         self.assertIn("invalid int value: 'x'", self.ended("--number", "x")[1])
         self.assertRaises(argparse.ArgumentTypeError, number(float, 0, 1), "nan")
+
+    def test_the_version_is_that_of_git_or_of_the_package(self) -> None:
+        git = ["git", "-C", TOP, "describe", "--always", "--dirty"]
+        told = subprocess.run(git, capture_output=True, text=True, check=True).stdout
+        self.assertEqual(self.ended("--version"), (0, f"tools/it {told}"))
+        for answer, says in ((mock.Mock(stdout="1.2+3.457a6bf3"), "1.2+3.457a6bf3"),
+                             (mock.Mock(stdout="", stderr="no packages found\n"), "unknown: no packages found")):
+            with mock.patch("common.words.TOP", "/nowhere"), mock.patch("subprocess.run", return_value=answer) as ran:
+                self.assertEqual(version(), says)
+                self.assertEqual(ran.call_args[0][0][-1], "rb-broker")
+        with mock.patch.dict(os.environ, PATH="/nowhere"):
+            self.assertEqual(version(), "unknown: there is no git")
 
     def test_why_work_can_not_be_done(self) -> None:
         for fault, status, says in FAULTS:
