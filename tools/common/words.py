@@ -7,6 +7,7 @@ import sys
 from typing import Any, Callable, Final
 
 from common.program import TOP
+from rb_broker_redis.dates import read_duration
 
 Number = int | float
 PACKAGE: Final = "rb-broker"
@@ -61,6 +62,17 @@ def number(kind: Callable[[str], Number], least: Number, most: Number) -> Callab
 
     read.__name__ = kind.__name__  # which argparse names if the word is not a number
     return read
+
+
+def span(word: str) -> int:
+    """Reads the nanoseconds of a time such as 30s. A bare number is refused: it could be seconds or nanoseconds."""
+    if word.isascii() and word.isdigit():
+        raise argparse.ArgumentTypeError(f"{word} has no unit: write {word}s, or {word}ms, us or ns")
+    try:
+        return read_duration(word)
+    except ValueError:
+        raise argparse.ArgumentTypeError(
+            f"{word!r} is no time: write 30s (ns, us, ms, s, m, h, d), at most 2^64 - 1 ns") from None
 
 
 def exit_status(name: str, work: Callable[[], int]) -> int:

@@ -10,7 +10,7 @@ from unittest import mock
 
 from common.program import TOP
 from common.tests.support import Terminal
-from common.words import exit_status, number, parser_of, version
+from common.words import exit_status, number, parser_of, span, version
 
 DOC = """Does something: tools/it [--n N]
 
@@ -58,6 +58,14 @@ class WordsTest(unittest.TestCase):
             self.assertIn(f"{word} is not from 1 to 65535", self.ended("--number", word)[1])
         self.assertIn("invalid int value: 'x'", self.ended("--number", "x")[1])
         self.assertRaises(argparse.ArgumentTypeError, number(float, 0, 1), "nan")
+
+    def test_times(self) -> None:
+        self.assertEqual([*map(span, ("0s", "9ns", "1.5s", "2m", f"{2**64 - 1}ns"))],
+                         [0, 9, 1_500_000_000, 120_000_000_000, 2**64 - 1])
+        for word, says in (("30", "30 has no unit: write 30s, or 30ms"), ("-1s", "'-1s' is no time"),
+                           ("1 s", "no time"), ("", "no time"), (f"{2**64}ns", "at most 2")):
+            with self.subTest(word), self.assertRaisesRegex(argparse.ArgumentTypeError, says):
+                span(word)
 
     def test_the_version_is_that_of_git_or_of_the_package(self) -> None:
         git = ["git", "-C", TOP, "describe", "--always", "--dirty"]

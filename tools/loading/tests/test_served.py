@@ -9,12 +9,10 @@ from serving.server import Server
 from serving.testing import ServingTest
 from verifying.record import read_record
 
-HOUR = 3_600_000_000_000
-
 # The options of a server and of a load, the load's status, a part of what it prints, and what its counts are.
 LOADS = (
     ("--workers 4 --sessions 4 --calls 100000",
-     "--clients 4 --rate 200 --delay 1000000 --fail 0.3 --seconds 2", 0, r"\nerrors 0\Z",
+     "--clients 4 --rate 200 --delay 1ms --fail 0.3 --seconds 2", 0, r"\nerrors 0\Z",
      lambda it: 0 < it["offered"] <= it["of"] == 400 and 0.15 < it["failed"] / it["taken"] < 0.45),
     ("--workers 2 --sessions 2", "--clients 2 --rate 50 --seconds 2", 0, r"\Aoffered \d+ of 100 ",
      lambda it: 0 <= it["median"] <= it["percentile"] <= it["greatest"]),
@@ -22,15 +20,15 @@ LOADS = (
     ("--workers 1 --sessions 3", "--clients 3 --rate 60 --seconds 1", 0, r"\Aoffered \d+ of 60 ",
      lambda it: it["offered"] <= 20),
     # Elements that do not expire are left.
-    ("--workers 1 --sessions 1", f"--clients 1 --rate 50 --delay {HOUR} --seconds 1", 0,
+    ("--workers 1 --sessions 1", "--clients 1 --rate 50 --delay 1h --seconds 1", 0,
      "\nlateness in microseconds: none\n", lambda it: it["taken"] == 0 < it["offered"]),
     # Nothing waits at this server.
-    ("--workers 1 --sessions 1 --turns 0", "--clients 1 --rate 20 --delay 1000 --seconds 1", 0, r"\nerrors 0\Z",
+    ("--workers 1 --sessions 1 --turns 0", "--clients 1 --rate 20 --delay 1us --seconds 1", 0, r"\nerrors 0\Z",
      lambda it: it["taken"] > 0),
     # A full run ends the load.
     ("--workers 2 --sessions 2 --calls 20", "--clients 2 --rate 100 --seconds 50", 1,
      r"\nerrors 2: 2 of ERR 6 full\Z", lambda it: it["calls"] == 20),
-    ("--workers 1 --sessions 1", f"--clients 1 --rate 20 --delay {2**64 - 1} --seconds 1", 1,
+    ("--workers 1 --sessions 1", f"--clients 1 --rate 20 --delay {2**64 - 1}ns --seconds 1", 1,
      r"\nerrors (\d+): \1 of ERR 3 range\Z", lambda it: it["offered"] == 0),
 )
 

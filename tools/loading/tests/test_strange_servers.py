@@ -66,8 +66,8 @@ class StrangeServerTest(RoomTest):
 
     def test_words_that_are_refused(self):
         for words in ("", "--port 0", "--port 65536", "--port x", "--port 1 --clients 0", "--port 1 --rate 0",
-                      "--port 1 --rate nan", "--port 1 --delay -1", f"--port 1 --delay {2**64}", "--port 1 --fail 1.5",
-                      "--port 1 --seconds 0", "--port 1 more"):
+                      "--port 1 --rate nan", "--port 1 --delay 5", "--port 1 --delay -1s",
+                      f"--port 1 --delay {2**64}ns", "--port 1 --fail 1.5", "--port 1 --seconds 0", "--port 1 more"):
             with self.subTest(words=words):
                 status, lines, errors = call_tool("load", *words.split())
                 self.assertEqual((status, lines), (2, b""))
