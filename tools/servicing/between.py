@@ -1,25 +1,20 @@
 """What a service does between two runs: it finds what the one before left, and saves what a run has left."""
-import hashlib
-import json
+import contextlib
 import os
-import subprocess
 import time
 from dataclasses import replace
 
-from histories.files import open_history
 from servicing.current import Current
-from servicing.deciding import Found, Start, how_to_start
-from servicing.fitting import Misfit, misfit_of
+from servicing.deciding import Misfit, Start, how_to_start, misfit_of
 from servicing.folder import Unusable
 from servicing.opening import Left
 from servicing.parts import LeftBehind, Parts
-from servicing.runs import Next, left_of
+from servicing.runs import Next
 from servicing.saying import say
-from servicing.server import Damaged, Server, found
+from servicing.server import Checked, Damaged, Server, checked_file
 from servicing.showing import lost_text
 from servicing.state import End, Phase, Reason, Run
 
-KEEPER = "keeper"  # a socket in the folder, by which an earlier version of this reached its server
 LOOK, TELL = 0.05, 10.0  # seconds from one look whether a server has ended to the next, and until it is said again
 
 
@@ -27,21 +22,16 @@ def resumed(parts: Parts) -> Current | Next:
     """A server that goes on, or what the next one begins with. Raises an `Unusable`."""
     last, settings = parts.runs.last, parts.settings
     if last is None:
-        return parts.runs.first(settings.begin_with, lambda path: _check(settings.program, path))
+        return _first(parts)
     if settings.begin_with:
         raise Unusable(f"--from begins an empty folder, and {parts.folder.path} has runs")
-    server, left = found(parts.memory, last.number), None
-    if server is None and last.end is None and os.path.exists(parts.folder.file(KEEPER)):
-        raise Unusable(f"{parts.folder.file(KEEPER)} is of an earlier version, which may hold run {last.number}: let "
-                       "that version end it in good order, or remove the file, and the run is lost")
-    parts.folder.remove(KEEPER)
-    if server is not None:
-        if server.input is None:
-            _await_end(parts, server)
-        left = Found(not server.has_ended, server.listens, server.size > 0)
+    kept = parts.memory.found(last.number)
+    server = Server(parts.memory, last.number, kept) if kept else None
+    if server is not None and server.input is None:
+        _await_end(parts, server)
     while (misfit := parts.runs.misfit()) is not None:
         _accept(parts, misfit)
-    start = how_to_start(last, parts.folder.history(last.number) is not None, left)
+    start = how_to_start(last, parts.folder.history(last.number) is not None, server)
     say("info", "resume", run=last.number, how=start.value)
     if server is not None and start in (Start.GO_ON, Start.COLLECT):
         current = Current(parts, last, server)
@@ -53,6 +43,24 @@ def resumed(parts: Parts) -> Current | Next:
     if server is not None:
         server.close()
     return following
+
+
+def _first(parts: Parts) -> Next:
+    """What the first run begins with: nothing, what a history left, or what the last history left that a series of runs
+    has left in this folder. Raises an `Unusable`."""
+    greatest = parts.runs.greatest
+    path = parts.settings.begin_with or (parts.folder.history(greatest) if greatest else None)
+    if path is None:
+        return Next(Left(0, 0, {}), 0)
+    if os.path.exists(path) and not os.path.isfile(path):  # a pipe would keep this waiting
+        raise Unusable(f"{path} is no regular file")
+    try:
+        left = checked_file(parts.settings.program, path).left
+    except Damaged as fault:
+        raise Unusable(f"{path} can't be continued: {fault}") from None
+    age = max(time.time_ns() - os.stat(path).st_mtime_ns, 0)
+    say("info", "begins-with", history=path, elements=len(left.elements))
+    return Next(left, left.moment + age)
 
 
 def _await_end(parts: Parts, server: Server) -> None:
@@ -75,8 +83,8 @@ def _following(parts: Parts, last: Run, start: Start) -> Next:
         return parts.runs.again(last, last.calls if last.end is not None else 0)
     if start is Start.MISSING:
         _accept(parts, Misfit(last.number, f"run {last.number} ended in good order, and has no history"))
-        return lost(parts, last, "it had no history any more, which was accepted")
-    return lost(parts, last, "its server was gone, and what it had left in memory")
+        return _lost(parts, last, "it had no history any more, which was accepted")
+    return _lost(parts, last, "its server was gone, and what it had left in memory")
 
 
 def _accept(parts: Parts, misfit: Misfit) -> None:
@@ -92,44 +100,23 @@ def _continued(parts: Parts, last: Run) -> Next:
     path = parts.folder.history(last.number)
     assert path
     try:
-        audit, digest = _replay(parts.settings.program, path, "--chains", *last.policy)
-        left = left_of(path)
-        why = misfit_of(last, digest, audit, left)
-    except (Damaged, Unusable) as fault:
+        told = checked_file(parts.settings.program, path, last.chains)
+        why = misfit_of(last, told)
+    except Damaged as fault:
         why = str(fault)
     if why:
         _accept(parts, Misfit(last.number, f"{path} can't be continued: {why}"))
-        return lost(parts, last, f"its history did not fit, which was accepted: {why}")
+        return _lost(parts, last, f"its history did not fit, which was accepted: {why}")
     if last.end is None:
-        write_end(parts, last, end_of(Reason.UNKNOWN, audit, left, digest))
-    return parts.runs.after(last, left)
+        _write_end(parts, last, _end_of(Reason.UNKNOWN, told))
+    return parts.runs.after(last, told.left)
 
 
-def _check(program: str, path: str) -> None:
-    """Has a history checked. Raises an `Unusable` if no run can continue it."""
-    try:
-        _replay(program, path)
-    except Damaged as fault:
-        raise Unusable(f"{path} can't be continued: {fault}") from None
-
-
-def _replay(program: str, path: str, *words: str) -> tuple[dict[str, int], str]:
-    """Has a history checked. Returns its audit and its digest. Raises a `Damaged` if no run can continue it."""
-    try:
-        with open_history(path) as file:
-            text = file.read()
-        ran = subprocess.run([program, "replay", "/dev/stdin", *words], input=text, capture_output=True, check=False)
-    except OSError as fault:
-        raise Damaged(fault.strerror or repr(fault)) from None
-    if ran.returncode:
-        raise Damaged((ran.stdout + ran.stderr).decode(errors="replace").strip())
-    return json.loads(ran.stdout), hashlib.sha256(text).hexdigest()
-
-
-def end_of(why: Reason, audit: dict[str, int], left: Left, digest: str) -> End:
+def _end_of(why: Reason, told: Checked) -> End:
     """The end of a run by its history. The service's own elements are not counted."""
+    audit, left = told.audit, told.left
     return End(time.time(), why, audit["calls"], audit["offered"] - left.probes, left.failed, audit["given"],
-               len(left.elements), digest=digest)
+               len(left.elements), digest=told.digest)
 
 
 def saved(parts: Parts, run: Current) -> Next:
@@ -138,40 +125,40 @@ def saved(parts: Parts, run: Current) -> Next:
     why = Reason.ASKED if parts.signals.count and run.why is not Reason.UNKNOWN else run.why
     parts.showing.enter(Phase.BETWEEN, why)
     try:
-        audit, left, digest = server.collect(parts.settings.program, record.policy)
+        told = server.collect(parts.settings.program, record.chains)
     except Damaged as fault:
         if server.size:
-            parts.runs.save_damaged(server)
+            with contextlib.suppress(OSError):
+                parts.runs.save_history(server, "damaged")  # for whoever wants to know why
         is_lost = server.listens or server.size
-        following = lost(parts, record, str(fault)) if is_lost else parts.runs.again(record, 0)
-        offered, gone, failed = looks.offered, looks.left, 0
+        following = _lost(parts, record, str(fault)) if is_lost else parts.runs.again(record, 0)
+        parts.showing.count(looks.offered, looks.left, 0)
     else:
-        record = run.timed_by(left)
+        record = run.timed_by(told.left)
         parts.until_written(f"run-{record.number}.txt", lambda: parts.runs.save_history(server), server)
-        sessions, lost_jobs = server.counts or (None, None)
-        end = replace(end_of(why, audit, left, digest), sessions=sessions, lost_jobs=lost_jobs, cut=run.cut)
-        offered, failed = end.offered or 0, left.failed
-        gone = record.opening + offered - len(left.elements)
-        write_end(parts, record, end)
-        following = parts.runs.after(record, left)
+        sessions, lost_jobs = server.counts
+        end = replace(_end_of(why, told), sessions=sessions, lost_jobs=lost_jobs, cut=run.cut)
+        _write_end(parts, record, end)
+        following = parts.runs.after(record, told.left)
         say("info", "saved", run=record.number, calls=end.calls, offered=end.offered, given=end.given, left=end.left,
             lost_jobs=end.lost_jobs or None, cut=end.cut or None)
         if end.lost_jobs:
             say("error", "lost-jobs", run=record.number, jobs=end.lost_jobs,
                 text="they failed when the run was full, and could not come back")
-    parts.showing.count(offered, gone, failed)
+        offered = end.offered or 0
+        parts.showing.count(offered, record.opening + offered - len(told.left.elements), told.left.failed)
     server.close()
     return following
 
 
-def lost(parts: Parts, record: Run, why: str) -> Next:
+def _lost(parts: Parts, record: Run, why: str) -> Next:
     """A run is lost: it is said once, and the next one begins where it began."""
-    write_end(parts, record, End(time.time(), Reason.KILLED))
+    _write_end(parts, record, End(time.time(), Reason.KILLED))
     it = parts.runs.records[record.number]
     say("error", "lost-run", run=record.number, lasted=f"{it.lasted:.1f}s", opening=record.opening,
         aside=record.aside or None, why=why, text=lost_text(it))
     return parts.runs.again(record, record.calls)
 
 
-def write_end(parts: Parts, record: Run, end: End) -> None:
-    parts.until_written(f"run-{record.number}.json", lambda: parts.runs.end(record, end))
+def _write_end(parts: Parts, record: Run, end: End) -> None:
+    parts.until_written(f"run-{record.number}.json", lambda: parts.runs.write(replace(record, end=end)))

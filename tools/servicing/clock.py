@@ -17,23 +17,18 @@ class Reading:
     date: int  # since 1970, which an operator or the network may set
 
     def after(self, span: int) -> "Reading":
-        """The clocks so many nanoseconds later."""
         return Reading(self.boot, self.up + span, self.date + span)
 
 
 def read_clock() -> Reading:
-    return Reading(_boot(), up_time(), time.time_ns())
-
-
-def _boot() -> str:
     try:
-        return Path("/proc/sys/kernel/random/boot_id").read_text(encoding="ascii").strip().replace("-", "")
+        boot = Path("/proc/sys/kernel/random/boot_id").read_text(encoding="ascii").strip().replace("-", "")
     except OSError:
-        return os.environ.get(BOOT, "")
+        boot = os.environ.get(BOOT, "")
+    return Reading(boot, up_time(), time.time_ns())
 
 
 def up_time() -> int:
-    """Nanoseconds since the machine started."""
     return time.clock_gettime_ns(time.CLOCK_BOOTTIME)
 
 

@@ -56,7 +56,6 @@ class Connection:
 
     @property
     def is_unread(self) -> bool:
-        """Whether the client does not read its replies."""
         return self.is_served and self.send_queue > 0 and self.told >= MOMENT
 
     @property

@@ -8,14 +8,14 @@ from typing import Callable
 
 from servicing.clock import Reading, elapsed, is_same_boot, read_clock
 from servicing.connections import Connection, Unwatchable
-from servicing.deciding import Seen, is_to_cut, why_to_end
+from servicing.deciding import is_to_cut, why_to_end
 from servicing.looking import Looks
 from servicing.opening import Left
 from servicing.parts import Parts
 from servicing.saying import notify, say
 from servicing.server import Server
 from servicing.session import OwnSession
-from servicing.state import Phase, Reason, Run
+from servicing.state import CUT, END, Phase, Reason, Run
 from rb_broker_redis.watching.metrics import span_of
 from rb_broker_redis.watching.units import SECOND
 
@@ -39,7 +39,6 @@ class Current:
         self._ended: Reading | None = None  # when it was seen to have
         self.closed = 0.0  # since when nobody else is let in, by the monotonic clock
         self.cut = 0  # sessions
-        self._is_cut = False
 
     def go_on(self) -> None:
         """Watches the server until its run has to end, and brings it to its end if it has not ended by itself."""
@@ -51,16 +50,15 @@ class Current:
             if why is Reason.ASKED:
                 notify(STOPPING=1)
             self._begin_next()  # in front of those who have to come again
-            self.looks.own.drop()
             self._parts.showing.enter(Phase.ENDING, why, clients=len(self.looks.served))
             self._end()
         self._begin_next()
-        self.looks.own.drop()
         self._ended = read_clock()
 
     def _begin_next(self) -> None:
         with contextlib.suppress(OSError):
             self.next_own.begin()
+        self.looks.own.drop()
 
     def timed_by(self, left: Left) -> Run:
         """Its record, once its history is known: its clock began when the last event tells, or earlier."""
@@ -74,7 +72,9 @@ class Current:
         """Watches the server until its run has to end, and returns why. None if it has ended by itself."""
         while not self.server.has_ended:
             self._see(self.looks.look)
-            why = Reason.ASKED if self._signals.count else self._wanted() or why_to_end(self._seen())
+            age = elapsed(self.record.began, read_clock())  # whatever the machine's date is set to
+            why = Reason.ASKED if self._signals.count else self._wanted() or why_to_end(
+                self.looks, self.record, self._settings, age, self._first_aside)
             if why is not None:
                 return why
             self._signals.wait(self.looks.due(LOOK, SOONEST), self.server.input)
@@ -92,21 +92,12 @@ class Current:
             self.record = self._parts.runs.see(record, record.began.after(began - record.began.up))
         self._parts.showing.show()
 
-    def _seen(self) -> Seen:
-        looks = self.looks
-        age = elapsed(self.record.began, read_clock()) / SECOND  # whatever the machine's date is set to
-        return Seen(
-            age=age, every=self._settings.every / SECOND, calls=looks.calls, is_full=looks.own.is_full,
-            is_closed=looks.is_closed, waits=looks.waits, turn_within=self._settings.turn_within / SECOND,
-            elements=looks.queue.elements if looks.queue else None, moment=looks.moment, aside=self.record.aside,
-            first_aside=self._first_aside)
-
     def _wanted(self) -> Reason | None:
         """Why the run has to end if somebody asks for that on the page, or if it was begun by a service with another
         policy. Its history is checked by that."""
-        if self._parts.showing.takes_end():
+        if self._parts.showing.is_asked(END):
             return Reason.PAGE
-        run, was, now = self.record.number, self.record.policy, tuple(self._settings.policy)
+        run, was, now = self.record.number, self.record.policy, self._settings.policy
         if was == now:
             return None
         say("warning", "settings", run=run, was=" ".join(was), now=" ".join(now),
@@ -115,23 +106,24 @@ class Current:
 
     def _end(self) -> None:
         """Waits for clients that hold jobs, and ends their sessions if that takes too long, or too many calls."""
-        told, within = self.closed, self._settings.stop_within / SECOND
+        told, within, is_cut = self.closed, self._settings.stop_within / SECOND, False
         while not self.server.has_ended:
-            passed = time.monotonic() - self.closed
+            now = time.monotonic()
+            passed = now - self.closed
             if passed >= LAST_LOOK:
                 self._see(self.looks.watch)
-            is_over = passed >= within or self._signals.count > 1
-            if not self._is_cut and (is_over or is_to_cut(self.looks.calls, self.looks.rate, len(self.looks.served),
-                                                          2 * LAST_LOOK)):
+            is_over = passed >= within or self._signals.count > 1 or self._parts.showing.is_asked(CUT)
+            if not is_cut and (is_over or is_to_cut(self.looks, self.record, 2 * LAST_LOOK)):
+                is_cut = True
                 self._cut()
-            if time.monotonic() - told >= TELL:
-                told = time.monotonic()
+            if now - told >= TELL:
+                told = now
                 self._tell(passed)
             self._signals.wait(LAST_LOOK, self.server.input)
 
     def _cut(self) -> None:
         self._see(self.looks.watch)
-        self.cut, self._is_cut = len(self.looks.served), True
+        self.cut = len(self.looks.served)
         self.server.cut()
         say("warning", "cut", run=self.server.run, sessions=self.cut, clients=_names(self.looks.served) or None)
 

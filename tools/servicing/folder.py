@@ -1,6 +1,6 @@
 """The folder of a service: it is locked, and each file in it is written whole or not at all.
 
-    lock              locked, as the folder is, as long as a service runs, and says which
+    lock              which service has the folder locked
     id                a name that no other folder has
     opening-N.txt     what run N began with; aside-N.txt what did not fit into that
     run-N.json        what is known of run N
@@ -30,9 +30,6 @@ from servicing.clock import Reading
 from servicing.state import End, Reason, Run
 
 _RUN = re.compile(r"run-([1-9][0-9]{0,8})\.(json|txt|txt\.gz)")
-_FILES = ("run-{}.json", "run-{}.txt", "run-{}.txt.gz", "opening-{}.txt", "aside-{}.txt", "damaged-{}.txt",
-          "damaged-{}.txt.gz")
-
 
 Kind = TypeVar("Kind")
 
@@ -48,26 +45,26 @@ class Folder:
         """Makes the folder if it has to, and locks it. Raises an `Unusable` that says who else has it."""
         self.path = path
         own_folder(path)
+        self._opened = os.open(path, os.O_RDONLY | os.O_DIRECTORY | os.O_CLOEXEC)
         try:
-            self._lock = os.open(f"{path}/lock", os.O_RDWR | os.O_CREAT | os.O_CLOEXEC | os.O_NOFOLLOW, 0o600)
-        except OSError as fault:
-            raise Unusable(f"{fault.filename}: {fault.strerror}") from None
-        # The folder itself is locked, too: a lock that is a file can be deleted.
-        self._own_lock = os.open(path, os.O_RDONLY | os.O_DIRECTORY | os.O_CLOEXEC)
-        try:
-            for it in (self._own_lock, self._lock):
-                fcntl.flock(it, fcntl.LOCK_EX | fcntl.LOCK_NB)
+            fcntl.flock(self._opened, fcntl.LOCK_EX | fcntl.LOCK_NB)
         except OSError:
-            who = os.pread(self._lock, 4096, 0).decode(errors="replace").strip()
-            raise Unusable(f"{path} is in use by {who or 'another service'}") from None
+            who = b""
+            with contextlib.suppress(OSError):
+                who = self.read("lock")
+            raise Unusable(f"{path} is in use by {who.decode(errors='replace') or 'another service'}") from None
         self._refuse_others()
-        since = time.strftime("%Y-%m-%d %H:%M:%S", time.localtime())
-        told = f"the service of process {os.getpid()} at port {port}, since {since}"
-        with contextlib.suppress(OSError):  # a full disk
-            os.pwrite(self._lock, told.ljust(120).encode() + b"\n", 0)
         for unfinished in Path(path).glob("*.new"):
             unfinished.unlink()
-        self.id = self._own_id()
+        since = time.strftime("%Y-%m-%d %H:%M:%S", time.localtime())
+        with contextlib.suppress(OSError):  # a full disk
+            self.write("lock", [f"the service of process {os.getpid()} at port {port}, since {since}".encode()])
+        try:
+            if not os.path.exists(self.file("id")):
+                self.write("id", [f"{secrets.token_hex(6)}\n".encode()])
+            self.id = self.read("id").decode().strip()
+        except OSError as fault:
+            raise Unusable(f"{self.path}: {fault.strerror}") from None
 
     def _refuse_others(self) -> None:
         """Raises an `Unusable` if a file is not this user's alone. The service looks at no folder in its own."""
@@ -78,22 +75,16 @@ class Folder:
                 if not stat.S_ISREG(told.st_mode) and not stat.S_ISSOCK(told.st_mode):
                     raise Unusable(f"{it.path} is no regular file: remove it")
 
-    def _own_id(self) -> str:
-        try:
-            if not os.path.exists(self.file("id")):
-                self.write("id", [f"{secrets.token_hex(6)}\n".encode()])
-            return self.read("id").decode().strip()
-        except OSError as fault:
-            raise Unusable(f"{self.path}: {fault.strerror}") from None
-
     def file(self, name: str) -> str:
         return f"{self.path}/{name}"
+
+    def remove(self, name: str) -> None:
+        Path(self.file(name)).unlink(missing_ok=True)
 
     def read(self, name: str) -> bytes:
         return Path(self.file(name)).read_bytes()
 
     def write(self, name: str, pieces: Iterable[bytes]) -> None:
-        """Writes a file whole."""
         with self._written(name) as file:
             file.writelines(pieces)
 
@@ -108,17 +99,10 @@ class Folder:
                 file.flush()
                 os.fsync(file.fileno())
             os.rename(new, self.file(name))
-            it = os.open(self.path, os.O_RDONLY | os.O_DIRECTORY)
-            try:
-                os.fsync(it)
-            finally:
-                os.close(it)
+            os.fsync(self._opened)
         except BaseException:
             self.remove(f"{name}.new")
             raise
-
-    def remove(self, name: str) -> None:
-        Path(self.file(name)).unlink(missing_ok=True)
 
     def numbers(self) -> list[int]:
         """The numbers of the runs of which there is something, in their order."""
@@ -136,12 +120,10 @@ class Folder:
             raise Unusable(f"{self.file(name)} is no record of a run: {why}") from None
 
     def history(self, number: int) -> str | None:
-        """The path of the history of a run, if there is one."""
         paths = (self.file(f"run-{number}.txt"), self.file(f"run-{number}.txt.gz"))
         return next((it for it in paths if os.path.exists(it)), None)
 
     def set_aside(self, number: int) -> None:
-        """Keeps a history as a damaged one, if there is one."""
         path = self.history(number)
         if path is not None:
             os.rename(path, self.file(os.path.basename(path).replace("run", "damaged", 1)))
@@ -155,9 +137,8 @@ class Folder:
             self.remove(name)
 
     def drop(self, number: int) -> None:
-        """Removes all files of a run."""
-        for form in _FILES:
-            self.remove(form.format(number))
+        for it in Path(self.path).glob(f"*-{number}.*"):
+            it.unlink()
 
 
 def own_folder(path: str) -> None:
@@ -183,7 +164,6 @@ def _refuse_other(path: str, told: os.stat_result) -> None:
 
 
 def record_of(run: Run) -> bytes:
-    """What is written down of a run."""
     return json.dumps(asdict(run), indent=1).encode() + b"\n"
 
 
@@ -197,5 +177,5 @@ def run_in(text: bytes) -> Run:
 
 
 def _known(kind: Callable[..., Kind], told: dict[str, Any]) -> Kind:
-    """A value of a kind, by what is told of it. What only an earlier version of this knew is passed over."""
+    """A value of a kind, by what is told of it. What only another version of this knew is passed over."""
     return kind(**{it.name: told[it.name] for it in fields(kind) if it.name in told})

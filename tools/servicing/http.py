@@ -1,41 +1,36 @@
-"""Answers over HTTP at the socket in the folder of a service."""
+"""Answers over HTTP at the socket in the folder of a service, and asks there."""
 import contextlib
 import os
 import socket
 import struct
-from http import HTTPStatus
 from pathlib import Path
-from typing import Any, Callable, Iterator, Mapping
+from typing import Any, Iterator
 
-from rb_broker_redis.watching.http import Answer, HttpServer
+from servicing.folder import Unusable
+from rb_broker_redis.watching.http import HttpServer
 
+PATIENCE = 5.0  # seconds for an answer
 _CREDENTIALS = struct.Struct("3i")  # process, user and group
 
 
 class OwnerServer(HttpServer):
-    """Serves at a path, to this user and to root. These may ask for what `acts` has."""
-
-    def __init__(self, path: str, answer: Callable[[str], Answer | None],
-                 acts: Mapping[str, Callable[[], None]]) -> None:
-        """Begins at once. Raises an `OSError`."""
-        self._acts = acts
-        super().__init__(path, answer, self._act)
+    """Serves at a path, to this user and to root."""
 
     def take_place(self, at: Any) -> None:
         self.address_family = socket.AF_UNIX
 
     def server_bind(self) -> None:
-        bind_for_owner(self.socket, str(self.server_address))
+        """Takes the place of a socket that a killed process has left. Nobody but this user may connect at any moment:
+        the mode is set before there is a path."""
+        path = str(self.server_address)
+        Path(path).unlink(missing_ok=True)
+        os.fchmod(self.socket.fileno(), 0o600)
+        with short_name(path) as name:
+            self.socket.bind(name)
 
     def verify_request(self, request: Any, client_address: Any) -> bool:
-        return user_of(request) in (os.geteuid(), 0)
-
-    def _act(self, path: str, body: bytes) -> Answer | None:
-        act = self._acts.get(path)
-        if act is None:
-            return None
-        act()
-        return Answer(HTTPStatus.NO_CONTENT)
+        told = request.getsockopt(socket.SOL_SOCKET, socket.SO_PEERCRED, _CREDENTIALS.size)
+        return _CREDENTIALS.unpack(told)[1] in (os.geteuid(), 0)
 
 
 @contextlib.contextmanager
@@ -48,16 +43,14 @@ def short_name(path: str) -> Iterator[str]:
         os.close(folder)
 
 
-def bind_for_owner(door: socket.socket, path: str) -> None:
-    """Gives a socket a path, in the place of one that a killed process has left there. Nobody but this user may connect
-    at any moment: the mode is set before there is a path."""
-    Path(path).unlink(missing_ok=True)
-    os.fchmod(door.fileno(), 0o600)
-    with short_name(path) as name:
-        door.bind(name)
-
-
-def user_of(link: socket.socket) -> int:
-    """The user of the process at the other end."""
-    told = link.getsockopt(socket.SOL_SOCKET, socket.SO_PEERCRED, _CREDENTIALS.size)
-    return int(_CREDENTIALS.unpack(told)[1])
+def asked(path: str, what: str) -> tuple[bytes, bytes]:
+    """The head and the text of an answer at a socket. Raises an `Unusable` if no service answers."""
+    try:
+        with short_name(path) as name, socket.socket(socket.AF_UNIX) as it:
+            it.settimeout(PATIENCE)
+            it.connect(name)
+            it.sendall(f"{what} HTTP/1.0\r\n\r\n".encode())
+            head, _, told = it.makefile("rb").read().partition(b"\r\n\r\n")
+            return head, told
+    except OSError as fault:
+        raise Unusable(f"no service answers in {os.path.dirname(path)}: {fault.strerror or fault}") from None

@@ -1,38 +1,14 @@
 """Looks at a server again and again, and keeps what only several looks together show."""
 import time
-from collections import deque
 from typing import Sequence
 
-from servicing.connections import MOMENT, SHORTEST as SHORTEST_CALL, Connection, look_at
+from servicing.connections import MOMENT, SHORTEST, Connection, look_at
 from servicing.session import OwnSession, Told
-from servicing.state import Queue, Run, Supply
+from servicing.state import Queue, Run
 
 ASK = 5.0  # seconds from one question to the server to the next
 UNSURE = 0.05  # a share of a run's calls; if so many more may be used than the server told of, it is asked at once
 STUCK = 200  # milliseconds; a free worker takes who has waited for so long
-
-WINDOW, SHORTEST = 60.0, 5.0  # seconds over which a pace is measured
-
-
-class Pace:
-    """How fast a number rises, over the last minute."""
-
-    def __init__(self) -> None:
-        self._marks: deque[tuple[float, int]] = deque()
-
-    def add(self, at: float, number: int) -> None:
-        """The number had this value at this reading of the monotonic clock."""
-        self._marks.append((at, number))
-        while len(self._marks) > 2 and self._marks[1][0] <= at - WINDOW:
-            self._marks.popleft()
-
-    @property
-    def a_second(self) -> float | None:
-        """None in the first seconds, in which one more or less would mean too much."""
-        if not self._marks:
-            return None
-        (since, first), (until, last) = self._marks[0], self._marks[-1]
-        return (last - first) / (until - since) if until - since >= SHORTEST else None
 
 
 class Looks:
@@ -43,8 +19,7 @@ class Looks:
         self._asked = 0.0
         self.clients: tuple[Connection, ...] | None = None  # at the last look, the longest silent first
         self._stuck: set[int] = set()  # who waited then, though a worker was free
-        self.is_closed = False  # whether one of these did already at the look before
-        self._call_pace, self._offer_pace, self._left_pace = Pace(), Pace(), Pace()
+        self.is_closed = False  # whether one of these did already at the look before: no session is left
         self._surely_used = 0  # calls, by what the server has told
         self._made: dict[int, Connection] = {}  # each client when it was last seen
         self._seen_at, self.rate = time.monotonic(), 0.0  # calls a second, between the last two looks
@@ -52,15 +27,9 @@ class Looks:
         self.moment: int | None = None
         self.began: int | None = None  # when the server's clock began to go at the latest, by `clock.up_time`
         self.offered = self.left = 0  # elements of this run; a job that came back is offered again
-        self.offered_a_second: float | None = None
-        self.left_a_second: float | None = None
-
-    def watch(self) -> None:
-        """Looks at the connections. Raises an `Unwatchable`."""
-        self.see(look_at(self.own.port))
 
     def look(self) -> None:
-        """The same, and asks the server now and then."""
+        """Looks at the connections, and asks the server now and then. Raises an `Unwatchable`."""
         self.watch()
         is_unsure = self._used_calls - self._surely_used > UNSURE * self._record.calls
         if time.monotonic() - self._asked >= ASK or self.own.waits or is_unsure:
@@ -69,20 +38,30 @@ class Looks:
             if told is not None:
                 self.hear(told)
 
+    def watch(self) -> None:
+        """Looks at the connections alone. Raises an `Unwatchable`."""
+        self.see(look_at(self.own.port))
+
     def see(self, found: Sequence[Connection]) -> None:
-        """Takes what the system tells of the connections."""
+        now, used = time.monotonic(), self._used_calls
         clients = (it for it in found if it.port not in self.own.ports and not it.has_given_up)
         self.clients = tuple(sorted(clients, key=lambda it: -it.heard))
-        self._count_calls(self.clients)
+        self._made |= {it.key: it for it in self.clients}
+        self.rate, self._seen_at = (self._used_calls - used) / max(now - self._seen_at, 0.001), now
         is_free = sum(it.is_served for it in found) < self._workers
         stuck = {it.key for it in found if is_free and not it.is_served and it.told >= STUCK}
         self.is_closed, self._stuck = bool(stuck & self._stuck), stuck
 
-    def _count_calls(self, clients: Sequence[Connection]) -> None:
-        now, used = time.monotonic(), self._used_calls
-        self._made |= {it.key: it for it in clients}
-        self.rate = (self._used_calls - used) / max(now - self._seen_at, 0.001)
-        self._seen_at = now
+    def hear(self, told: Told) -> None:
+        record, own = self._record, self.own
+        self.queue, self.moment = told.queue, told.moment
+        began = told.heard - (told.moment - record.moment)
+        self.began = min(self.began or began, began)
+        ids = told.next_id - record.next_id
+        self.offered = ids - own.probes
+        self.left = max(self.offered - told.queue.elements + record.opening, 0)
+        # One call for each id, one for each element that has left, and the looks; that of a probe was counted twice.
+        self._surely_used = max(self._surely_used, ids + self.left + own.calls - own.probes)
 
     @property
     def _used_calls(self) -> int:
@@ -91,48 +70,22 @@ class Looks:
         record, sent = self._record, sum(it.calls for it in self._made.values())
         digits = len(f"{record.next_id}{record.moment}")
         known = (len("OFFERED  .") + digits) * self.offered + (len("ITEM   1 a.") + digits) * self.left
-        others = max(sum(it.replied for it in self._made.values()) - known, 0) // SHORTEST_CALL
+        others = max(sum(it.replied for it in self._made.values()) - known, 0) // SHORTEST
         used = max(self._surely_used, min(sent + self.own.calls, self._surely_used + others))
         return min(used, record.calls)
+
+    @property
+    def calls(self) -> int:
+        return self._record.calls if self.own.is_full else self._used_calls
 
     def due(self, longest: float, shortest: float) -> float:
         """In how many seconds the next look is due: before half of the calls that are left can be used."""
         left = self._record.calls - self._used_calls
         return max(min(longest, left / 2 / self.rate if self.rate else longest), shortest)
 
-    def hear(self, told: Told) -> None:
-        """Takes what the server told."""
-        record, own = self._record, self.own
-        self.queue, self.moment = told.queue, told.moment
-        began = told.heard - (told.moment - record.moment)
-        self.began = began if self.began is None else min(self.began, began)
-        ids = told.next_id - record.next_id
-        self.offered = ids - own.probes
-        self.left = max(self.offered - told.queue.elements + record.opening, 0)
-        # One call for each id, one for each element that has left, and the looks; that of a probe was counted twice.
-        calls = ids + self.left + own.calls - own.probes
-        self._surely_used = max(self._surely_used, min(calls, record.calls))
-        for pace, number in ((self._call_pace, self._used_calls), (self._offer_pace, self.offered),
-                             (self._left_pace, self.left)):
-            pace.add(time.monotonic(), number)
-        self.offered_a_second, self.left_a_second = self._offer_pace.a_second, self._left_pace.a_second
-
-    @property
-    def calls(self) -> Supply:
-        limit = self._record.calls
-        return Supply(limit if self.own.is_full else self._used_calls, limit, self._call_pace.a_second)
-
-    @property
-    def served(self) -> list[Connection]:
-        """The clients that a worker serves."""
-        return [it for it in self.clients or () if it.is_served]
-
-    @property
-    def waits(self) -> float:
-        """For how many seconds somebody waits for a worker."""
-        return max((self.own.waits, *(it.told / 1000 for it in self.clients or () if not it.is_served)))
-
-    @property
-    def waiting_long(self) -> int:
-        """How many clients have waited for a worker for more than a moment."""
-        return sum(not it.is_served and it.told >= MOMENT for it in self.clients or ())
+    # The clients that a worker serves; for how many seconds somebody waits for one, the service itself included; and
+    # how many clients have done so for more than a moment.
+    served = property(lambda self: [it for it in self.clients or () if it.is_served])
+    waits = property(lambda self: max(self.own.waits, *(it.told / 1000 for it in self._waiting), 0.0))
+    waiting_long = property(lambda self: sum(it.told >= MOMENT for it in self._waiting))
+    _waiting = property(lambda self: [it for it in self.clients or () if not it.is_served])

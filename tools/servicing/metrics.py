@@ -1,5 +1,6 @@
 """The numbers of a state: in a table for people, and as Prometheus reads them. What is not known is left out. Counters
 rise as long as the service lasts, whatever becomes of its runs; what is counted of one run is a gauge."""
+import functools
 from typing import Any, Iterator
 
 from servicing.connections import SILENT_FROM
@@ -27,9 +28,8 @@ NUMBERS: tuple[tuple[str, str, str], ...] = (
     ("run_start_time_seconds", "run.date", "When the run began"),
     ("run_opening_elements", "run.opening", "Elements with which the run began"),
     ("elements_aside", "run.aside", "Elements beyond those that an opening may have, which wait in a file"),
-    ("run_calls", "calls.used", "Calls that the run can have used when last seen"),
-    ("run_calls_limit", "calls.limit", "Calls for which the run has room"),
-    ("run_calls_left_seconds", "calls.lasts", "Time until no call is left, at the rate of the last minute"),
+    ("run_calls", "calls", "Calls that the run can have used when last seen"),
+    ("run_calls_limit", "run.calls", "Calls for which the run has room"),
     ("last_run_closed_seconds", "last.end.closed", "Time between the last two runs without a server for new clients"),
     ("last_run_sessions", "last.end.sessions", "Sessions of the last run"),
     ("last_run_cut_sessions", "last.end.cut", "Sessions that were cut at the end of the last run"),
@@ -44,17 +44,14 @@ NUMBERS: tuple[tuple[str, str, str], ...] = (
 
 
 def numbers(state: State) -> Iterator[Number]:
-    """The name, the meaning and the value of each number that is known."""
+    whole: Any = state
     for name, path, meaning in NUMBERS:
-        value: Any = state
-        for part in path.split("."):
-            value = None if value is None else getattr(value, part)
+        value = functools.reduce(lambda it, part: getattr(it, part, None), path.split("."), whole)
         if value is not None:
             yield name, meaning, round(value, 3) if isinstance(value, float) else value
 
 
 def metrics(state: State) -> str:
-    """The text of all metrics."""
     port = f'port="{state.port}"'
     run = {f'{port},run="{state.run_id}"': 1} if state.run else {}
     told = metrics_of(port, state.is_up, state.is_healthy, (it.name for it in state.alerts), numbers(state))

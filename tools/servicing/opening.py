@@ -32,14 +32,12 @@ class Opening:
 
     @property
     def body(self) -> Iterator[bytes]:
-        """The others."""
         for id, words in self.elements.items():
             yield b"keep %s %s\n" % (id, words)
         yield b"end 0\n"
 
     @property
     def first_aside(self) -> int:
-        """The moment at which the first of the elements aside expires."""
         return min((expiry_of(it) for it in self.aside.values()), default=GREATEST)
 
 
@@ -63,25 +61,15 @@ def moment_after(left: Left, moment: int) -> int:
 def opening_after(left: Left, aside: Elements, moment: int, given: int = 0) -> Opening:
     """The opening at a moment of the run after one that left this, and beside it elements aside. One that was lost left
     its own opening, and may have given so many ids. At most 1,000,000 elements are in it, those that expire first; the
-    others wait beside."""
+    others wait beside. The ids of both rise."""
     next_id, elements = left.next_id + given, left.elements
     if next_id > GREATEST_OPENING_ID:
         raise NoIdsLeft
     if aside or len(elements) > MOST_OPENING_ELEMENTS:
-        elements, aside = _parted({**elements, **aside})
+        order = sorted({**elements, **aside}.items(), key=lambda it: (expiry_of(it[1]), int(it[0])))
+        elements, aside = (dict(sorted(them, key=lambda it: int(it[0])))
+                           for them in (order[:MOST_OPENING_ELEMENTS], order[MOST_OPENING_ELEMENTS:]))
     return Opening(next_id, moment_after(left, moment), elements, aside)
-
-
-def _parted(elements: Elements) -> tuple[Elements, Elements]:
-    """As many as an opening may have, and the others, which expire last. The ids of both rise."""
-    if len(elements) <= MOST_OPENING_ELEMENTS:
-        return _rising(elements.items()), {}
-    order = sorted(elements.items(), key=lambda it: (expiry_of(it[1]), int(it[0])))
-    return _rising(order[:MOST_OPENING_ELEMENTS]), _rising(order[MOST_OPENING_ELEMENTS:])
-
-
-def _rising(elements: Iterable[tuple[bytes, bytes]]) -> Elements:
-    return dict(sorted(elements, key=lambda it: int(it[0])))
 
 
 def expiry_of(words: bytes) -> int:
@@ -94,10 +82,14 @@ def left_in(file: BinaryIO) -> Left:
     It takes a microsecond for each line, and clients wait for it. So nothing else is checked here. Raises a
     `ValueError`, an `IndexError` or a `KeyError` for another text.
     """
-    left = _left_at_first(file)
-    elements = left.elements
-    event: list[bytes] = []
-    probes: list[bytes] = []
+    if file.readline() != b"history 3\n":
+        raise ValueError
+    next_id, moment, count = map(int, file.readline().split()[1:])
+    left = Left(next_id, moment, {}, begins=(next_id, moment, count))
+    elements, event, probes = left.elements, list[bytes](), list[bytes]()
+    for _ in range(count):
+        _, id, element = file.readline()[:-1].split(b" ", 2)
+        elements[id] = element
     for line in file:
         words = line[:-1].split(b" ", 5)
         if len(words) < 4:  # the last line
@@ -117,18 +109,6 @@ def left_in(file: BinaryIO) -> Left:
     for id in probes:  # a service that was killed may have left one
         elements.pop(id, None)
     left.probes = len(probes)
-    return left
-
-
-def _left_at_first(file: BinaryIO) -> Left:
-    """What is left before the first event."""
-    if file.readline() != b"history 3\n":
-        raise ValueError
-    next_id, moment, count = map(int, file.readline().split()[1:])
-    left = Left(next_id, moment, {}, begins=(next_id, moment, count))
-    for _ in range(count):
-        _, id, words = file.readline()[:-1].split(b" ", 2)
-        left.elements[id] = words
     return left
 
 

@@ -7,10 +7,10 @@ from typing import Callable, TypeVar
 from servicing.folder import Folder
 from servicing.memory import Memory
 from servicing.runs import Runs
+from servicing.saying import Signals
 from servicing.server import Server
 from servicing.settings import Settings
 from servicing.showing import Showing
-from servicing.saying import Signals
 from servicing.state import DISK
 from rb_broker_redis.watching.units import SECOND
 
@@ -35,16 +35,19 @@ class Parts:
     def until_written(self, name: str, write: Callable[[], Done], server: Server | None = None) -> Done:
         """Writes a file, perhaps the history of a server, which is in memory only. Raises a `LeftBehind` if an end is
         asked for."""
-        kept = server.size if server else 0
-        asked: float | None = None
+        kept, asked, showing, path = server.size if server else 0, 0.0, self.showing, self.folder.file(name)
         while True:
             try:
                 done = write()
-                self.showing.unwritten = 0
-                self.showing.lower_alert(DISK)
+                showing.unwritten = 0
+                showing.lower_alert(DISK)
                 return done
             except OSError as fault:
-                self._show(self.folder.file(name), kept, fault)
+                why, showing.unwritten = fault.strerror or repr(fault), kept
+            text = f"{path} can't be written: {why}; {kept:,} bytes are kept in memory"
+            showing.raise_alert(DISK, text, "error", file=path, why=why, kept=kept)
+            showing.waits_for = (f"{path}: {why}",)
+            showing.show()
             if self.signals.count:
                 asked = asked or time.monotonic()
                 if self.signals.count > 1 or time.monotonic() - asked > self.settings.stop_within / SECOND:
@@ -53,10 +56,3 @@ class Parts:
                     raise LeftBehind(f"{name} can't be written, and {kept:,} bytes are kept in memory; make room in "
                                      f"{self.folder.path}, and start the service again to write them")
             self.signals.wait(AGAIN)
-
-    def _show(self, path: str, kept: int, fault: OSError) -> None:
-        why, self.showing.unwritten = fault.strerror or repr(fault), kept
-        text = f"{path} can't be written: {why}; {kept:,} bytes are kept in memory"
-        self.showing.raise_alert(DISK, text, "error", file=path, why=why, kept=kept)
-        self.showing.waits_for = (f"{path}: {why}",)
-        self.showing.show()

@@ -9,18 +9,15 @@ import os
 import threading
 import time
 from dataclasses import dataclass, field, replace
-from typing import Callable
 
 from histories.files import open_history
 from servicing.clock import Reading, elapsed, is_same_boot, read_clock
-from servicing.deciding import runs_to_drop
-from servicing.fitting import Misfit, digest_of, misfit_in
+from servicing.deciding import Misfit, digest_of, misfit_in, runs_to_drop
 from servicing.folder import Folder, Unusable, record_of
 from servicing.opening import Elements, Left, Opening, left_in, moment_after, opening_after
-from servicing.saying import say
 from servicing.server import Server
 from servicing.settings import Keep, Settings
-from servicing.state import End, Run
+from servicing.state import Run
 
 LOW_PRIORITY = 10
 ACKNOWLEDGED = "acknowledged"  # a file of the folder: how many lost runs and lost jobs are
@@ -52,8 +49,6 @@ class Runs:
     def __init__(self, folder: Folder) -> None:
         self.folder = folder
         self.records = {number: run for number in folder.numbers() if (run := folder.run(number))}
-        # Histories of another service may be there, which are never written over.
-        self._greatest = max(folder.numbers(), default=0)
         self._acknowledged, self._tidied = (0, 0), 0  # and the last run of which there is one compressed history
         with contextlib.suppress(OSError, ValueError):  # nothing is yet
             runs, jobs = map(int, folder.read(ACKNOWLEDGED).split())
@@ -64,65 +59,53 @@ class Runs:
         return self.records.get(max(self.records, default=0))
 
     @property
+    def greatest(self) -> int:
+        """The last run of which there is something. Histories of another service may be there, which are never written
+        over."""
+        return max(self.folder.numbers(), default=0)
+
+    @property
     def next_number(self) -> int:
         """That of the next run. A run whose server was never started gives its number to the next one."""
         last = self.last
         is_unused = last is not None and last.end is None and not self.folder.history(last.number)
-        return self._greatest if is_unused else self._greatest + 1
-
-    def first(self, begin_with: str | None, replay: Callable[[str], object]) -> Next:
-        """What the first run begins with: nothing, what a history left, or what the last history left that a series
-        of runs has left in this folder. Raises an `Unusable`."""
-        path = begin_with or (self.folder.history(self._greatest) if self._greatest else None)
-        if path is None:
-            return Next(Left(0, 0, {}), 0)
-        if os.path.exists(path) and not os.path.isfile(path):  # it is read twice, and a pipe would keep this waiting
-            raise Unusable(f"{path} is no regular file")
-        replay(path)
-        left = left_of(path)
-        age = max(time.time_ns() - os.stat(path).st_mtime_ns, 0)
-        say("info", "begins-with", history=path, elements=len(left.elements))
-        return Next(left, left.moment + age)
+        return self.greatest + (not is_unused)
 
     def past(self) -> tuple[Run, ...]:
-        """The runs that have ended, the latest first."""
         return tuple(it for _, it in sorted(self.records.items(), reverse=True) if it.end)
 
     def prepare(self, following: Next, settings: Settings) -> Run:
         """Writes down the next run, whose server is started right behind. Raises an `OSError` if the disk is full."""
         now, number, before = read_clock(), self.next_number, self.last
-        opening = following.at(now)
-        lost = 0 if before is None else before.lost_before if before.number == number else before.lost
-        lost_jobs = 0 if before is None else before.lost_jobs
-        follows = before.follows if before is not None and before.number == number else digest_of(before)
-        record = Run(number, now, opening.moment, opening.next_id, len(opening.elements),
-                     len(opening.aside), settings.calls, tuple(settings.policy), lost_before=lost,
-                     lost_jobs_before=lost_jobs, follows=follows)
+        opening, lost, lost_jobs, follows = following.at(now), 0, 0, digest_of(before)
+        if before is not None:
+            lost, lost_jobs = before.lost, before.lost_jobs
+            follows = before.follows if before.number == number else follows
+        record = Run(number, now, opening.moment, opening.next_id, len(opening.elements), len(opening.aside),
+                     settings.calls, settings.policy, lost_before=lost, lost_jobs_before=lost_jobs,
+                     follows=follows)
+        self.folder.remove(f"aside-{number}.txt")
         if opening.aside:
             aside = replace(opening, elements=opening.aside)
             self.folder.write(f"aside-{number}.txt", [aside.header, *aside.body])
-        else:
-            self.folder.remove(f"aside-{number}.txt")
         self.folder.write(f"opening-{number}.txt", [opening.header, *opening.body])
-        self._write(record)
-        self._greatest = number
+        self.write(record)
         return record
 
     def drop(self, record: Run) -> None:
         """Removes a run whose server could not be started, so that no service takes it for one that was lost."""
         self.folder.drop(record.number)
         del self.records[record.number]
-        self._greatest = record.number - 1
 
     def see(self, record: Run, began: Reading) -> Run:
         """Writes down when a server really began. It is no harm if that can't be written."""
         self.records[record.number] = seen = replace(record, began=began, is_seen=True)
         with contextlib.suppress(OSError):
-            self._write(seen)
+            self.write(seen)
         return seen
 
     def after(self, record: Run, left: Left, given: int = 0) -> Next:
-        """What follows a run that left this, and may have given so many ids more."""
+        """What follows a run that left this, and may have given so many ids more. Raises an `Unusable`."""
         path = self.folder.file(f"aside-{record.number}.txt")
         aside = left_of(path).elements if record.aside else {}
         if len(aside) != record.aside:
@@ -138,10 +121,10 @@ class Runs:
             raise Unusable(f"{path} is not what run {record.number} began with: restore it")
         return self.after(record, left, given)
 
-    def save_history(self, server: Server) -> None:
+    def save_history(self, server: Server, name: str = "run") -> None:
         """Writes a run's history, unless it is there. Raises an `OSError`."""
         if self.folder.history(server.run) is None:
-            self.folder.write(f"run-{server.run}.txt", server.text())
+            self.folder.write(f"{name}-{server.run}.txt", server.text())
 
     def misfit(self) -> Misfit | None:
         """What does not fit in the folder, which has a record."""
@@ -150,40 +133,26 @@ class Runs:
     def accept(self, misfit: Misfit) -> None:
         """Goes on without what a run did, and keeps its history as a damaged one. Raises an `OSError`."""
         if misfit.next is not None:
-            self._write(replace(misfit.next, follows=""))
+            self.write(replace(misfit.next, follows=""))
         else:
             self.folder.set_aside(misfit.run)
-            self._greatest = max(self.folder.numbers())
 
     @property
-    def greeting(self) -> str:
-        """What the server of the last run says to who is let in."""
-        assert self.last
-        return f"RUN {self.last.number} lost {self.last.lost_before} at {self.last.moment}"
+    def lost(self) -> tuple[int, int]:
+        """How many runs were lost, and how many jobs could not come back."""
+        return (self.last.lost, self.last.lost_jobs) if self.last else (0, 0)
 
     @property
     def unacknowledged(self) -> tuple[int, int]:
-        """How many lost runs, and jobs, nobody has acknowledged."""
-        last, known = self.last, self._acknowledged
-        return (max(last.lost - known[0], 0), max(last.lost_jobs - known[1], 0)) if last else (0, 0)
+        """The same of those that nobody has acknowledged."""
+        return max(self.lost[0] - self._acknowledged[0], 0), max(self.lost[1] - self._acknowledged[1], 0)
 
     def acknowledge(self) -> None:
         """Writes down that all that is lost so far is known. Raises an `OSError`."""
-        if self.last is not None:
-            known = self.last.lost, self.last.lost_jobs
-            self.folder.write(ACKNOWLEDGED, [f"{known[0]} {known[1]}\n".encode()])
-            self._acknowledged = known
+        self.folder.write(ACKNOWLEDGED, [b"%d %d\n" % self.lost])
+        self._acknowledged = self.lost
 
-    def save_damaged(self, server: Server) -> None:
-        """Keeps what is no history, for whoever wants to know why."""
-        with contextlib.suppress(OSError):
-            self.folder.write(f"damaged-{server.run}.txt", server.text())
-
-    def end(self, record: Run, end: End) -> None:
-        """Writes down what became of a run. Raises an `OSError`."""
-        self._write(replace(record, end=end))
-
-    def _write(self, record: Run) -> None:
+    def write(self, record: Run) -> None:
         self.folder.write(f"run-{record.number}.json", [record_of(record)])
         self.records[record.number] = record
 

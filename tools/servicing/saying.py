@@ -10,12 +10,8 @@ import signal
 import socket
 import sys
 import time
-from types import FrameType
 
 PATIENCE = 1.0  # seconds; a manager that takes nothing is not waited for
-
-SIGNALS = (signal.SIGINT, signal.SIGTERM, signal.SIGHUP)
-
 _PLAIN = re.compile(r"[^\s\"=]+")
 
 
@@ -24,26 +20,21 @@ def say(level: str, event: str, **fields: object) -> None:
     now = time.time()
     date = time.strftime("%Y-%m-%dT%H:%M:%S", time.gmtime(now)) + f".{int(now % 1 * 1000):03d}Z"
     words: dict[str, object] = {"time": date, "level": level, "event": event, **fields}
-    line = " ".join(f"{name}={_quoted(str(value))}" for name, value in words.items() if value is not None)
+    told = {name: str(value) for name, value in words.items() if value is not None}
+    line = " ".join(f"{name}={it if _PLAIN.fullmatch(it) else json.dumps(it, ensure_ascii=False)}"
+                    for name, it in told.items())
     with contextlib.suppress(OSError):
         sys.stderr.write(line + "\n")
         sys.stderr.flush()
 
 
-def _quoted(value: str) -> str:
-    return value if _PLAIN.fullmatch(value) else json.dumps(value, ensure_ascii=False)
-
-
 def notify(*descriptors: int, **values: object) -> None:
     """Sends an assignment for each value, such as READY=1, to systemd, with descriptors."""
-    address = os.environ.get("NOTIFY_SOCKET")
-    if not address:
-        return
+    address = os.environ.get("NOTIFY_SOCKET", "")
     with contextlib.suppress(OSError), socket.socket(socket.AF_UNIX, socket.SOCK_DGRAM | socket.SOCK_CLOEXEC) as it:
         it.settimeout(PATIENCE)
         it.connect("\0" + address[1:] if address.startswith("@") else address)
-        text = "\n".join(f"{name}={value}" for name, value in values.items()).encode()
-        socket.send_fds(it, [text], descriptors)
+        socket.send_fds(it, ["\n".join(f"{name}={value}" for name, value in values.items()).encode()], descriptors)
 
 
 def await_notified() -> None:
@@ -61,11 +52,14 @@ class Signals:
     def __init__(self) -> None:
         self.count = 0
         self._read, write = os.pipe()
-        os.set_blocking(self._read, False)
-        os.set_blocking(write, False)
+        for it in (self._read, write):
+            os.set_blocking(it, False)
         signal.set_wakeup_fd(write, warn_on_full_buffer=False)
-        for number in SIGNALS:
+        for number in (signal.SIGINT, signal.SIGTERM, signal.SIGHUP):
             signal.signal(number, self._note)
+
+    def _note(self, *_: object) -> None:
+        self.count += 1
 
     def wait(self, seconds: float, pipe: int | None = None) -> None:
         """Waits so long, until a signal comes, or until nobody can read from a pipe any more."""
@@ -76,6 +70,3 @@ class Signals:
         ready.poll(max(seconds, 0) * 1000)
         with contextlib.suppress(BlockingIOError):
             os.read(self._read, 64)
-
-    def _note(self, number: int, frame: FrameType | None) -> None:
-        self.count += 1

@@ -5,14 +5,15 @@ import hashlib
 import json
 import os
 import re
+import shutil
 import subprocess
-from concurrent.futures import ThreadPoolExecutor
-from typing import BinaryIO, Callable, Iterable, Iterator, Sequence
+from typing import Callable, Iterable, Iterator, NamedTuple, Sequence
 
+from histories.files import open_history
 from servicing.memory import Kept, Memory
 from servicing.opening import Left, left_in
 
-_COUNTS = re.compile(r"^sessions (\d+) faults (\d+) lost (\d+)$", re.M)
+_COUNTS = re.compile(r"^sessions (\d+) faults \d+ lost (\d+)$", re.M)
 PIECE = 1 << 20
 
 # The room of a history is large, and a page of it is first touched while its lock is held: huge pages are fewer.
@@ -27,24 +28,26 @@ class NotStarted(Exception):
     """Why no server could be started."""
 
 
+class Checked(NamedTuple):
+    """What is told of a history that `replay` accepts."""
+
+    audit: dict[str, int]
+    left: Left
+    digest: str
+
+
 class Server:
-    """A server of this process, or one that an earlier service has started."""
+    """A server of this process, or one that an earlier service has started, with its descriptors."""
 
     def __init__(self, memory: Memory, run: int, kept: Kept) -> None:
         self.run, self._memory, self._kept = run, memory, kept
+        self.input = kept.input  # a pipe that nobody reads once the server has ended; None if that is on its own
         self.process: subprocess.Popen[bytes] | None = None
-        self._lock: int | None = None
-
-    @property
-    def input(self) -> int | None:
-        """A pipe that nobody reads any more once the server has ended. None if the server is on its own."""
-        return self._kept.input
+        self._lock = _opened_again(kept.history)
 
     @property
     def has_ended(self) -> bool:
         """It keeps its history locked, whoever else has that open."""
-        if self._lock is None:
-            self._lock = os.open(f"/proc/self/fd/{self._kept.history}", os.O_RDWR | os.O_CLOEXEC)
         try:
             fcntl.flock(self._lock, fcntl.LOCK_EX | fcntl.LOCK_NB)
         except BlockingIOError:
@@ -57,8 +60,7 @@ class Server:
         It reads its opening from a pipe, and the text is made only then, so that its moment is that of now: what passes
         until the server's clock goes is time by which jobs are late.
         """
-        kept, (opening, into) = self._kept, os.pipe()
-        lock = os.open(f"/proc/self/fd/{kept.history}", os.O_RDWR | os.O_CLOEXEC)
+        kept, (opening, into), lock = self._kept, os.pipe(), _opened_again(self._kept.history)
         fcntl.flock(lock, fcntl.LOCK_EX)
         with contextlib.suppress(BrokenPipeError), open(into, "wb") as file:  # it may have ended, which is seen
             try:
@@ -69,29 +71,25 @@ class Server:
             except OSError as fault:
                 raise NotStarted(f"{fault.filename or 'server'}: {fault.strerror}") from None
             finally:
-                for it in (opening, lock):
-                    os.close(it)
-            kept.let_go()
+                _close(opening, lock, kept.end)
+                self._kept = kept._replace(end=None)
             file.writelines(text())
 
     def drain(self) -> None:
         """Tells it to let nobody else in, and to end each session that holds no job."""
-        if self._kept.input is not None:
+        if self.input is not None:
             with contextlib.suppress(BrokenPipeError):
-                os.write(self._kept.input, b"drain\n")
+                os.write(self.input, b"drain\n")
 
     def cut(self) -> None:
         """Ends its input, and so all sessions: what was sent is answered, and the jobs that are held fail."""
-        self._memory.end_input(self.run, self._kept)
+        self._memory.forget(f"input-{self.run}")
+        _close(self.input)
+        self.input = None
 
     @property
     def says(self) -> str:
-        """What it has printed."""
         return os.pread(self._kept.printed, 1 << 16, 0).decode("utf-8", "replace")
-
-    @property
-    def listens(self) -> bool:
-        return "listening " in self.says
 
     @property
     def last_line(self) -> str:
@@ -99,61 +97,71 @@ class Server:
         return ([it for it in self.says.splitlines() if not it.startswith("listening ")] or [""])[-1]
 
     @property
-    def counts(self) -> tuple[int, int] | None:
+    def counts(self) -> tuple[int | None, int | None]:
         """How many sessions it has served, and how many jobs could not come back at their ends."""
         counts = _COUNTS.search(self.says)
-        return (int(counts[1]), int(counts[3])) if counts else None
+        return (int(counts[1]), int(counts[2])) if counts else (None, None)
 
-    @property
-    def size(self) -> int:
-        """The bytes of its history."""
-        return os.fstat(self._kept.history).st_size
+    listens = property(lambda self: "listening " in self.says)
+    size = property(lambda self: os.fstat(self._kept.history).st_size)  # of its history, in bytes
 
     def text(self) -> Iterator[bytes]:
-        """The history, piece by piece."""
-        with self._opened() as file:
+        with open(_opened_again(self._kept.history, os.O_RDONLY), "rb") as file:
             yield from iter(lambda: file.read(PIECE), b"")
 
-    def _opened(self) -> BinaryIO:
-        return open(f"/proc/self/fd/{self._kept.history}", "rb", 1 << 18)
-
     def leave(self) -> None:
-        """Keeps its history for a service that is started later."""
         self._memory.leave(self.run, self._kept)
 
     def close(self) -> None:
         """Forgets it: it has ended, and what it left is kept elsewhere."""
         self._memory.drop(self.run)
-        self._kept.close()
-        if self._lock is not None:
-            os.close(self._lock)
+        _close(self._kept.history, self._kept.printed, self._kept.end, self.input, self._lock)
         if self.process is not None:
             self.process.wait()
 
-    def digest(self) -> str:
-        """The SHA-256 of the history."""
-        told = hashlib.sha256()
-        for piece in self.text():
-            told.update(piece)
-        return told.hexdigest()
-
-    def collect(self, program: str, policy: Sequence[str]) -> tuple[dict[str, int], Left, str]:
-        """Has the history checked, and meanwhile reads what is left in it and its digest: clients wait for it. Returns
-        all three. Raises a `Damaged`."""
+    def collect(self, program: str, policy: Sequence[str]) -> Checked:
         if not self.size:
             raise Damaged(f"the server left no history: {self.last_line or 'it was killed'}")
-        words, history = [program, "replay", f"/dev/fd/{self._kept.history}", "--chains", *policy], self._kept.history
-        pipe = subprocess.PIPE
-        with ThreadPoolExecutor(1) as pool, subprocess.Popen(
-                words, stdin=subprocess.DEVNULL, stdout=pipe, stderr=pipe, pass_fds=[history], encoding="utf-8",
-                errors="replace", start_new_session=True) as replay:
-            left, digest = None, pool.submit(self.digest)
-            with contextlib.suppress(ValueError, IndexError, KeyError), self._opened() as file:  # the replay explains
+        return checked(program, self._kept.history, policy)
+
+
+def _opened_again(descriptor: int, flags: int = os.O_RDWR) -> int:
+    """A file that is opened once more: it is locked and read by itself."""
+    return os.open(f"/proc/self/fd/{descriptor}", flags | os.O_CLOEXEC)
+
+
+def _close(*descriptors: int | None) -> None:
+    for it in filter(None, descriptors):
+        os.close(it)
+
+
+def checked(program: str, history: int, policy: Sequence[str]) -> Checked:
+    """Has a history checked, and meanwhile reads what is left in it: clients wait for it. Raises a `Damaged`."""
+    words, left, pipe = [program, "replay", f"/dev/fd/{history}", *policy], None, subprocess.PIPE
+    with subprocess.Popen(words, stdin=subprocess.DEVNULL, stdout=pipe, stderr=pipe, pass_fds=[history],
+                          encoding="utf-8", errors="replace", start_new_session=True) as replay:
+        with open(_opened_again(history, os.O_RDONLY), "rb") as file:
+            digest = hashlib.file_digest(file, "sha256").hexdigest()
+            file.seek(0)
+            with contextlib.suppress(ValueError, IndexError, KeyError):  # which the replay explains
                 left = left_in(file)
-            said, errors = replay.communicate()
-        if replay.returncode or left is None:
-            raise Damaged((said + errors).strip() or f"status {replay.returncode}")
-        return json.loads(said), left, digest.result()
+        said, errors = replay.communicate()
+    if replay.returncode:
+        raise Damaged((said + errors).strip() or f"status {replay.returncode}")
+    if left is None:
+        raise Damaged("it is no history of the third version")
+    return Checked(json.loads(said), left, digest)
+
+
+def checked_file(program: str, path: str, policy: Sequence[str] = ()) -> Checked:
+    """The same for a file, which may be compressed."""
+    try:
+        with open_history(path) as file, open(os.memfd_create("history"), "wb") as copy:
+            shutil.copyfileobj(file, copy, PIECE)
+            copy.flush()
+            return checked(program, copy.fileno(), policy)
+    except OSError as fault:
+        raise Damaged(fault.strerror or repr(fault)) from None
 
 
 def made(memory: Memory, run: int) -> Server:
@@ -162,9 +170,3 @@ def made(memory: Memory, run: int) -> Server:
         return Server(memory, run, memory.make(run))
     except OSError as fault:
         raise NotStarted(f"{fault.filename or 'memory'}: {fault.strerror}") from None
-
-
-def found(memory: Memory, run: int) -> Server | None:
-    """The server of a run that an earlier service has started, or what it has left."""
-    kept = memory.found(run)
-    return Server(memory, run, kept) if kept else None

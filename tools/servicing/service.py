@@ -18,7 +18,7 @@ from servicing.saying import Signals, notify, say
 from servicing.server import NotStarted, Server, made
 from servicing.settings import Settings
 from servicing.showing import Showing
-from servicing.state import Board, Phase, Reason, Run
+from servicing.state import Board, Phase, Reason
 from rb_broker_redis.watching.metrics import span_of
 from rb_broker_redis.watching.units import SECOND
 
@@ -40,10 +40,9 @@ def serve(settings: Settings, folder: Folder, board: Board, signals: Signals) ->
 
 
 def _serve(parts: Parts) -> None:
-    door = parts.memory.door()
-    found, before = resumed(parts), None
+    door, found, before = parts.memory.door(), resumed(parts), None
     with door or _bound(parts.settings.port) as door:
-        while True:
+        while not before or not parts.signals.count:
             current = found if isinstance(found, Current) else _started(parts, door, found, before)
             if current is None:
                 return
@@ -52,8 +51,6 @@ def _serve(parts: Parts) -> None:
                 parts.runs.tidy(parts.settings.keep)
             current.go_on()
             found, before = saved(parts, current), current
-            if parts.signals.count:
-                return
 
 
 def _bound(port: int) -> socket.socket:
@@ -75,7 +72,7 @@ def _say_serving(parts: Parts, current: Current, before: Current | None) -> None
     last = parts.runs.records.get(before.record.number) if before else None
     if last is not None and last.end is not None:
         with contextlib.suppress(OSError):  # it is no harm if that can't be written
-            parts.runs.end(last, replace(last.end, closed=closed))
+            parts.runs.write(replace(last, end=replace(last.end, closed=closed)))
 
 
 def _started(parts: Parts, door: socket.socket, following: Next, before: Current | None) -> Current | None:
@@ -112,7 +109,7 @@ def _listening(
     """A run whose server listens. Raises a `NotStarted`."""
     record = parts.until_written("opening", lambda: parts.runs.prepare(following, parts.settings))
     opening = following.at(record.began)
-    words, body = parts.settings.serve_words(parts.runs.greeting, door.fileno()), b"".join(opening.body)
+    words, body = parts.settings.serve_words(record.greeting, door.fileno()), b"".join(opening.body)
 
     def text() -> tuple[bytes, bytes]:
         nonlocal opening, record
@@ -123,17 +120,13 @@ def _listening(
 
     try:
         server.start(words, door.fileno(), text)
-        _await_listening(parts, server)
+        while not server.listens:
+            parts.signals.wait(POLL, server.input)
+            if server.has_ended and not server.listens:
+                raise NotStarted(server.last_line or "its process has ended")
     except NotStarted:
         server.close()
         parts.runs.drop(record)
         raise
     record = replace(record, began=read_clock())  # its clock goes since about now; a look tells exactly
     return Current(parts, record, server, opening.first_aside, before.next_own if before else None)
-
-
-def _await_listening(parts: Parts, server: Server) -> None:
-    while not server.listens:
-        parts.signals.wait(POLL, server.input)
-        if server.has_ended and not server.listens:
-            raise NotStarted(server.last_line or "its process has ended")

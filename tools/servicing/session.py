@@ -1,11 +1,12 @@
 """The service's own sessions with its server: how many elements wait, how late the first is, and the moment."""
 from __future__ import annotations
 
+import contextlib
 import select
 import socket
 import time
 from collections import deque
-from dataclasses import dataclass
+from typing import NamedTuple
 
 from servicing.clock import up_time
 from servicing.connections import HOST
@@ -17,8 +18,7 @@ PATIENCE, REPLY = 0.05, 2.0  # seconds that a look waits for a worker, and for a
 MOST_PORTS = 8
 
 
-@dataclass(frozen=True)
-class Told:
+class Told(NamedTuple):
     """What the server told at one look."""
 
     queue: Queue
@@ -33,7 +33,6 @@ class OwnSession:
     has gone, and would leave the element behind."""
 
     def __init__(self, port: int, before: OwnSession | None = None) -> None:
-        """`before` is that of the run before."""
         self.port = port
         self._socket: socket.socket | None = None
         # Of the last sessions, which the system lists for a while.
@@ -52,11 +51,15 @@ class OwnSession:
         """Asks the server. None if it does not answer soon, since no worker is free, if the run is full, or if the
         session is lost: the server has ended, or another session will do."""
         try:
-            if self._is_greeted():
-                return self._told()
+            if self._socket is None:
+                self.begin()
+            with contextlib.suppress(TimeoutError):
+                self._line(PATIENCE)  # the greeting
+                self._since = None
+            return self._told() if self._since is None else None
         except (OSError, ValueError, IndexError):
             self.drop()
-        return None
+            return None
 
     def begin(self) -> None:
         """Waits for a worker from now on, unless this does already. Raises an `OSError`."""
@@ -67,48 +70,33 @@ class OwnSession:
             self._socket = socket.create_connection((HOST, self.port), PATIENCE)
             self.ports.append(self._socket.getsockname()[1])
 
-    def _is_greeted(self) -> bool:
-        """Whether a worker serves a session of this, which is begun if there is none."""
-        if self._socket is None:
-            self.begin()
-        try:
-            self._line(PATIENCE)
-        except socket.timeout:
-            return False
-        self._since = None
-        return True
+    def drop(self) -> None:
+        if self._socket is not None:
+            self._socket.close()
+        self._socket, self._heard = None, b""
 
     def _told(self) -> Told | None:
-        self._send("SIZE", "PEEK", f"OFFER {PROBE_DELAY} {PROBE}")
-        size, head, offered = (self._called() for _ in range(3))
+        size, head, offered = self._asked("SIZE", "PEEK", f"OFFER {PROBE_DELAY} {PROBE}")
         heard = up_time()
         if not offered.startswith("OFFERED "):
             self.is_full = self.is_full or offered == "ERR 6 full"
             self.drop()
             return None
         id, expiry = map(int, offered.split(" ")[1:])
-        self._send(f"REMOVE {id}", "QUIT")
-        self._called()
+        self._asked(f"REMOVE {id}")
         self.probes += 1
-        self._line(REPLY)  # or the server would take the end for a fault
+        self._asked("QUIT")  # or the server would take the end for a fault
         self.drop()
         moment = expiry - PROBE_DELAY
         return Told(Queue(time.time(), int(size.split(" ")[1]), _late(head, moment)), id + 1, moment, heard)
 
-    def _called(self) -> str:
-        """The reply to a request, which is a call unless it is refused."""
-        reply = self._line(REPLY)
-        self.calls += not reply.startswith("ERR")
-        return reply
-
-    def drop(self) -> None:
-        if self._socket is not None:
-            self._socket.close()
-        self._socket, self._heard = None, b""
-
-    def _send(self, *requests: str) -> None:
+    def _asked(self, *requests: str) -> list[str]:
+        """The replies to requests, each of which but QUIT is a call unless it is refused."""
         assert self._socket
         self._socket.sendall("".join(f"{it}\n" for it in requests).encode())
+        replies = [self._line(REPLY) for _ in requests]
+        self.calls += sum(it[:3] not in ("ERR", "BYE") for it in replies)
+        return replies
 
     def _line(self, patience: float) -> str:
         """The next line. What came of one when the time was over stays for the next call."""

@@ -6,7 +6,7 @@ import os
 import re
 from dataclasses import dataclass, field, fields
 from decimal import Decimal
-from typing import Any, Callable
+from typing import Any, Callable, NamedTuple
 
 from common.program import program_named
 from common.words import number, parser_of
@@ -18,8 +18,14 @@ UNITS = {"ns": 1, "us": 1_000, "ms": 1_000_000, "s": SECOND, "m": 60 * SECOND, "
 _SPAN = re.compile(r"([0-9]{1,20}(?:\.[0-9]{1,9})?)(ns|us|ms|s|m|h|d)")
 
 
+class Keep(NamedTuple):
+    """Which old runs are kept: so many, or those of so many nanoseconds."""
+
+    runs: int | None
+    age: int | None
+
+
 def nanoseconds_of(word: str) -> int:
-    """The nanoseconds of a span such as 30s. Raises an `ArgumentTypeError` that says what a span is."""
     found = _SPAN.fullmatch(word)
     if found is None:
         raise argparse.ArgumentTypeError(f"{word!r} is no time: a number with ns, us, ms, s, m, h or d, such as 30s")
@@ -27,28 +33,16 @@ def nanoseconds_of(word: str) -> int:
 
 
 def _span(least: str, most: str) -> Callable[[str], int]:
-    """Reads a span from `least` to `most`."""
-
     def read(word: str) -> int:
-        value = nanoseconds_of(word)
-        if not nanoseconds_of(least) <= value <= nanoseconds_of(most):
+        if not nanoseconds_of(least) <= nanoseconds_of(word) <= nanoseconds_of(most):
             raise argparse.ArgumentTypeError(f"{word} is not from {least} to {most}")
-        return value
+        return nanoseconds_of(word)
 
     read.__name__ = f"{least} to {most}"  # which help tells
     return read
 
 
-@dataclass(frozen=True)
-class Keep:
-    """Which old runs are kept: so many, or those of so many nanoseconds."""
-
-    runs: int | None
-    age: int | None
-
-
 def _keep(word: str) -> Keep:
-    """A number of runs, or an age."""
     if word.isascii() and word.isdigit():
         return Keep(int(number(int, 1, 1_000_000)(word)), None)
     return Keep(None, nanoseconds_of(word))
@@ -89,8 +83,7 @@ class Settings:
     begin_with: str | None = _option(
         "begins an empty folder with what this history left", _path, None, "HISTORY", flag="--from", dest="begin_with")
     accept_loss: int | None = _option(
-        "goes on though what run N did is not in the folder any more, or was changed",
-        number(int, 1, 999_999_999), None, "N")
+        "goes on though what run N did is gone or was changed", number(int, 1, 999_999_999), None, "N")
     workers: int = _option("clients served at once, 1 to 16", number(int, 1, 16), 16, "N")
     sessions: int = _option("sessions of a run, 1 to 10000", number(int, 1, 10_000), 10_000, "N")
     calls: int = _option("calls of a run, 1 to 1000000", number(int, 1, 1_000_000), 1_000_000, "N")
@@ -121,25 +114,20 @@ class Settings:
         "help": "lets whoever sees the page end the run there", "action": "store_true"})
 
     @property
-    def turns(self) -> int:
-        return math.ceil(self.wait / TURN)
-
-    @property
-    def policy(self) -> list[str]:
-        """The words by which `replay --chains` checks the retries of a run."""
+    def policy(self) -> tuple[str, ...]:
+        """The words of the retries of a run."""
         retry = ("--delay", self.delay) if self.rate is None else ("--rate", self.rate)
-        return [*map(str, retry), "--attempts", str(self.attempts)]
+        return *map(str, retry), "--attempts", str(self.attempts)
 
     def serve_words(self, greeting: str, door: int) -> list[str]:
         """The command that serves a run at a listening socket; `server.start` names its opening and its history."""
-        names = ("port", "workers", "sessions", "calls", "turns", "timer", "silent")
-        said = ((f"--{it}", str(getattr(self, it))) for it in names)
-        return [self.program, "serve", *sum(said, ()), *self.policy, "--socket", str(door), "--until-input-ends",
-                "--attentive", "--greeting", greeting]
+        said = {it: getattr(self, it) for it in ("port", "workers", "sessions", "calls", "timer", "silent")}
+        said |= {"turns": math.ceil(self.wait / TURN), "socket": door, "greeting": greeting}
+        words = [it for name, value in said.items() for it in (f"--{name}", str(value))]
+        return [self.program, "serve", *words, *self.policy, "--until-input-ends", "--attentive"]
 
 
 def parser(doc: str | None) -> argparse.ArgumentParser:
-    """The parser of all arguments."""
     made = parser_of("tools/service", doc, "%(prog)s [--port P] [--folder DIR] [OPTION ..]")
     made.error = lambda message: made.exit(2, f"service: {message}\n")  # type: ignore[assignment,misc]
     retry = made.add_mutually_exclusive_group()
@@ -155,13 +143,10 @@ def parser(doc: str | None) -> argparse.ArgumentParser:
 
 def folder_of(given: str | None, port: int) -> str:
     """Where the runs are kept: as said, where systemd keeps the state of its units, or where users keep theirs."""
-    if given is not None:
-        return os.path.abspath(given)
     state = os.environ.get("XDG_STATE_HOME") or os.path.expanduser("~/.local/state")
-    return os.environ.get("STATE_DIRECTORY") or f"{state}/rb_broker/{port}"
+    return os.path.abspath(given) if given else os.environ.get("STATE_DIRECTORY") or f"{state}/rb_broker/{port}"
 
 
 def settings_of(words: argparse.Namespace, program: str) -> Settings:
-    """The settings that the words of the command line say."""
     said: dict[str, Any] = {**vars(words), "program": program, "folder": folder_of(words.folder, words.port)}
     return Settings(**{it.name: said[it.name] for it in fields(Settings)})

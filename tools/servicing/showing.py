@@ -1,17 +1,17 @@
 """What the service shows of itself: its phase, what it has seen, and what has become of its runs."""
-import contextlib
 import time
+from collections import deque
 from dataclasses import replace
 from typing import Iterator, Sequence
 
 from histories.grammar import MOST_OPENING_ELEMENTS
-from servicing.hour import Hour, Mark
 from servicing.looking import Looks
+from servicing.page import add_mark
 from servicing.runs import Runs
 from servicing.saying import notify, say
 from servicing.settings import Settings
 from servicing.shown import headline
-from servicing.state import LOST_JOBS, LOST_RUN, Alert, Board, Phase, Reason, Run, Traffic
+from servicing.state import ACKNOWLEDGE, LOST_JOBS, LOST_RUN, Alert, Board, Mark, Phase, Reason, Run, Traffic
 from rb_broker_redis.watching.metrics import span_of
 from rb_broker_redis.watching.units import counted
 
@@ -33,10 +33,9 @@ class Showing:
         self.unwritten = 0
         self._raised: dict[str, Alert] = {}  # alerts that the service has raised
         self._counted = Traffic()  # in runs that have ended
-        self._hour = Hour()
+        self._hour: deque[Mark] = deque()
 
     def enter(self, phase: Phase, why: Reason | None = None, **told: object) -> None:
-        """Another phase begins, which a line says."""
         now = time.time()
         closed = None if phase in (Phase.SERVING, Phase.STOPPED) else self._state.closed_since or now
         self._state, self.waits_for = replace(self._state, phase=phase, why=why, since=now, closed_since=closed), ()
@@ -55,79 +54,77 @@ class Showing:
         if self._raised.pop(name, None):
             say("info", f"{name}-over")
 
-    def takes_end(self) -> bool:
-        """Whether somebody has asked for the end of the run on the page since this was asked last."""
-        is_to_end, self._board.is_to_end = self._board.is_to_end, False
-        return is_to_end
+    def is_asked(self, what: str) -> bool:
+        """Whether somebody has asked for something since this was asked last."""
+        is_asked = what in self._board.asked
+        self._board.asked.discard(what)
+        return is_asked
 
     def count(self, offered: int, left: int, failed: int) -> None:
         """Adds what is known of a run that has ended, in the place of what was seen of it."""
-        it, self.looks = self._counted, None
+        self.looks, it = None, self._counted
         self._counted = Traffic(it.offered + offered, it.left + left, it.failed + failed)
 
     def show(self) -> None:
         """Puts the present state on the board, and tells systemd its line."""
-        looks, traffic, runs, last = self.looks, self._counted, self._history.past(), self._history.last
-        if self._board.is_acknowledged:
-            with contextlib.suppress(OSError):  # a full disk: it stays as it is
-                self._history.acknowledge()
-                self._board.is_acknowledged = False
-                say("info", "acknowledged", lost_runs=last.lost if last else 0, lost_jobs=last.lost_jobs if last else 0)
+        if self.is_asked(ACKNOWLEDGE):
+            self._acknowledge()
+        now, looks, runs, (lost_runs, lost_jobs) = time.time(), self.looks, self._history.past(), self._history.lost
+        offered, left, failed = self._counted
         if looks:
-            traffic = traffic._replace(offered=traffic.offered + looks.offered, left=traffic.left + looks.left)
+            offered, left = offered + looks.offered, left + looks.left
         # No counter falls, not even if the end of a run corrects it: that would look like a reset.
-        traffic = Traffic(*(max(pair) for pair in zip(traffic, self._state.traffic)))
-        seen = {it: getattr(looks, it, None) for it in (
-            "queue", "clients", "calls", "offered_a_second", "left_a_second")}
-        queue, now = seen["queue"], time.time()
-        hour = self._hour.add(Mark(now, *traffic, queue.elements if queue else None, queue.late if queue else None))
+        traffic = Traffic(*(max(it) for it in zip((offered, left, failed), self._state.traffic)))
+        seen = {it: getattr(looks, it, None) for it in ("queue", "clients", "calls")}
+        add_mark(self._hour, Mark(now, traffic, seen["queue"]))
         self._state = state = replace(
-            self._state, at=now, hour=hour, waits_for=self.waits_for, run=self.run, traffic=traffic, runs=runs,
-            lost_runs=last.lost if last else 0, lost_jobs=last.lost_jobs if last else 0,
-            alerts=(*self._raised.values(), *self._alerts(runs)), unwritten=self.unwritten, **seen)
+            self._state, at=now, hour=(*self._hour,), waits_for=self.waits_for, run=self.run, traffic=traffic,
+            runs=runs, lost_runs=lost_runs, lost_jobs=lost_jobs, alerts=(*self._raised.values(), *self._alerts(runs)),
+            unwritten=self.unwritten, **seen)
         self._board.put(state)
         # An end takes as long as --stop-within says, and an opening of many elements its time.
         longer = {} if state.phase is Phase.SERVING else {"EXTEND_TIMEOUT_USEC": MORE_TIME}
         notify(STATUS=headline(state), **longer)
 
+    def _acknowledge(self) -> None:
+        try:
+            self._history.acknowledge()
+            say("info", "acknowledged", lost_runs=self._history.lost[0], lost_jobs=self._history.lost[1])
+        except OSError:  # a full disk
+            self._board.asked.add(ACKNOWLEDGE)
+
     def _alerts(self, runs: Sequence[Run]) -> Iterator[Alert]:
-        """Those that follow from what is seen."""
         lost_runs, lost_jobs = self._history.unacknowledged
-        lost = next((it for it in runs if it.is_lost), None)
-        if lost_runs and lost is not None and lost.end is not None:
-            yield Alert(LOST_RUN, f"{lost_text(lost)}; {KNOWN}", lost.end.date)
-        full = next((it for it in runs if it.end and it.end.lost_jobs), None)
+        ended = [(it, it.end) for it in runs if it.end]
+        for run, end in [it for it in ended if lost_runs and it[0].is_lost][:1]:
+            yield Alert(LOST_RUN, f"{lost_text(run)}; {KNOWN}", end.date)
         if lost_jobs:
             text = f"{counted(lost_jobs, 'job')} failed in a full run, could not come back, and are lost; {KNOWN}"
-            yield Alert(LOST_JOBS, text, full.end.date if full and full.end else time.time())
-        if self.looks is not None:
+            yield Alert(LOST_JOBS, text, next((end.date for _, end in ended if end.lost_jobs), time.time()))
+        if self.looks:
             yield from _held_up(self.looks, self._state.workers)
-        run, queue = self.run, self.looks.queue if self.looks else None
-        if run is None:
-            return
-        elements = (queue.elements if queue else run.opening) + run.aside
-        if elements >= MANY_ELEMENTS:
-            aside = f", of which {run.aside:,} wait in a file" if run.aside else ""
-            text = f"{elements:,} elements wait{aside}; a run can begin with {MOST_OPENING_ELEMENTS:,}"
-            yield Alert("many-elements", text, run.date)
+        if self.run:
+            aside, queue = self.run.aside, self.looks.queue if self.looks else None
+            elements = (queue.elements if queue else self.run.opening) + aside
+            if elements >= MANY_ELEMENTS:
+                more = f", of which {aside:,} wait in a file" if aside else ""
+                text = f"{elements:,} elements wait{more}; a run can begin with {MOST_OPENING_ELEMENTS:,}"
+                yield Alert("many-elements", text, self.run.date)
 
 
 def _held_up(looks: Looks, workers: int) -> Iterator[Alert]:
-    """What keeps jobs from getting out."""
     now, queue, served = time.time(), looks.queue, looks.served
     if looks.own.waits > NO_TURN:
         text = f"no worker has served this service for {NO_TURN:g} seconds: what it says of the queue is old"
         yield Alert("no-turn", text, now - looks.own.waits)
     late = queue.late + now - queue.at if queue is not None and queue.elements else 0.0
-    if len(served) >= workers and all(it.silence or it.is_unread or it.has_hung_up for it in served):
-        if looks.waiting_long or late > OVERDUE:
-            yield Alert("all-silent", f"all {workers} workers have clients that say nothing or do not read, while "
-                        f"{'others wait' if looks.waiting_long else 'a job is overdue'}", now - min(
-                            (it.silence for it in served if it.silence), default=0.0))
+    who = "others wait" if looks.waiting_long else "a job is overdue" if late > OVERDUE else ""
+    if who and len(served) >= workers and all(it.silence or it.is_unread or it.has_hung_up for it in served):
+        text = f"all {workers} workers have clients that say nothing or do not read, while {who}"
+        yield Alert("all-silent", text, now - min((it.silence for it in served if it.silence), default=0.0))
 
 
 def lost_text(run: Run) -> str:
     """What the loss of a run means."""
     return (f"run {run.number} was lost after {span_of(run.lasted)}: what was offered, taken and done in it is gone, "
             f"and the next one begins with the same {counted(run.opening, 'element')}")
-

@@ -4,7 +4,7 @@ from typing import Iterator
 
 from servicing.connections import Connection
 from servicing.metrics import numbers
-from servicing.state import Reason, Run, State
+from servicing.state import Run, State
 from rb_broker_redis.watching.metrics import date, span_of, told
 from rb_broker_redis.watching.tables import Table
 from rb_broker_redis.watching.units import counted, number
@@ -13,17 +13,8 @@ MOST_CLIENTS, MOST_RUNS = 32, 100  # that are told one by one
 LATE = 1.0  # seconds from which on lateness is told
 RUN = ("run", "began", "lasted", "at the start", "calls", "left")  # the columns of each run
 
-WHY = {
-    Reason.ASKED: "asked to end", Reason.PAGE: "asked to end on the page", Reason.TIME: "its time was up", Reason.CALLS: "few calls were left",
-    Reason.SESSIONS: "no session was left", Reason.TURNS: "clients waited for a worker",
-    Reason.ELEMENTS: "elements that were set aside had room",
-    Reason.SETTINGS: "failed jobs are to come back otherwise", Reason.KILLED: "lost: its server was killed",
-    Reason.UNKNOWN: "ended while no service was running",
-}
-
 
 def headline(state: State) -> str:
-    """The state in a line."""
     queue = state.queue
     return ", ".join(filter(None, (
         counted(len(state.alerts), "alert") if state.alerts else "", state.phase.value,
@@ -34,12 +25,11 @@ def headline(state: State) -> str:
 
 
 def since(state: State) -> str:
-    why = f" ({WHY[state.why]})" if state.why else ""
+    why = f" ({state.why.text})" if state.why else ""
     return f"{state.phase.value} for {span_of(state.at - state.since)}{why}, as of {date(state.at)} UTC"
 
 
 def attention(state: State) -> list[str]:
-    """What an operator has to know of."""
     return [*(f"{it.text} (since {date(it.since)} UTC)" for it in state.alerts),
             *(f"the service waits: {it}" for it in state.waits_for)]
 
@@ -69,8 +59,9 @@ def _client(it: Connection) -> list[str]:
 
 
 def _present(state: State, run: Run) -> list[str]:
-    used, left = state.calls.used if state.calls else None, state.queue.elements if state.queue else None
-    return _told(run, state.at - run.date, used, left, "still running" if state.is_up else f"it is {state.phase.value}")
+    left = state.queue.elements if state.queue else None
+    says = "still running" if state.is_up else f"it is {state.phase.value}"
+    return _told(run, state.at - run.date, state.calls, left, says)
 
 
 def _run(run: Run) -> list[str]:
@@ -87,7 +78,7 @@ def _says(run: Run) -> Iterator[str]:
     """How a run ended, what clients felt of that, and what was lost."""
     end = run.end
     assert end
-    yield WHY[end.why]
+    yield end.why.text
     if run.is_lost:
         yield f"the next run began with the same {counted(run.opening, 'element')}"
     if end.closed is not None:
@@ -99,7 +90,6 @@ def _says(run: Run) -> Iterator[str]:
 
 
 def text(state: State) -> str:
-    """All of it, for a terminal."""
     lines = [f"port {state.port}: {headline(state)}", since(state), *(f"! {it}" for it in attention(state))]
     for it in tables(state):
         lines += ["", *it.lines]

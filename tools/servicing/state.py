@@ -10,7 +10,6 @@ from typing import Callable, NamedTuple
 
 from servicing.clock import Reading
 from servicing.connections import Connection
-from servicing.hour import Mark
 
 # Nanoseconds in which a server begins to serve, and for each element of its opening.
 SLOWEST_START, SLOWEST_ELEMENT = 10_000_000_000, 100_000
@@ -18,12 +17,13 @@ SLOWEST_START, SLOWEST_ELEMENT = 10_000_000_000, 100_000
 LONGEST = 60.0  # seconds without a new state after which the service is not healthy
 CLOSED = 5.0  # seconds in which no new client is served after which there is an alert
 
-# The alerts that a file can't be written, which is kept in memory and tried again, that no new state comes, and that no
-# new client is served for long.
-DISK, STALE, CLOSED_LONG = "disk", "stale", "closed"
+# Alerts: a file can't be written, which is kept in memory and tried again; no new state comes; no new client is served
+# for long. The last two are of something that is lost for good, and last until somebody acknowledges them.
+DISK, STALE, CLOSED_LONG, LOST_RUN, LOST_JOBS = "disk", "stale", "closed", "lost-run", "lost-jobs"
 
-# Those of something that is lost for good. They last until somebody acknowledges them.
-LOST_RUN, LOST_JOBS = "lost-run", "lost-jobs"
+# What can be asked of a service: to end its run, to end the sessions that a run's end waits for, and to take what was
+# lost as known.
+END, CUT, ACKNOWLEDGE = "end", "cut", "acknowledge"
 
 
 class Phase(Enum):
@@ -37,22 +37,28 @@ class Phase(Enum):
 
 
 class Reason(str, Enum):
-    """Why a run ends."""
+    """Why a run ends, as a word and as people are told."""
 
-    ASKED = "asked"  # SIGTERM or SIGINT
-    PAGE = "page"  # asked for on the page; the next run follows
-    TIME = "time"  # --every
-    CALLS = "calls"  # few are left, or none
-    SESSIONS = "sessions"
-    TURNS = "turns"  # clients wait for a worker for long
-    SETTINGS = "settings"  # a service that was started again has another --delay, --rate or --attempts
-    ELEMENTS = "elements"  # elements that were set aside have room again, or are due
-    KILLED = "killed"  # the server's process ended before its run did: the run is lost
-    UNKNOWN = "unknown"  # it ended in good order while no service was there
+    text: str
+
+    def __new__(cls, word: str, text: str = "") -> "Reason":
+        it = str.__new__(cls, word)
+        it._value_, it.text = word, text
+        return it
+
+    ASKED = "asked", "asked to end"
+    PAGE = "page", "asked to end on the page"
+    TIME = "time", "its time was up"
+    CALLS = "calls", "few calls were left"
+    SESSIONS = "sessions", "no session was left"
+    TURNS = "turns", "clients waited for a worker"
+    SETTINGS = "settings", "failed jobs are to come back otherwise"
+    ELEMENTS = "elements", "elements that were set aside had room"
+    KILLED = "killed", "lost: its server was killed"
+    UNKNOWN = "unknown", "ended while no service was running"
 
 
-@dataclass(frozen=True)
-class Queue:
+class Queue(NamedTuple):
     """The queue at the last look at which the server answered."""
 
     at: float  # when it was looked at
@@ -60,30 +66,21 @@ class Queue:
     late: float  # seconds since the first of them expired: below 0 before that, 0 without one
 
 
-@dataclass(frozen=True)
-class Supply:
-    """Something of which a run has so many. More may be used than was seen."""
-
-    used: int
-    limit: int
-    a_second: float | None  # over the last minute
-
-    @property
-    def lasts(self) -> float | None:
-        """In how many seconds nothing is left at this pace."""
-        return max(self.limit - self.used, 0) / self.a_second if self.a_second else None
-
-
 class Traffic(NamedTuple):
-    """What was counted since this service began, over all its runs.
+    """What was counted since this service began, over all its runs. A job that came back was offered again, and is
+    known as one only when the history of a run is there."""
 
-    The present run is counted by ids, which rise by one for each offer and for each job that comes back: the two can't
-    be told apart before its history is there. So `failed` is that of runs that have ended in good order.
-    """
-
-    offered: int = 0  # elements, a job that came back among them
+    offered: int = 0
     left: int = 0  # elements that were given, removed or cleared
     failed: int = 0  # jobs that came back
+
+
+class Mark(NamedTuple):
+    """What was known at one moment of the last hour."""
+
+    at: float
+    traffic: Traffic
+    queue: Queue | None
 
 
 @dataclass(frozen=True)
@@ -115,11 +112,11 @@ class Run:
     opening: int  # elements that it began with
     aside: int  # elements beyond the 1,000,000 of an opening, which wait in a file
     calls: int  # for which it has room, and so at most as many ids
-    policy: tuple[str, ...]  # the words for `replay --chains`
+    policy: tuple[str, ...]  # the words of its retries
     is_seen: bool = False  # whether the server has shown since when its clock goes
     lost_before: int = 0  # how many runs of the folder were lost before this one
     lost_jobs_before: int = 0  # and how many jobs could not come back
-    follows: str = ""  # `fitting.digest_of` the run that it continues
+    follows: str = ""  # `deciding.digest_of` the run that it continues
     end: End | None = None
 
     @property
@@ -127,38 +124,20 @@ class Run:
         """At which the moment was the opening's, or later. By an earlier one a job could be early in the next run."""
         return self.began if self.is_seen else self.began.after(SLOWEST_START + SLOWEST_ELEMENT * self.opening)
 
-    @property
-    def date(self) -> float:
-        """When it began."""
-        return self.began.date / 1e9
-
-    @property
-    def is_lost(self) -> bool:
-        return self.end is not None and self.end.why is Reason.KILLED
-
-    @property
-    def lost(self) -> int:
-        """How many runs of the folder were lost, this one included."""
-        return self.lost_before + self.is_lost
-
-    @property
-    def lost_jobs(self) -> int:
-        """How many jobs of the folder could not come back, those of this run included."""
-        return self.lost_jobs_before + (self.end.lost_jobs or 0 if self.end else 0)
-
-    @property
-    def has_history(self) -> bool:
-        """Whether its history is kept, of which there can be a report."""
-        return self.end is not None and not self.is_lost
-
-    @property
-    def lasted(self) -> float:
-        """The seconds of one that has ended."""
-        return max(self.end.date - self.date, 0.0) if self.end else 0.0
+    # What its server says to who is let in, and the words by which `replay` checks its history.
+    greeting = property(lambda self: f"RUN {self.number} lost {self.lost_before} at {self.moment}")
+    chains = property(lambda self: ["--chains", *self.policy])
+    # When it began, whether it was lost, and how many runs and jobs of the folder were, those of this run included.
+    date = property(lambda self: self.began.date / 1e9)
+    is_lost = property(lambda self: self.end is not None and self.end.why is Reason.KILLED)
+    lost = property(lambda self: self.lost_before + self.is_lost)
+    lost_jobs = property(lambda self: self.lost_jobs_before + (self.end.lost_jobs or 0 if self.end else 0))
+    # Whether its history is kept, of which there can be a report, and the seconds of a run that has ended.
+    has_history = property(lambda self: self.end is not None and not self.is_lost)
+    lasted = property(lambda self: max(self.end.date - self.date, 0.0) if self.end else 0.0)
 
 
-@dataclass(frozen=True)
-class Alert:
+class Alert(NamedTuple):
     """Something that an operator has to know of or to do, for as long as it is so."""
 
     name: str  # one word or several with hyphens, the same as long as it is the same alert
@@ -182,10 +161,8 @@ class State:
     queue: Queue | None = None
     workers: int = 0  # how many clients can be served at once
     clients: tuple[Connection, ...] | None = None
-    calls: Supply | None = None
+    calls: int | None = None  # that can be used. More may be than was seen
     traffic: Traffic = Traffic()
-    offered_a_second: float | None = None  # over the last minute of the run
-    left_a_second: float | None = None
     runs: tuple[Run, ...] = ()  # those that have ended and are kept, the latest first
     lost_runs: int = 0  # in this folder
     lost_jobs: int = 0  # the same of jobs that could not come back, since their run was full
@@ -193,40 +170,37 @@ class State:
     unwritten: int = 0  # bytes of a file that can't be written, and that are in memory only
     hour: tuple[Mark, ...] = ()  # the last one
 
-    # How many clients have a worker, wait for one, do not read and say nothing.
+    # How many clients have a worker, wait for one, do not read and say nothing, and the longest silence.
     served = property(lambda self: self._count(lambda it: it.is_served))
     waiting = property(lambda self: self._count(lambda it: not it.is_served))
     not_reading = property(lambda self: self._count(lambda it: it.is_unread))
     silent = property(lambda self: self._count(lambda it: it.silence > 0))
+    silence = property(lambda self: None if self.clients is None else max([it.silence for it in self.clients] or [0.0]))
+
+    # The run's id, which no other run of any service has; the last run that has ended, and the last that was lost.
+    run_id = property(lambda self: f"{self.id}-{self.run.number}" if self.run else "")
+    last = property(lambda self: next(iter(self.runs), None))
+    lost = property(lambda self: next((it for it in self.runs if it.is_lost), None))
 
     def _count(self, holds: Callable[[Connection], bool]) -> int | None:
         return None if self.clients is None else sum(map(holds, self.clients))
 
-    @property
-    def silence(self) -> float | None:
-        """The longest silence."""
-        return None if self.clients is None else max((it.silence for it in self.clients), default=0.0)
+    # Elements that were offered and that left a second, in the last minute.
+    offered_a_second = property(lambda self: self._pace(lambda it: it.offered))
+    left_a_second = property(lambda self: self._pace(lambda it: it.left))
 
-    @property
-    def run_id(self) -> str:
-        """The run's, which no other run of any service has."""
-        return f"{self.id}-{self.run.number}" if self.run else ""
+    def _pace(self, count: Callable[[Traffic], int]) -> float | None:
+        """None in the first seconds, in which one more or less would mean too much."""
+        since = next((it for it in self.hour if it.at >= self.at - 60), None)
+        if since is None or self.at - since.at < 5:
+            return None
+        return (count(self.traffic) - count(since.traffic)) / (self.at - since.at)
 
     @property
     def failed_a_second(self) -> float | None:
         """Over the last run that has ended in good order: only then is it known."""
-        it = next((it for it in self.runs if it.end and it.end.failed is not None), None)
-        return it.end.failed / max(it.lasted, 1.0) if it and it.end and it.end.failed is not None else None
-
-    @property
-    def last(self) -> Run | None:
-        """The last run that has ended."""
-        return next(iter(self.runs), None)
-
-    @property
-    def lost(self) -> Run | None:
-        """The last run that was lost."""
-        return next((it for it in self.runs if it.is_lost), None)
+        known = ((it.end.failed, it.lasted) for it in self.runs if it.end and it.end.failed is not None)
+        return next((failed / max(lasted, 1.0) for failed, lasted in known), None)
 
     @property
     def is_up(self) -> bool:
@@ -242,12 +216,11 @@ class State:
 class Board:
     """Holds the latest state. The service's own thread puts it there, and any may look at it."""
 
-    def __init__(self, port: int) -> None:
-        self.put(State(time.time(), port, Phase.STARTING, time.time(), time.time()))
-
-    is_acknowledged = False  # whether somebody has acknowledged what was lost, and the service has not seen that yet
     token = ""  # which a form of the page sends that changes something. Without one nothing can be changed
-    is_to_end = False  # whether somebody has asked for the end of the run there, and the service has not seen that yet
+
+    def __init__(self, port: int) -> None:
+        self.asked: set[str] = set()  # what somebody asks of the service, which has not done it yet
+        self.put(State(time.time(), port, Phase.STARTING, time.time(), time.time()))
 
     def put(self, state: State) -> None:
         self._put, self._state = time.monotonic(), state

@@ -7,7 +7,7 @@ from typing import Any
 from servicing.clock import Reading
 from servicing.opening import Left, Opening, left_in
 from servicing.connections import Connection
-from servicing.state import DISK, Alert, End, Phase, Queue, Reason, Run, State, Supply, Traffic
+from servicing.state import DISK, Alert, End, Mark, Phase, Queue, Reason, Run, State, Traffic
 
 SECOND = 1_000_000_000
 
@@ -49,7 +49,11 @@ FULL_DISK = Alert(DISK, "/var/lib/rb_broker/7011/run-11.txt can't be written: No
                   "bytes are kept in memory", AT - 4000)
 
 
-PRESENT = record(12, began=reading(date=AT - 4000), moment=10**15, next_id=44_000, opening=1200, aside=7)
+# Of a minute ago.
+PAST = Mark(AT - 60, Traffic(600_000 - 74_070, 590_000 - 15, 16_345), None)
+
+PRESENT = record(12, began=reading(date=AT - 4000), moment=10**15, next_id=44_000, opening=1200, aside=7,
+                 calls=1_000_000)
 
 ENDED = record(11, End(AT - 4000.3, Reason.TIME, 250_000, 104_000, 4_000, 103_700, 1200, 0, 0.31),
                began=reading(date=AT - 7600), opening=900)
@@ -63,8 +67,7 @@ def state(**changes: Any) -> State:
     """A service with four clients, and with a run behind it that was lost."""
     usual = State(
         at=AT, port=7011, phase=Phase.SERVING, since=AT - 3999, run=PRESENT, queue=Queue(AT - 1, 1204, 3.25), workers=8,
-        clients=CLIENTS, calls=Supply(400_000, 1_000_000, 12.5), id="abc",
-        traffic=Traffic(600_000, 590_000, 16_345), offered_a_second=1234.5, left_a_second=0.25,
+        clients=CLIENTS, calls=400_000, id="abc", traffic=Traffic(600_000, 590_000, 16_345), hour=(PAST,),
         runs=(ENDED, LOST, HELD), lost_runs=1)
     return dataclasses.replace(usual, **changes)
 
@@ -80,6 +83,6 @@ def troubled_state() -> State:
     return state(
         phase=Phase.ENDING, why=Reason.CALLS, since=AT - 42, clients=CLIENTS[:2] + clients,
         waits_for=tuple(it.name for it in clients[:3]), queue=Queue(AT - 30, 987_654, 86_400.5),
-        calls=Supply(999_990, 1_000_000, 300.0), unwritten=57_000_000, alerts=(
+        calls=999_990, unwritten=57_000_000, alerts=(
             Alert("many-elements", "The queue has 987,654 elements; a run can begin with 1,000,000.", AT - 3600),
             Alert("lost-run", "Run 10 was lost after 23 min: its opening had 900 elements.", AT - 7600), FULL_DISK))

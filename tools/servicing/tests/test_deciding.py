@@ -2,48 +2,63 @@
 import json
 import unittest
 from dataclasses import replace
-from typing import Any
+from typing import Any, NamedTuple
+from unittest import mock
 
-from servicing.deciding import Found, Seen, Start, how_to_start, is_to_cut, runs_to_drop, why_to_end
+from servicing.deciding import Start, how_to_start, is_to_cut, runs_to_drop, why_to_end
 from servicing.folder import record_of, run_in
-from servicing.settings import Keep
-from servicing.state import End, Reason, Supply
-from servicing.tests.support import record
+from servicing.settings import Keep, parser, settings_of
+from servicing.state import End, Queue, Reason
+from servicing.tests.support import SECOND, record
 
 WELL, LOST = End(1000.0, Reason.TIME, 5, 2, 0, 2, 0, 0), End(1000.0, Reason.KILLED)
 
 
-def supply(used: int, limit: int = 1000) -> Supply:
-    return Supply(used, limit, None)
+class Seen(NamedTuple):
+    """What a service has seen of a run of 1,000 calls, and what it has to know beside. It is quiet."""
 
+    calls: int = 0
+    is_closed: bool = False
+    waits: float = 0
+    rate: float = 0
+    served: int = 0
+    elements: int = 5
+    aside: int = 0
+    first_aside: int = 0
+    age: float = 100  # seconds
 
-QUIET = Seen(age=100, every=3600, calls=supply(0), is_full=False, is_closed=False, waits=0, turn_within=30, elements=5,
-             moment=10**12, aside=0, first_aside=0)
+    @property
+    def looks(self) -> Any:
+        queue = Queue(0, self.elements, 0)
+        return mock.Mock(**{**self._asdict(), "served": [None] * self.served}, queue=queue, moment=10**12)
 
 
 class DecidingTest(unittest.TestCase):
     def test_how_to_start(self) -> None:
-        going, served, ended = record(7), Found(True, True, False), Found(False, True, True)
-        for wanted, last, has_history, found in (
-            (Start.GO_ON, going, False, served), (Start.GO_ON, going, False, Found(True, False, False)),
+        def found(has_ended: bool, listens: bool, size: int) -> Any:
+            return mock.Mock(has_ended=has_ended, listens=listens, size=size)
+
+        going, served, ended = record(7), found(False, True, 0), found(True, True, 9)
+        for wanted, last, has_history, server in (
+            (Start.GO_ON, going, False, served), (Start.GO_ON, going, False, found(False, False, 0)),
             (Start.COLLECT, going, False, ended),
-            (Start.COLLECT, going, False, Found(False, True, False)),  # its server was killed, which is found then
-            (Start.AGAIN, going, False, Found(False, False, False)),  # it served nobody
+            (Start.COLLECT, going, False, found(True, True, 0)),  # its server was killed, which is found then
+            (Start.AGAIN, going, False, found(True, False, 0)),  # it served nobody
             (Start.CONTINUE, going, True, ended),  # killed before the memory was let go
             (Start.CONTINUE, record(7, WELL), True, None), (Start.MISSING, record(7, WELL), False, None),
             (Start.AGAIN, record(7, LOST), False, None), (Start.AGAIN, record(7, LOST), False, ended),
             (Start.LOST, going, False, None),
         ):
-            with self.subTest(wanted, found=found):
-                self.assertEqual(how_to_start(last, has_history, found), wanted)
+            with self.subTest(wanted, server=server):
+                self.assertEqual(how_to_start(last, has_history, server), wanted)
 
     def test_why_a_run_ends(self) -> None:
         """By what is different from a quiet run, which goes on."""
-        late, soon = 10**12 + 31 * 10**9, 10**12 + 29 * 10**9
+        late, soon, options = 10**12 + 31 * SECOND, 10**12 + 29 * SECOND, ["--every", "1h", "--turn-within", "30s"]
+        settings = settings_of(parser("").parse_args(options), "program")
         cases: list[tuple[Reason | None, dict[str, Any]]] = [
-            (None, {}), (None, {"calls": supply(899)}), (Reason.CALLS, {"calls": supply(900)}),
-            (Reason.CALLS, {"is_full": True}), (Reason.SESSIONS, {"is_closed": True}),
-            (Reason.TIME, {"age": 3600}), (None, {"age": 3599}),
+            (None, {}), (None, {"calls": 899}), (Reason.CALLS, {"calls": 900}),
+            (Reason.SESSIONS, {"is_closed": True}), (Reason.TIME, {"age": 3600}), (None, {"age": 3599}),
             (Reason.TURNS, {"waits": 30}), (None, {"waits": 29.9}), (None, {"waits": 100, "age": 29}),
             # Elements that were set aside are due, or there is room for many of them.
             (Reason.ELEMENTS, {"aside": 5, "first_aside": soon}), (Reason.ELEMENTS, {"aside": 5, "first_aside": late}),
@@ -54,7 +69,9 @@ class DecidingTest(unittest.TestCase):
         ]
         for wanted, told in cases:
             with self.subTest(told):
-                self.assertEqual(why_to_end(replace(QUIET, **told)), wanted)
+                it = Seen(**told)
+                why = why_to_end(it.looks, record(aside=it.aside), settings, int(it.age * SECOND), it.first_aside)
+                self.assertEqual(why, wanted)
 
     def test_jobs_in_hand_have_their_calls(self) -> None:
         """A run that ends is cut while each job that clients hold can still come back."""
@@ -63,7 +80,8 @@ class DecidingTest(unittest.TestCase):
             (True, 950_000, 1_000_000, 500_000, 16), (False, 940_000, 1_000_000, 500_000, 16),
             (False, 54, 60, 0, 1), (True, 57, 60, 0, 1),
         ):
-            self.assertEqual(is_to_cut(supply(used, limit), a_second, served, 0.1), wanted, (used, served))
+            it = Seen(calls=used, rate=a_second, served=served)
+            self.assertEqual(is_to_cut(it.looks, record(calls=limit), 0.1), wanted, (used, served))
 
     def test_which_runs_are_dropped(self) -> None:
         """The present one and the one before never are."""

@@ -8,7 +8,7 @@ import time
 from pathlib import Path
 
 from common.program import tested_program
-from servicing.site import _asked
+from servicing.http import asked
 from servicing.tests.process import Service, ServiceTest
 
 JOBS = 2000
@@ -139,7 +139,7 @@ class FolderTest(ServiceTest):
         self.off(self.path("runs"), 50)
         service = self.start("--away", "2d")
         self.assertEqual((service.wait("date")["level"], service.all("serving")), ("error", []))
-        self.assertIn("alert", _asked(self.path("runs"), "GET /health")[1].decode())
+        self.assertIn("alert", asked(self.path("runs/status"), "GET /health")[1].decode())
         self.assertEqual(service.stop(), 0)
         with self.serving("--away", "3d"):
             self.assertRegex(self.ask("POLL")[0], "^ITEM .* 1 reminder$")

@@ -9,7 +9,8 @@ import unittest
 from collections.abc import Callable
 from pathlib import Path
 
-from servicing.fitting import Misfit, misfit_in, misfit_of
+from servicing.deciding import Misfit, misfit_in, misfit_of
+from servicing.server import Checked
 from servicing.state import End, Reason
 from servicing.tests.process import ServiceTest
 from servicing.tests.support import left_of, record
@@ -50,7 +51,7 @@ class FittingTest(unittest.TestCase):
             ("left is 1, and was 2 in run 2", {}, End(1.0, Reason.TIME, 2, 1, 0, 1, 2), "d"),
         ):
             run = record(2, end, **{"next_id": 4, "moment": 7000, "opening": 1, **told})
-            self.assertEqual(misfit_of(run, digest, AUDIT, left), wanted)
+            self.assertEqual(misfit_of(run, Checked(AUDIT, left, digest)), wanted)
 
 
 class ChangedTest(ServiceTest):
@@ -118,19 +119,6 @@ class ChangedTest(ServiceTest):
         told = json.loads(path.read_bytes())
         told["end"]["digest"] = "0" * 64
         path.write_text(json.dumps(told), "ascii")
-
-    def test_a_run_of_an_earlier_version(self) -> None:
-        """Its server may still be there, held by another process."""
-        self.begin().kill_all()
-        for it in os.listdir(self.memory):
-            os.unlink(f"{self.memory}/{it}")
-        Path(self.path("runs/keeper")).touch()
-        service = self.start()
-        self.assertEqual((service.end(), self.record(4)["end"]), (1, None))
-        self.assertIn("/keeper is of an earlier version, which may hold run 4: ", service.lines[-1])
-        os.unlink(self.path("runs/keeper"))
-        with self.serving(lost=1):
-            self.has_left(6)
 
     def test_an_opening_that_was_changed(self) -> None:
         """It is wanted when a run was lost."""

@@ -10,7 +10,7 @@ import unittest
 from common.program import TOP
 from servicing.looking import Looks
 from servicing.session import OwnSession, Told
-from servicing.site import _asked
+from servicing.http import asked
 from servicing.state import Queue
 from servicing.tests.process import Client, ServiceTest, until
 from servicing.tests.support import connection, record
@@ -66,7 +66,7 @@ class FullTest(ServiceTest):
             self.assertEqual(self.alert(), (f"rb_broker_lost_jobs_total{{port=\"{self.port}\"}} {jobs}", True))
         with self.serving() as service:
             self.assertEqual(self.alert(), (f"rb_broker_lost_jobs_total{{port=\"{self.port}\"}} {jobs}", True))
-            self.assertIn("are lost; tools/service --acknowledge ends", _asked(self.path("runs"), "GET /")[1].decode())
+            self.assertIn("are lost; tools/service --acknowledge ends", asked(self.path("runs/status"), "GET /")[1].decode())
             words = [sys.executable, "-B", f"{TOP}/tools/service", "--acknowledge", "--folder", self.path("runs")]
             self.assertEqual(subprocess.run(words, check=False).returncode, 0)
             until(lambda: not self.alert()[1], "the alert is over")
@@ -75,7 +75,7 @@ class FullTest(ServiceTest):
 
     def alert(self) -> tuple[str, bool]:
         """The count of lost jobs, and whether there is the alert."""
-        text = _asked(self.path("runs"), "GET /metrics")[1].decode()
+        text = asked(self.path("runs/status"), "GET /metrics")[1].decode()
         count = next(it for it in text.splitlines() if it.startswith("rb_broker_lost_jobs_total"))
         return count, 'name="lost-jobs"' in text
 
@@ -92,14 +92,14 @@ class CallsTest(unittest.TestCase):
         """Of those of which it does there are replies, which are no room for others; and none is counted twice."""
         looks = self.looks()
         looks.see([connection(1, calls=2000, replied=2000 * 5)])
-        self.assertEqual(looks.calls.used, 2000)
+        self.assertEqual(looks.calls, 2000)
         looks.see([connection(2, calls=500, replied=500 * 5)])
-        self.assertEqual(looks.calls.used, 2500, "a client that has left made its calls")
+        self.assertEqual(looks.calls, 2500, "a client that has left made its calls")
         reply = len(f"OFFERED 1000 {10**15}.")
         looks.see([connection(3, calls=9000, replied=1000 * reply)])  # an offer's bytes could be 9 other calls
-        self.assertEqual(looks.calls.used, 2500 + 1000 * reply // 5)
+        self.assertEqual(looks.calls, 2500 + 1000 * reply // 5)
         looks.hear(Told(Queue(0, 1000, 0), 2000, 10**15, 10**15))
-        self.assertEqual(looks.calls.used, 1000 + 2500)
+        self.assertEqual(looks.calls, 1000 + 2500)
 
     def test_the_next_look(self) -> None:
         """Half of what is left is not used up before it."""

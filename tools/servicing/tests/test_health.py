@@ -16,7 +16,7 @@ from rb_broker_redis.watching.units import SECOND
 
 class HealthTest(unittest.TestCase):
     def setUp(self) -> None:
-        runs = mock.Mock(last=None, unacknowledged=(0, 0), **{"past.return_value": ()})
+        runs = mock.Mock(lost=(0, 0), unacknowledged=(0, 0), **{"past.return_value": ()})
         runs.folder.id = "abc"
         self.board = Board(1)
         words = parser("").parse_args(["--workers", "2"])

@@ -36,7 +36,7 @@ class MetricsTest(RoomTest):
             "longest_silence_seconds": 725, "clients_not_reading": 1, 'run_info{run="abc-12"}': 1,
             "offered_total": 600_000, "left_total": 590_000, "failed_total": 16_345,
             "runs_total": 12, "run_start_time_seconds": AT - 4000, "run_opening_elements": 1200, "elements_aside": 7,
-            "run_calls": 400_000, "run_calls_limit": 1_000_000, "run_calls_left_seconds": 48_000,
+            "run_calls": 400_000, "run_calls_limit": 1_000_000,
             "last_run_closed_seconds": 0.31, "last_run_cut_sessions": 0, "last_run_lost_jobs": 0, "lost_runs_total": 1,
             "lost_run_time_seconds": AT - 7600, "lost_run_lasted_seconds": 1400, "lost_run_opening_elements": 900,
             "unwritten_bytes": 0, "lost_jobs_total": 0,

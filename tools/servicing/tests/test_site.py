@@ -12,7 +12,7 @@ from unittest import mock
 
 from checking.testing import RoomTest
 from histories.tests.support import RUN
-from servicing import site
+from servicing import reports
 from servicing import state as served
 from servicing.folder import Unusable
 from servicing.http import short_name
@@ -64,25 +64,30 @@ class PathsTest(RoomTest):
             self.assertIn("\n! the service has found nothing for -1 seconds (since 2026-11-26 08:00:00", health.text)
             self.assertIn('rb_broker_alert{port="7011",name="stale"} 1\n', self.answer("/metrics").text)
 
-
-    def test_the_end_of_a_run(self) -> None:
-        """Nobody can ask for it unless changes are allowed, nor without the token that the page has."""
-        self.assertIsNone(change(self.board, "/end", b"token="))
-        self.assertNotIn("<form", self.answer("/").text)
+    def test_what_is_asked_of_the_service(self) -> None:
+        """Nobody can ask for an end unless changes are allowed, nor without the token that the page has; and nobody but
+        the owner tells that losses are known."""
+        for path in ("/end", "/cut", "/acknowledge"):
+            self.assertIsNone(change(self.board, path, b"token="))
+        self.assertNotIn("token", self.answer("/").text)
         serve_pages(self.board, self.room, None, allows_changes=True)
-        text = self.answer("/").text
-        self.assertIn("form-action 'self'", unescape(text))
-        token = re.findall('name="token" value="([^"]+)"', text)[0]
-        self.assertIsNone(change(self.board, "/", f"token={token}".encode()))
-        for body in (b"", b"token=", b"token=x", b"token=\xff", token.encode()):
-            answer = change(self.board, "/end", body)
-            self.assertEqual((answer and answer.status, self.board.is_to_end), (403, False))
-        self.assertEqual(change(self.board, "/end", f"token={token}".encode()), (303, "", "/"))
-        self.assertTrue(self.board.is_to_end)
+        for phase, what in ((Phase.SERVING, "end"), (Phase.ENDING, "cut"), (Phase.BETWEEN, "end")):
+            self.board.put(state(phase=phase))
+            text = self.answer("/").text
+            token = re.findall(f'action="{what}"><input type="hidden" name="token" value="([^"]+)"', text)[0]
+            for body in (b"", b"token=", b"token=x", b"token=\xff", token.encode()):
+                answer = change(self.board, f"/{what}", body)
+                self.assertEqual((answer and answer.status, self.board.asked), (403, set()))
+            self.assertIsNone(change(self.board, "/", f"token={token}".encode()))
+            self.assertEqual(change(self.board, f"/{what}", f"token={token}".encode()), (303, "", "/"))
+            self.assertEqual(self.board.asked, {what})
+            self.board.asked.clear()
+        self.assertEqual(change(self.board, "/acknowledge", b"", is_owner=True), (204, "", ""))
+        self.assertEqual(self.board.asked, {"acknowledge"})
 
     def test_reports(self) -> None:
         """Of histories of ended runs that are kept, whole, compressed or not."""
-        self.enterContext(mock.patch.object(site, "NICENESS", 0))  # so that other tests do not come first
+        self.enterContext(mock.patch.object(reports, "NICENESS", 0))  # so that other tests do not come first
         self.board.put(state())
         for number in (8, 10, 12):  # of a run that is not kept, of one that was lost, and of the present one
             self.file(f"run-{number}.txt", RUN)
@@ -99,7 +104,7 @@ class PathsTest(RoomTest):
         self.assertIn("<h1>", answer.text)
         self.assertIn("2026-11-26 05:53:20", answer.text, "the run began 7,600 seconds before 08:00:00.5")
         for name, limit, says in (("MOST_SECONDS", 0.05, "timed out"), ("MOST_BYTES", 10, "larger than 10 bytes")):
-            with mock.patch.object(site, name, limit):
+            with mock.patch.object(reports, name, limit):
                 self.assertIn(says, self.answer("/runs/11").text)
         self.assertEqual(self.answer("/runs/11").status, 200, "what failed is tried again")
 
@@ -108,7 +113,8 @@ class PathsTest(RoomTest):
         self.board.put(state())
         self.file("run-11.txt", RUN)
         meanwhile: list[Answer] = []
-        with mock.patch("subprocess.run", side_effect=lambda *_, **told: meanwhile.append(self.answer("/runs/11"))):
+        with mock.patch("subprocess.run", side_effect=lambda *_, **told: (
+                meanwhile.append(self.answer("/runs/11")), mock.DEFAULT)[1]):
             self.answer("/runs/11")
         self.assertEqual(meanwhile, [(503, "text/plain", "another report is being made: try again later\n")])
 

@@ -32,7 +32,6 @@ Numbers
   Elements beyond those that an opening may have, which wait in a file         7
   Calls that the run can have used when last seen                              400,000
   Calls for which the run has room                                             1,000,000
-  Time until no call is left, at the rate of the last minute                   13.3 h
   Time between the last two runs without a server for new clients              310 ms
   Sessions that were cut at the end of the last run                            0
   Jobs of the last run that failed and could not come back                     0

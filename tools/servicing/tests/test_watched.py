@@ -1,12 +1,11 @@
 """A server with clients of every kind, as the service sees them."""
 import json
 import time
-import unittest
 from collections.abc import Callable
 from unittest import mock
 
 from servicing.connections import Connection, look_at
-from servicing.looking import WINDOW, Looks, Pace
+from servicing.looking import Looks
 from servicing.session import OwnSession
 from servicing.tests.process import Client
 from servicing.tests.support import connection, record
@@ -134,27 +133,25 @@ class WatchedTest(ServingTest):
         server, looks = self.watch(2, 5)
         for _ in range(5):
             self.look(looks)
-        self.assertEqual(looks.calls.used, 20)
+        self.assertEqual(looks.calls, 20)
         status, lines, _ = server.end()
         audit = json.loads(lines[1])
         self.assertEqual((status, lines[0]), (0, "sessions 5 faults 0 lost 0"))
         self.assertEqual((audit["calls"], audit["offered"], audit["removed"], audit["left"]), (20, 5, 5, 0))
         _, full = self.watch(2, calls=9)
         self.until(full, lambda: full.own.is_full)
-        self.assertEqual(full.calls.used, 9)
+        self.assertEqual(full.calls, 9)
 
     def test_how_many_calls_are_used(self) -> None:
         server, looks = self.watch(2)
         client = self.ask(server, *["OFFER 0 a", "TAKE"] * 50, f"OFFER {FAR} b")
         self.until(looks, lambda: looks.queue is not None)
-        self.assertEqual((looks.calls.used, looks.calls.limit), (101 + 4, 1000))
+        self.assertEqual(looks.calls, 101 + 4)
         self.assertEqual((looks.offered, looks.left), (51, 50))
         for _ in range(100):
             client.ask("OFFER 0 a")
-        self.until(looks, lambda: looks.calls.a_second)
-        self.assertEqual(looks.calls.used, 201 + looks.own.calls)
-        self.assertGreater(looks.offered_a_second or 0, 0)
-        self.assertEqual(looks.left_a_second, 0)
+        self.until(looks, lambda: looks.offered == 151)
+        self.assertEqual((looks.calls, looks.left), (201 + looks.own.calls, 50))
 
     def test_a_session_that_still_waits_offers_nothing(self) -> None:
         """It is carried out when a worker is free, even if its client has gone, and would leave an element behind."""
@@ -164,14 +161,3 @@ class WatchedTest(ServingTest):
         looks.own.drop()
         client.hang_up()
         self.assertEqual(self.connect(server, "SIZE", "QUIT").greeted().heard(), "SIZE 0")
-
-
-class SeenTest(unittest.TestCase):
-    def test_the_pace_of_the_last_minute(self) -> None:
-        pace = Pace()
-        self.assertIsNone(pace.a_second)
-        for at, number, wanted in ((0, 100, None), (1, 101, None), (10, 150, 5.0), (WINDOW + 10, 150 + 60, 1.0)):
-            pace.add(at, number)
-            self.assertEqual(pace.a_second, wanted)
-        pace.add(WINDOW + 11, 150 + 60)
-        self.assertLess(pace.a_second or 0, 1.0)

@@ -1,0 +1,59 @@
+"""What is told of the histories of runs that have ended, by commands that give way to all others, one at a time: who
+asks meanwhile is told so."""
+import os
+import subprocess
+import sys
+import threading
+from http import HTTPStatus
+from pathlib import Path
+from typing import Callable, Iterable
+
+from servicing.state import Run
+from rb_broker_redis.watching.http import Answer
+
+TOOL = Path(__file__).resolve().parent.parent / "report"
+MOST_SECONDS, MOST_BYTES = 300.0, 16_000_000  # that a report may take
+NICENESS = 15  # the server and its clients come first
+_MAKING = threading.Lock()
+
+
+def report_on(run: Run, folder: str) -> Answer | None:
+    """The report on a run, or why there is none. None if its history is gone."""
+    for history in _histories([run], folder):
+        return _answer("text/html", lambda: _report(run, history))
+    return None
+
+
+def _histories(runs: Iterable[Run], folder: str) -> list[str]:
+    paths = (os.path.join(folder, f"run-{it.number}.txt{end}") for it in runs for end in ("", ".gz"))
+    return [*filter(os.path.exists, paths)]
+
+
+def _answer(kind: str, make: Callable[[], str]) -> Answer:
+    if not _MAKING.acquire(blocking=False):
+        return Answer(HTTPStatus.SERVICE_UNAVAILABLE, "text/plain", "another report is being made: try again later\n")
+    try:
+        return Answer(HTTPStatus.OK, kind, make())
+    except (OSError, subprocess.SubprocessError) as fault:
+        said = str(getattr(fault, "stderr", None) or fault).strip()
+        return Answer(HTTPStatus.INTERNAL_SERVER_ERROR, "text/plain", f"there is no report: {said}\n")
+    finally:
+        _MAKING.release()
+
+
+def _ran(*words: object, given: tuple[int, ...] = ()) -> str:
+    """What a command prints, which ends with this process."""
+    first = ["setpriv", "--pdeathsig", "KILL", "nice", "-n", str(NICENESS)]
+    return subprocess.run(
+        [*first, *map(str, words)], stdin=subprocess.DEVNULL, capture_output=True, encoding="utf-8", errors="replace",
+        timeout=MOST_SECONDS, check=True, pass_fds=given).stdout
+
+
+def _report(run: Run, history: str) -> str:
+    """The page, which is written in memory."""
+    with open(os.memfd_create("report"), encoding="utf-8") as page:
+        _ran(sys.executable, "-B", TOOL, history, "--html", f"/dev/fd/{page.fileno()}", "--began", f"@{run.date:.3f}",
+             "--attempts", run.policy[-1], given=(page.fileno(),))
+        if os.fstat(page.fileno()).st_size > MOST_BYTES:
+            raise OSError(f"it is larger than {MOST_BYTES:,} bytes")
+        return page.read()
