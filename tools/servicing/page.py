@@ -13,6 +13,8 @@ EVERY, LASTS = 10.0, 3600.0  # seconds from one mark to the next at least, and f
 WIDTH, HEIGHT, EDGE = 360, 48, 2  # of a chart, and of what its line leaves free above and below
 
 # What they lead to is in site.py.
+ASK = ('<section id="jobs"><h2>Jobs of ended runs</h2><form method="post" action="jobs"><label>Payload or id '
+       '<input name="word" required></label> <button>Find</button></form></section>\n')
 CHANGE = ('<section id="changes"><h2>Changes</h2><form method="post" action="{}"><input type="hidden" name="token" '
           'value="{}"><button>{}</button></form></section>\n')
 CHANGES = {Phase.SERVING: (END, "End this run now"), Phase.ENDING: (CUT, "End all sessions of this run now")}
@@ -31,7 +33,7 @@ def page(state: State, token: str = "") -> str:
         attention(state), [
             _charts(state.hour),
             *(section(it, linked) if it.heading[0] == "run" else section(it) for it in tables(state)),
-            _change(state, token)], "'self'" if token else "'none'"))
+            ASK, _change(state, token)], "'self'"))
 
 
 def _change(state: State, token: str) -> str:

@@ -1,6 +1,7 @@
 """What is told of the histories of runs that have ended, by commands that give way to all others, one at a time: who
 asks meanwhile is told so."""
 import os
+import re
 import subprocess
 import sys
 import threading
@@ -10,11 +11,19 @@ from typing import Callable, Iterable
 
 from servicing.state import Run
 from rb_broker_redis.watching.http import Answer
+from rb_broker_redis.watching.metrics import date
+from rb_broker_redis.watching.tables import Table
 
 TOOL = Path(__file__).resolve().parent.parent / "report"
 MOST_SECONDS, MOST_BYTES = 300.0, 16_000_000  # that a report may take
+FOUND = ("run", "offered", "id", "origin", "attempt", "payload")
+MOST_FOUND = 100  # in a run, and that are told
 NICENESS = 15  # the server and its clients come first
 _MAKING = threading.Lock()
+
+# What zgrep tells: the run, of an offer its moment, and then the id, the expiry, the origin, the first expiry, the
+# attempt and the payload.
+_LINE = re.compile(r".*/run-(\d+)\.txt(?:\.gz)?:(?:keep|\d+ \d+ (\d+) offer) (\d+) \d+ (\d+) \d+ (\d+) (.*)")
 
 
 def report_on(run: Run, folder: str) -> Answer | None:
@@ -22,6 +31,11 @@ def report_on(run: Run, folder: str) -> Answer | None:
     for history in _histories([run], folder):
         return _answer("text/html", lambda: _report(run, history))
     return None
+
+
+def jobs_named(word: str, runs: Iterable[Run], folder: str) -> Answer:
+    """The elements of runs that have this payload, or this id: each as it was offered, or was there at the start."""
+    return _answer("text/plain", lambda: _jobs(word, {it.number: it for it in runs}, folder))
 
 
 def _histories(runs: Iterable[Run], folder: str) -> list[str]:
@@ -57,3 +71,17 @@ def _report(run: Run, history: str) -> str:
         if os.fstat(page.fileno()).st_size > MOST_BYTES:
             raise OSError(f"it is larger than {MOST_BYTES:,} bytes")
         return page.read()
+
+
+def _jobs(word: str, runs: dict[int, Run], folder: str) -> str:
+    named, rows = re.sub(r"[][\\.*^$]", r"\\\g<0>", word), []
+    form = rf"^\(keep\|[0-9]* [0-9]* [0-9]* offer\) \({named} .*\|.* {named}\)$"
+    histories = _histories(runs.values(), folder)
+    # zgrep fails where nothing is found, which is no fault.
+    said = _ran("sh", "-c", 'zgrep -H -m "$0" -e "$@" || [ $? = 1 ]', MOST_FOUND, form, *histories) if histories else ""
+    for number, moment, id, origin, attempt, payload in _LINE.findall(said)[:MOST_FOUND]:
+        run = runs[int(number)]
+        when = date(run.date + (int(moment) - run.moment) / 1e9) if moment else "before this run"
+        rows.append((number, when, id, origin, attempt, payload))
+    notes = [f"no more than {MOST_FOUND} are told"] if len(rows) == MOST_FOUND else [] if rows else ["none"]
+    return "\n".join(Table(f"Jobs of ended runs of payload or id {word}", FOUND, rows, 6, notes).lines) + "\n"

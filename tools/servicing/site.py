@@ -4,6 +4,7 @@
     /metrics    the numbers, as Prometheus reads them
     /health     the status as text: 200 as long as clients are served, or will be within seconds, and otherwise 503
     /runs/N     the report on a run that has ended
+    /jobs/WORD  the jobs of these runs of a payload or an id; a form of the page leads there
     /end, /cut  what forms of the page ask for with --allow-changes, with the token that it has: to end the run, and to
                 end the sessions that its end waits for
 
@@ -16,19 +17,20 @@ import hmac
 import os
 import secrets
 from http import HTTPStatus
-from urllib.parse import parse_qs
+from urllib.parse import parse_qs, quote, unquote
 
 from servicing.folder import Unusable
 from servicing.http import OwnerServer, asked
 from servicing.metrics import metrics
 from servicing.page import page
-from servicing.reports import report_on
+from servicing.reports import jobs_named, report_on
 from servicing.saying import say
-from servicing.shown import text
+from servicing.shown import MOST_RUNS, text
 from servicing.state import ACKNOWLEDGE, CUT, END, Board
 from rb_broker_redis.watching.http import Answer, HttpServer, is_loopback
 
 SOCKET = "status"  # in the folder
+JOBS = "/jobs"
 
 
 def serve_pages(board: Board, folder: str, http: tuple[str, int] | None, allows_changes: bool = False) -> None:
@@ -62,14 +64,18 @@ def answer_of(board: Board, folder: str, path: str) -> Answer | None:
     if path == "/health":
         return Answer(status if state.is_healthy else HTTPStatus.SERVICE_UNAVAILABLE, "text/plain", text(state))
     kept = [it for it in state.runs if it.has_history]
+    if path.startswith(f"{JOBS}/"):
+        return jobs_named(unquote(path[len(JOBS) + 1:]), kept[:MOST_RUNS], folder)
     return next((report_on(it, folder) for it in kept if path == f"/runs/{it.number}"), None)
 
 
 def change(board: Board, path: str, body: bytes, is_owner: bool = False) -> Answer | None:
-    """Asks for an end, if it is told the token, which only the page tells; and takes what was lost as
+    """Leads to jobs; asks for an end, if it is told the token, which only the page tells; and takes what was lost as
     known, from the owner. None if nothing may be asked."""
     what, said = path.removeprefix("/"), parse_qs(body.decode("ascii", "replace"))
     words = {name: values[0] for name, values in said.items()}
+    if path == JOBS:
+        return Answer(HTTPStatus.SEE_OTHER, text=f"{JOBS}/{quote(words.get('word', '').strip(), safe='')}")
     if is_owner and what == ACKNOWLEDGE:
         board.asked.add(what)
         return Answer(HTTPStatus.NO_CONTENT)

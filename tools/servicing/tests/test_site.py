@@ -9,6 +9,7 @@ import socket
 import unittest
 from html import unescape
 from unittest import mock
+from urllib.parse import quote, urlencode
 
 from checking.testing import RoomTest
 from histories.tests.support import RUN
@@ -118,6 +119,29 @@ class PathsTest(RoomTest):
             self.answer("/runs/11")
         self.assertEqual(meanwhile, [(503, "text/plain", "another report is being made: try again later\n")])
 
+    def test_jobs(self) -> None:
+        """By a whole payload or an id, in histories that are kept, compressed or not, of runs that are listed."""
+        self.board.put(state())
+        for word, path in (("a b", "/jobs/a%20b"), ("x/../y?", "/jobs/x%2F..%2Fy%3F"), ("", "/jobs/")):
+            asked = change(self.board, "/jobs", urlencode({"word": word}).encode())
+            self.assertEqual(asked, (303, "", path))
+        head = "history 3\nopen 4 7000000000 1\n"
+        for number in (8, 10, 11, 12):  # the first is not kept, the second was lost, and the last is the present one
+            self.file(f"run-{number}.txt", f"{head}keep 3 9 2 8 2 re.d\n1 1 8000000000 offer 4 9 4 9 1 red\nend 1\n")
+        with open(self.path("run-9.txt.gz"), "wb") as file:
+            file.write(gzip.compress(f"{head}1 1 7 offer 34 9 4 9 1 4\n2 1 8 take 4\n1 1 9 remove 4 no\nend 3\n".encode()))
+        began, kept = ("2026-11-26", "05:53:28"), "before this run"
+        for word, rows in (
+            ("red", [["11", *began, "4", "4", "1", "red"]]), ("re.d", [["11", *kept.split(), "3", "2", "2", "re.d"]]),
+            ("4", [["11", *began, "4", "4", "1", "red"], ["9", "2026-11-25", "07:00:00", "34", "4", "1", "4"]]),
+            ("3", [["11", *kept.split(), "3", "2", "2", "re.d"]]), ("re", []), ("r[e", []), ("r*", []), ("-v", []), ("\\", []),
+        ):
+            answer = self.answer(f"/jobs/{quote(word, safe='')}")
+            told = answer.text.splitlines()
+            self.assertEqual((answer.status, answer.kind), (200, "text/plain"), answer.text)
+            self.assertEqual(told[0], f"Jobs of ended runs of payload or id {word}")
+            self.assertEqual([it.split() for it in told[2:]] if rows else told[1:], rows or ["  none"])
+
 
 class PageTest(unittest.TestCase):
     def test_links_to_reports(self) -> None:
@@ -126,12 +150,13 @@ class PageTest(unittest.TestCase):
         self.assertEqual(re.findall('<a href="(runs/[0-9]+)">', told), ["runs/11", "runs/9"])
 
     def test_it_loads_nothing_and_changes_nothing(self) -> None:
-        """No script but its own may run."""
+        """No script but its own may run, and its one form asks for jobs."""
         text = unescape(page(troubled_state()))
-        self.assertNotRegex(text, r"\b(src|srcset|data|background)=|<(link|form|input|button|select|iframe)\b")
+        self.assertNotRegex(text, r"\b(src|srcset|data|background)=|<(link|select|iframe)\b")
+        self.assertEqual(re.findall("<form [^>]*>", text), ['<form method="post" action="jobs">'])
         self.assertEqual([text.count(f"<{it}>") for it in ("script", "style", "h1", "main")], [1] * 4)
         self.assertIn(" content=\"default-src 'none'; style-src 'sha256-", text)
-        self.assertRegex(text, r" script-src 'sha256-\S+'; base-uri 'none'; form-action 'none'; connect-src 'self'\">")
+        self.assertRegex(text, r" script-src 'sha256-\S+'; base-uri 'none'; form-action 'self'; connect-src 'self'\">")
         self.assertEqual(text.count("<th "), text.count('<th scope="col">'))
 
     def test_its_mark(self) -> None:
