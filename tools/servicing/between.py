@@ -15,7 +15,7 @@ from servicing.server import Checked, Damaged, Server, checked_file
 from servicing.showing import lost_text
 from servicing.state import End, Phase, Reason, Run
 
-LOOK, TELL = 0.05, 10.0  # seconds from one look whether a server has ended to the next, and until it is said again
+LOOK = 0.05  # seconds from one look whether a server has ended to the next
 
 
 def resumed(parts: Parts) -> Current | Next:
@@ -65,14 +65,12 @@ def _first(parts: Parts) -> Next:
 
 def _await_end(parts: Parts, server: Server) -> None:
     """Waits for a server whose input ended with another service. Raises a `LeftBehind` if an end is asked for."""
-    told = time.monotonic()
+    if not server.has_ended:
+        say("info", "waiting", run=server.run, clients="the server")
     while not server.has_ended:
         if parts.signals.count:
             raise LeftBehind(f"the server of run {server.run} ends; start the service again to save its history")
         parts.signals.wait(LOOK)
-        if time.monotonic() - told >= TELL:
-            told = time.monotonic()
-            say("info", "waiting", run=server.run, clients="the server")
 
 
 def _following(parts: Parts, last: Run, start: Start) -> Next:

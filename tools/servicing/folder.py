@@ -14,17 +14,15 @@ The folder and all in it have to be this user's own, and nobody else's to write.
 """
 import contextlib
 import fcntl
-import gzip
 import json
 import os
 import re
 import secrets
-import shutil
 import stat
 import time
 from dataclasses import asdict, fields
 from pathlib import Path
-from typing import Any, BinaryIO, Callable, Iterable, Iterator, TypeVar
+from typing import Any, Callable, Iterable, TypeVar
 
 from servicing.clock import Reading
 from servicing.state import End, Reason, Run
@@ -85,17 +83,12 @@ class Folder:
         return Path(self.file(name)).read_bytes()
 
     def write(self, name: str, pieces: Iterable[bytes]) -> None:
-        with self._written(name) as file:
-            file.writelines(pieces)
-
-    @contextlib.contextmanager
-    def _written(self, name: str) -> Iterator[BinaryIO]:
-        """A new file that takes the place of one of this name: whoever looks, whenever the machine stops, finds the old
-        one or the new one, whole."""
+        """Writes a file that takes the place of one of this name: whoever looks, whenever the machine stops, finds the
+        old one or the new one, whole."""
         new = self.file(f"{name}.new")
         try:
             with open(new, "wb", opener=lambda path, flags: os.open(path, flags | os.O_NOFOLLOW, 0o600)) as file:
-                yield file
+                file.writelines(pieces)
                 file.flush()
                 os.fsync(file.fileno())
             os.rename(new, self.file(name))
@@ -127,14 +120,6 @@ class Folder:
         path = self.history(number)
         if path is not None:
             os.rename(path, self.file(os.path.basename(path).replace("run", "damaged", 1)))
-
-    def compress(self, number: int) -> None:
-        """Puts a compressed history in the place of one."""
-        name = f"run-{number}.txt"
-        with contextlib.suppress(FileNotFoundError), open(self.file(name), "rb") as text:
-            with self._written(f"{name}.gz") as file, gzip.GzipFile("", "wb", 6, file) as packed:
-                shutil.copyfileobj(text, packed, 1 << 18)
-            self.remove(name)
 
     def drop(self, number: int) -> None:
         for it in Path(self.path).glob(f"*-{number}.*"):

@@ -39,8 +39,9 @@ def jobs_named(word: str, runs: Iterable[Run], folder: str) -> Answer:
 
 
 def _histories(runs: Iterable[Run], folder: str) -> list[str]:
-    paths = (os.path.join(folder, f"run-{it.number}.txt{end}") for it in runs for end in ("", ".gz"))
-    return [*filter(os.path.exists, paths)]
+    """The histories of runs. One that is being compressed is there twice, at last whole."""
+    both = ([os.path.join(folder, f"run-{it.number}.txt{end}") for end in ("", ".gz")] for it in runs)
+    return [found[0] for paths in both if (found := [*filter(os.path.exists, paths)])]
 
 
 def _answer(kind: str, make: Callable[[], str]) -> Answer:

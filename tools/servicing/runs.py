@@ -6,6 +6,7 @@ killed in between finds by `deciding.how_to_start` what is left to do.
 """
 import contextlib
 import os
+import subprocess
 import threading
 import time
 from dataclasses import dataclass, field, replace
@@ -19,7 +20,6 @@ from servicing.server import Server
 from servicing.settings import Keep, Settings
 from servicing.state import Run
 
-LOW_PRIORITY = 10
 ACKNOWLEDGED = "acknowledged"  # a file of the folder: how many lost runs and lost jobs are
 _TIDYING = threading.Lock()
 
@@ -157,8 +157,8 @@ class Runs:
         self.records[record.number] = record
 
     def tidy(self, keep: Keep) -> None:
-        """Compresses the histories of all runs that have ended, and drops those that are kept no longer, on a thread of
-        its own that goes behind everybody else."""
+        """Has the histories of all runs that have ended compressed, and drops those that are kept no longer, on a
+        thread of its own."""
         ended = [it.number for it in self.records.values() if it.end is not None and it.number > self._tidied]
         self._tidied = max(ended, default=self._tidied)
         dropped = runs_to_drop(sorted(self.records.values(), key=lambda it: it.number), keep, time.time())
@@ -167,16 +167,15 @@ class Runs:
         threading.Thread(target=self._tidy, args=(ended, dropped), daemon=True).start()
 
     def _tidy(self, ended: list[int], dropped: list[int]) -> None:
-        with contextlib.suppress(OSError):
-            os.setpriority(os.PRIO_PROCESS, threading.get_native_id(), LOW_PRIORITY)
         with _TIDYING:
             for number in dropped:
                 self.folder.drop(number)
             for number in ended:
                 self.folder.remove(f"opening-{number}.txt")
                 self.folder.remove(f"aside-{number}.txt")
-                with contextlib.suppress(OSError):  # a full disk: it stays as it is
-                    self.folder.compress(number)
+                if os.path.exists(path := self.folder.file(f"run-{number}.txt")):  # which stays if the disk is full
+                    words = ["nice", "gzip", "-qf", "--synchronous", path]
+                    subprocess.run(words, stderr=subprocess.DEVNULL, check=False)
 
 
 def left_of(path: str) -> Left:
