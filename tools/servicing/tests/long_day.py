@@ -1,5 +1,6 @@
 """A day of a service with a ledger: 16 clients that are busy and 8 that come all the time, a rollover every few
-seconds, and kills of the service in each of its states, of its server, and of both. RB_BROKER_DAY is its seconds."""
+seconds, and kills of the service in each of its states, of its server, and of both. RB_BROKER_DAY is its seconds; in
+one of many minutes rollovers and kills come every 20 seconds."""
 import contextlib
 import os
 import random
@@ -14,7 +15,8 @@ from servicing.tests.store import Store
 
 SECONDS = float(os.environ.get("RB_BROKER_DAY", "100"))
 STATES = ("serving", "ending", "between-runs", "saved", "service")
-WORK, DELAY, PAUSE = 0.04, 2.0, 4.0  # seconds: the longest job and delay, and about that from one kill to the next
+EVERY, PAUSE = (20, 20.0) if SECONDS >= 600 else (5, 4.0)  # seconds of a run, and about that between two kills
+WORK, DELAY = 0.04, 2.0  # seconds: the longest job and the longest delay
 
 
 @dataclass
@@ -73,7 +75,7 @@ class Customer:
 
 
 class DayTest(ServiceTest):
-    OPTIONS = ("--every", "5s", "--turn-within", "2s", "--delay", "0s", "--stop-within", "10s", "--attempts", "1000")
+    OPTIONS = ("--every", f"{EVERY}s", "--turn-within", "2s", "--delay", "0s", "--stop-within", "10s", "--attempts", "1000")
 
     def test_rollovers_alone(self) -> None:
         services, them = self.day(None, ())
@@ -111,7 +113,7 @@ class DayTest(ServiceTest):
     def kill(self, services: list[Service], what: str, state: str, store: Store | None) -> None:
         service = services[-1]
         with contextlib.suppress(AssertionError):
-            service.wait(state, len(service.all(state)) + 1, patience=7)
+            service.wait(state, len(service.all(state)) + 1, patience=EVERY + 2)
         if what != "service":
             for it in service.servers:
                 with contextlib.suppress(OSError):
