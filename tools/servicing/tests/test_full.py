@@ -66,7 +66,8 @@ class FullTest(ServiceTest):
             self.assertEqual(self.alert(), (f"rb_broker_lost_jobs_total{{port=\"{self.port}\"}} {jobs}", True))
         with self.serving() as service:
             self.assertEqual(self.alert(), (f"rb_broker_lost_jobs_total{{port=\"{self.port}\"}} {jobs}", True))
-            self.assertIn("are lost; tools/service --acknowledge ends", asked(self.path("runs/status"), "GET /")[1].decode())
+            page = asked(self.path("runs/status"), "GET /")[1].decode()
+            self.assertIn("are lost; tools/service --acknowledge ends", page)
             words = [sys.executable, "-B", f"{TOP}/tools/service", "--acknowledge", "--folder", self.path("runs")]
             self.assertEqual(subprocess.run(words, check=False).returncode, 0)
             until(lambda: not self.alert()[1], "the alert is over")

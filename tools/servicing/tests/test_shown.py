@@ -14,10 +14,11 @@ from unittest import mock
 from checking.testing import run_tool
 from common.program import tested_program
 from servicing.saying import notify
-from servicing.tests.process import ServiceTest, until
+from servicing.tests.process import Client, ServiceTest, until
 from servicing.tests.test_metrics import PROMTOOL, promtool
 from serving.server import free_port
 
+FAR = 3_600_000_000_000
 PATIENCE = 120  # for a report, which gives way to all other processes
 
 
@@ -68,14 +69,39 @@ class ShownTest(ServiceTest):
         self.assertRaises(ConnectionRefusedError, self.get, "/health")
         self.assertEqual(self.status().returncode, 1)
 
+    def post(self, path: str, body: str) -> tuple[int, str]:
+        """The status, and where the answer leads."""
+        with contextlib.closing(http.client.HTTPConnection("127.0.0.1", self.page, timeout=PATIENCE)) as it:
+            it.request("POST", path, body)
+            answer = it.getresponse()
+            return answer.status, answer.getheader("Location", "")
+
     def test_a_run_is_ended_on_the_page(self) -> None:
-        with self.serving("--allow-changes", "--http", f"127.0.0.1:{self.page}") as service:
+        """And then a client that holds it up, whose job comes back in the next run."""
+        options = "--allow-changes", "--http", f"127.0.0.1:{self.page}", "--delay", "0s", "--stop-within", "1h"
+        with self.serving(*options) as service, Client(self.port) as it:
+            self.assertRegex(it.greeted().ask("OFFER 0 held"), "^OFFERED ")
+            self.assertRegex(it.ask("TAKE"), "^ITEM ")
             token = re.findall('name="token" value="([^"]+)"', self.get("/")[1])[0]
-            with contextlib.closing(http.client.HTTPConnection("127.0.0.1", self.page, timeout=PATIENCE)) as it:
-                it.request("POST", "/end", f"token={token}")
-                self.assertEqual(it.getresponse().status, 303)
+            self.assertEqual(self.post("/end", f"token={token}"), (303, "/"))
+            service.wait("ending")
+            until(lambda: 'action="cut"' in self.get("/")[1], "the end can be hastened")
+            self.assertEqual((self.post("/cut", f"token={token}"), it.rest()), ((303, "/"), b""))
             service.wait("serving", 2)
             self.assertEqual([it["why"] for it in service.all("ending")], ["page"])
+            self.assertEqual(service.all("cut")[0]["clients"], f"client {it.own_port}")
+            self.assertRegex(self.ask("TAKE")[0], "^ITEM [0-9]+ [0-9]+ 2 held$")
+        self.assertEqual(len(service.all("saved")), 2)
+
+    def test_jobs_of_ended_runs(self) -> None:
+        with self.serving("--http", f"127.0.0.1:{self.page}", "--every", "1s") as service:
+            self.offer(3, delay=FAR, name="mail")
+            service.wait("serving", 2)
+            self.assertEqual(self.post("/jobs", "word=mail-1"), (303, "/jobs/mail-1"))
+            until(lambda: " mail-1" in self.get("/jobs/mail-1")[1].partition("\n")[2], "the job is found")
+            status, text = self.get("/jobs/mail-1")
+            self.assertRegex(text.splitlines()[-1], "^  1 .* 1  +mail-1$")
+            self.assertEqual((status, self.get("/jobs/mail")[1].splitlines()[1:]), (200, ["  none"]))
 
     def test_an_address_that_can_not_be_had(self) -> None:
         self.enterContext(socket.create_server(("127.0.0.1", self.page)))

@@ -21,8 +21,8 @@ from servicing.metrics import metrics
 from servicing.page import page
 from servicing.shown import text
 from servicing.site import answer_of, change, print_status, serve_pages
-from servicing.state import Board, Phase
-from servicing.tests.support import ENDED, FULL_DISK, HELD, LOST, connection, first_state, state, troubled_state
+from servicing.state import Alert, Board, Phase
+from servicing.tests.support import AT, ENDED, FULL_DISK, HELD, LOST, connection, first_state, state, troubled_state
 from rb_broker_redis.watching.http import Answer
 
 
@@ -129,12 +129,14 @@ class PathsTest(RoomTest):
         for number in (8, 10, 11, 12):  # the first is not kept, the second was lost, and the last is the present one
             self.file(f"run-{number}.txt", f"{head}keep 3 9 2 8 2 re.d\n1 1 8000000000 offer 4 9 4 9 1 red\nend 1\n")
         with open(self.path("run-9.txt.gz"), "wb") as file:
-            file.write(gzip.compress(f"{head}1 1 7 offer 34 9 4 9 1 4\n2 1 8 take 4\n1 1 9 remove 4 no\nend 3\n".encode()))
+            text = f"{head}1 1 7 offer 34 9 4 9 1 4\n2 1 8 take 4\n1 1 9 remove 4 no\nend 3\n"
+            file.write(gzip.compress(text.encode()))
         began, kept = ("2026-11-26", "05:53:28"), "before this run"
         for word, rows in (
             ("red", [["11", *began, "4", "4", "1", "red"]]), ("re.d", [["11", *kept.split(), "3", "2", "2", "re.d"]]),
             ("4", [["11", *began, "4", "4", "1", "red"], ["9", "2026-11-25", "07:00:00", "34", "4", "1", "4"]]),
-            ("3", [["11", *kept.split(), "3", "2", "2", "re.d"]]), ("re", []), ("r[e", []), ("r*", []), ("-v", []), ("\\", []),
+            ("3", [["11", *kept.split(), "3", "2", "2", "re.d"]]),
+            *((it, []) for it in ("re", "r[e", "r*", "-v", "\\")),
         ):
             answer = self.answer(f"/jobs/{quote(word, safe='')}")
             told = answer.text.splitlines()
@@ -162,7 +164,8 @@ class PageTest(unittest.TestCase):
     def test_its_mark(self) -> None:
         for it, kind in ((state(), "good"), (state(phase=Phase.ENDING), "fair"), (first_state(), "fair"),
                          (state(phase=Phase.BETWEEN), "fair"), (state(phase=Phase.STOPPED), "bad"),
-                         (state(alerts=(FULL_DISK,)), "bad"), (troubled_state(), "bad")):
+                         (state(alerts=(FULL_DISK,)), "bad"), (troubled_state(), "bad"),
+                         *((state(alerts=(Alert(it, "", AT),)), "bad") for it in ("lost-run", "lost-jobs"))):
             self.assertIn(f'<section id="state" class="{kind}">', page(it))
 
 
