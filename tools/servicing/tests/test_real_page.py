@@ -1,0 +1,103 @@
+"""The page of a service that really runs, in a browser. RB_BROKER_DAY is for how many seconds it does, and
+RB_BROKER_PICTURE names a file that gets a picture of the page: docs/service.png is one of an hour.
+
+    RB_BROKER_DAY=3600 RB_BROKER_PICTURE=docs/service.png dev/check service --only test_real_page
+"""
+import contextlib
+import os
+import random
+import re
+import shutil
+import subprocess
+import threading
+import time
+from pathlib import Path
+
+from reporting.tests.support import PageTest
+from serving.server import free_port
+from servicing.tests.process import Client, ServiceTest
+
+SECONDS = float(os.environ.get("RB_BROKER_DAY", "24"))
+WIDTH, HEIGHT, COLORS = 1100, 1500, "64"
+
+# What the charts, the tables and the form show.
+CHARTS = "[...document.querySelectorAll('#hour svg')].map((it) => it.getAttribute('aria-label'))"
+CLIENTS = "document.querySelectorAll('#clients tbody tr').length"
+LINKS = "[...document.querySelectorAll('#runs a')].map((it) => it.getAttribute('href'))"
+LIVE = "document.querySelector('#attention').getAttribute('aria-live')"
+TEXT = "document.body.innerText"
+
+
+class RealPageTest(PageTest, ServiceTest):
+    def test_a_run_and_what_is_asked_of_it(self) -> None:
+        """Reminders that are due after a while, workers that fail one in twenty, and a client that says nothing."""
+        page, every = free_port(), max(SECONDS / 6, 4)
+        options = "--every", f"{every:.0f}s", "--delay", "2s", "--http", f"127.0.0.1:{page}", "--allow-changes"
+        service, is_over = self.begin(*options), threading.Event()
+        them = self.offers, self.works, self.works
+        threads = [threading.Thread(target=it, args=(is_over,), daemon=True) for it in them]
+        for thread in threads:
+            thread.start()
+        with Client(self.port):
+            time.sleep(SECONDS)
+            self.browser.prefer("light")
+            self.browser.go("about:blank")
+            self.browser.go(f"http://127.0.0.1:{page}/")
+            self.looks_right(len(service.all("saved")))
+            self.take_picture()
+        is_over.set()
+        for thread in threads:
+            thread.join()
+        self.asks_for_a_job()
+        self.assertEqual(self.browser.complaints, [])
+        self.browser.go("about:blank")
+        self.ends(service)
+
+    def offers(self, is_over: threading.Event) -> None:
+        chance, number = random.Random(1), 0
+        while not is_over.is_set():
+            with contextlib.suppress(OSError, EOFError), Client(self.port) as it:
+                it.greeted()
+                while not is_over.wait(chance.expovariate(3)):
+                    number += 1
+                    it.ask(f"OFFER {int(chance.triangular(0, 20, 2) * 1e9)} reminder-{number}")
+
+    def works(self, is_over: threading.Event) -> None:
+        chance = random.Random(2)
+        while not is_over.is_set():
+            with contextlib.suppress(OSError, EOFError), Client(self.port) as it:
+                it.greeted()
+                while not is_over.is_set():
+                    words = it.ask("TAKE").split(" ")
+                    if words[0] == "ITEM":
+                        it.ask(f"{'FAIL' if chance.random() < 0.05 else 'DONE'} {words[1]}")
+
+    def looks_right(self, ended: int) -> None:
+        self.shows(f"{CHARTS}.map((it) => it.split(':')[0])", [
+            "Offered a second", "Given, removed or cleared a second", "Failures a second, told when a run ends",
+            "Elements in the queue", "Lateness of the first"])
+        charts = self.browser.value(CHARTS)
+        self.assertRegex(charts[0], r": \d+\.\d\d, at most [1-9]")
+        self.assertGreaterEqual(self.browser.value(CLIENTS), 1)
+        links = [f"runs/{it}" for it in range(ended, 0, -1)]
+        self.assertIn(links, (self.browser.value(LINKS), self.browser.value(LINKS)[1:]))
+        self.assertEqual(self.browser.value(LIVE), "polite")
+        self.assertRegex(self.browser.value("document.title"), rf"^serving, run \d+, .*: rb_broker {self.port}$")
+
+    def take_picture(self) -> None:
+        path = os.environ.get("RB_BROKER_PICTURE")
+        if path:
+            made = self.browser.picture(WIDTH, HEIGHT)
+            if shutil.which("pngquant"):
+                made = subprocess.run(["pngquant", COLORS, "-"], input=made, stdout=subprocess.PIPE, check=True).stdout
+            Path(path).write_bytes(made)
+
+    def asks_for_a_job(self) -> None:
+        """By the page's form, as somebody who types a payload."""
+        self.browser.value("document.querySelector('#jobs input').focus()")
+        self.browser.type("reminder-1")
+        end = time.monotonic() + 30
+        while not (told := self.browser.value(TEXT)).startswith("Jobs of ended runs of payload or id reminder-1\n"):
+            self.assertLess(time.monotonic(), end, told)
+            time.sleep(0.1)
+        self.assertTrue(re.search(r"^ +1 .* 1 +reminder-1$", told, re.M), told)
