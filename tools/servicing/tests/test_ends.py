@@ -46,6 +46,25 @@ class EndsTest(ServiceTest):
         with self.serving("--delay", "0s"):
             self.assertRegex(self.ask("TAKE")[0], ITEM.format(2, "held"))
 
+    def test_it_cuts_who_always_holds_a_job(self) -> None:
+        """It polls for the next one before it is done with one. A wait would get none while the run ends."""
+        service, it = self.begin("--stop-within", "3s", "--delay", "0s"), self.client()
+        it.send(*(f"OFFER 0 job-{number}" for number in range(5)), "POLL")
+        held = [it.line() for _ in range(6)][-1].split(" ")[1]
+        service.process.send_signal(signal.SIGTERM)
+        service.wait("ending")
+        time.sleep(1)  # in which the server has heard of it
+        self.assertEqual(it.ask("TAKE"), "STOPPED")
+        began, given = time.monotonic(), 1
+        while (words := it.ask("POLL").split(" "))[0] == "ITEM" and it.ask(f"DONE {held}") == f"DONE {held}":
+            it.ask(f"OFFER 0 more-{words[1]}")
+            held, given = words[1], given + 1
+            time.sleep(0.1)
+        self.assertGreater(given, 5)
+        self.assertLess(time.monotonic() - began, 20)
+        self.assertEqual((service.end(), service.all("cut")[0]["clients"]), (0, f"client {it.own_port}"))
+        self.assertEqual(service.all("saved")[0]["left"], "5")
+
     def test_a_second_signal_cuts_at_once(self) -> None:
         service, _ = self.begin(), self.holder()
         service.process.send_signal(signal.SIGTERM)
