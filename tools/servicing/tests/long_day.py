@@ -75,7 +75,8 @@ class Customer:
 
 
 class DayTest(ServiceTest):
-    OPTIONS = ("--every", f"{EVERY}s", "--turn-within", "2s", "--delay", "0s", "--stop-within", "10s", "--attempts", "1000")
+    OPTIONS = ("--every", f"{EVERY}s", "--turn-within", "2s", "--delay", "0s", "--stop-within", "10s",
+               "--attempts", "1000")
 
     def test_rollovers_alone(self) -> None:
         services, them = self.day(None, ())

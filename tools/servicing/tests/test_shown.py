@@ -64,7 +64,8 @@ class ShownTest(ServiceTest):
         shown = self.status()
         self.assertEqual((shown.returncode, shown.stderr), (0, ""))
         # On a busy machine a second one is that new clients wait.
-        self.assertRegex(shown.stdout, rf"^port {self.port}: [12] alerts?, [a-z ]+, run [0-9]+, 20 elements, .*1 lost run")
+        says = rf"^port {self.port}: [12] alerts?, [a-z ]+, run [0-9]+, 20 elements, .*1 lost run"
+        self.assertRegex(shown.stdout, says)
         self.assertEqual(service.stop(), 0)
         self.assertRaises(ConnectionRefusedError, self.get, "/health")
         self.assertEqual(self.status().returncode, 1)
