@@ -28,6 +28,40 @@ class RolloversTest(ServiceTest):
             self.assertGreater(runs, ROLLOVERS)
 
 
+class MomentsTest(ServiceTest):
+    """What a moment is behind real time, and how that changes from run to run."""
+
+    ASKED = 20  # times, in each run
+    MOST = 0.005  # seconds by which a rollover may add to it
+
+    def test_a_rollover_loses_no_time(self) -> None:
+        """It adds the time in which a server starts, and never takes any away: no job is early."""
+        behind: dict[str, tuple[float, float]] = {}
+        with self.serving("--every", "1s") as service:
+            while len(behind) <= 3 * ROLLOVERS:
+                with contextlib.suppress(OSError, EOFError, ValueError), Session(self.port) as it:  # which a run ends
+                    run = it.line().split(" ")[1]
+                    told = [self.behind(it) for _ in range(self.ASKED)]
+                    behind[run] = max(it[0] for it in told), min(it[1] for it in told)
+                    it.ask("QUIT")
+                service.wait("serving", len(behind) + 1)
+        first, *others = behind.values()
+        added = [(now[0] - before[0]) for before, now in zip([first, *others], others)]
+        print(f"\nbehind by {sum(added) / len(added) * 1e3:.2f} ms more at each of {len(added)} rollovers, at most "
+              f"{max(added) * 1e3:.2f} ms, at least {min(added) * 1e3:.2f} ms")
+        for (least, _), (_, most) in zip([first, *others], others):
+            self.assertGreaterEqual(most, least, "a moment is not earlier than it was told before")
+        self.assertLess(sum(added) / len(added), self.MOST)
+
+    def behind(self, it: Session) -> tuple[float, float]:
+        """The seconds at the least and at the most, by when the request was sent and when its reply came."""
+        before = time.monotonic()
+        id, expiry = map(int, it.ask("OFFER 0 x").split(" ")[1:])
+        after = time.monotonic()
+        it.ask(f"REMOVE {id}")
+        return before - expiry / 1e9, after - expiry / 1e9
+
+
 class WithoutServerTest(ServiceTest):
     WITHOUT = 60
 
