@@ -14,6 +14,7 @@ from serving.server import free_port
 from servicing.tests.process import Client
 
 OPTIONS = 'RB_BROKER_OPTIONS="--stop-within 1s --delay 0s {}"\n'
+PATIENCE = 60  # seconds
 # Triggers of other packages, such as an index of all manual pages, would take most of the time.
 DPKG = ["dpkg", "--force-depends", "--force-unsafe-io", "--no-triggers"]
 
@@ -74,6 +75,15 @@ class Service:
         self.machine.run("journalctl", "--sync")
         heard, self._heard = self._heard, self.machine.run("journalctl", "--output=cat", "-u", self.name).said
         return self._heard[len(heard):]
+
+
+    def awaited(self, text: str) -> str:
+        """The same once it has a text, which a busy machine may take long for."""
+        heard, end = self.journal(), time.monotonic() + PATIENCE
+        while text not in heard and time.monotonic() < end:
+            time.sleep(0.2)
+            heard += self.journal()
+        return heard
 
 
 def cuts_in(journal: str) -> int:
@@ -137,13 +147,14 @@ def try_restarts(service: Service) -> None:
             run = it.greeted().greeting.split(" ")[1]
             id = it.ask("OFFER 0 held") and it.ask("TAKE").split(" ")[1]
             service.machine.run("systemctl", "kill", "--kill-who=main", "--signal=KILL", service.name)
-            time.sleep(3)
+            journal = service.awaited('how="go on"')
             replies = it.ask(f"DONE {id}"), service.ask()[0]
             it.ask("QUIT")
-        journal = service.journal()
         is_right = replies[0] == f"DONE {id}" and replies[1].startswith(f"RUN {run} ") and 'how="go on"' in journal
         service.expect("a service that is killed", is_right, replies, run, journal)
-        told = service.machine.run("systemctl", "is-active", service.name)
+        told, end = DONE, time.monotonic() + PATIENCE
+        while told.said != "active\n" and time.monotonic() < end:
+            told = service.machine.run("systemctl", "is-active", service.name)
         service.expect("a service that is killed is started again", told.said == "active\n", told)
     is_right = not comers.faults and len(comers.greetings) > 100 and " event=lost-run " not in service.journal()
     service.expect("clients over restarts and a kill", is_right, comers.faults, len(comers.greetings))
