@@ -89,7 +89,8 @@ class Service:
 
     @property
     def server(self) -> int:
-        """The process of the server that serves now."""
+        """The process of the server that serves now, or of the next one between two runs."""
+        until(lambda: len(self.servers) == 1, "there is a server")
         (found,) = self.servers
         return found
 
