@@ -11,7 +11,7 @@ from servicing.runs import Runs
 from servicing.saying import notify, say
 from servicing.settings import Settings
 from servicing.shown import headline
-from servicing.state import ACKNOWLEDGE, LOST_JOBS, LOST_RUN, Alert, Board, Mark, Phase, Reason, Run, Traffic
+from servicing.state import ACKNOWLEDGE, CUT, END, LOST_JOBS, LOST_RUN, Alert, Board, Mark, Phase, Reason, Run, Traffic
 from rb_broker_redis.watching.metrics import span_of
 from rb_broker_redis.watching.units import counted
 
@@ -37,6 +37,7 @@ class Showing:
 
     def enter(self, phase: Phase, why: Reason | None = None, **told: object) -> None:
         now = time.time()
+        self._board.asked -= {CUT, END}  # which were of the phase before
         closed = None if phase in (Phase.SERVING, Phase.STOPPED) else self._state.closed_since or now
         self._state, self.waits_for = replace(self._state, phase=phase, why=why, since=now, closed_since=closed), ()
         say("info", phase.value.replace(" ", "-"), run=self.run.number if self.run else None,

@@ -78,20 +78,23 @@ class ShownTest(ServiceTest):
             return answer.status, answer.getheader("Location", "")
 
     def test_a_run_is_ended_on_the_page(self) -> None:
-        """And then a client that holds it up, whose job comes back in the next run."""
+        """And then a client that holds it up, whose job comes back in the next run. What is asked twice, or at another
+        time, does nothing to that."""
         options = "--allow-changes", "--http", f"127.0.0.1:{self.page}", "--delay", "0s", "--stop-within", "1h"
         with self.serving(*options) as service, Client(self.port) as it:
             self.assertRegex(it.greeted().ask("OFFER 0 held"), "^OFFERED ")
             self.assertRegex(it.ask("TAKE"), "^ITEM ")
             token = re.findall('name="token" value="([^"]+)"', self.get("/")[1])[0]
-            self.assertEqual(self.post("/end", f"token={token}"), (303, "/"))
+            self.assertEqual([self.post(it, f"token={token}") for it in ("/cut", "/end")], [(303, "/")] * 2)
             service.wait("ending")
             until(lambda: 'action="cut"' in self.get("/")[1], "the end can be hastened")
+            self.assertEqual((self.post("/end", f"token={token}"), it.ask("SIZE")), ((303, "/"), "SIZE 0"))
             self.assertEqual((self.post("/cut", f"token={token}"), it.rest()), ((303, "/"), b""))
             service.wait("serving", 2)
             self.assertEqual([it["why"] for it in service.all("ending")], ["page"])
             self.assertEqual(service.all("cut")[0]["clients"], f"client {it.own_port}")
             self.assertRegex(self.ask("TAKE")[0], "^ITEM [0-9]+ [0-9]+ 2 held$")
+            self.assertEqual(len(service.all("ending")), 1)
         self.assertEqual(len(service.all("saved")), 2)
 
     def test_jobs_of_ended_runs(self) -> None:
