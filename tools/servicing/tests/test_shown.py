@@ -45,16 +45,17 @@ class ShownTest(ServiceTest):
         return float(found[1]) if found else -1.0
 
     def test_what_is_counted_goes_on_through_rollovers_and_a_lost_run(self) -> None:
-        service = self.begin("--every", "4s", "--stop-within", "2s", "--http", f"127.0.0.1:{self.page}")
+        service = self.begin("--every", "1h", "--allow-changes", "--http", f"127.0.0.1:{self.page}")
         self.assertEqual(self.get("/health")[0], 200)
         self.offer(20)
         until(lambda: self.metric("offered_total") == 20 and self.metric("elements") == 20, "20 offers")
+        self.assertEqual(self.post("/end", f"token={self.token}")[0], 303)
         service.wait("serving", 2)
-        until(lambda: self.metric("runs_total") >= 2, "another run")
+        until(lambda: self.metric("runs_total") == 2, "another run")
         status, report = self.get("/runs/1")
         self.assertEqual((status, "<h1>" in report), (200, True), report[:200])
         identity = Path(self.path("runs/id")).read_text("utf-8").strip()
-        self.assertIn(f',run="{identity}-{int(self.metric("runs_total"))}"}} 1\n', self.get("/metrics")[1])
+        self.assertIn(f',run="{identity}-2"}} 1\n', self.get("/metrics")[1])
         self.assertEqual(self.metric("offered_total"), 20)
         self.assertEqual(self.metric("lost_runs_total"), 0)
         os.kill(service.server, signal.SIGKILL)
@@ -64,7 +65,7 @@ class ShownTest(ServiceTest):
         shown = self.status()
         self.assertEqual((shown.returncode, shown.stderr), (0, ""))
         # On a busy machine a second one is that new clients wait.
-        says = rf"^port {self.port}: [12] alerts?, [a-z ]+, run [0-9]+, 20 elements, .*1 lost run"
+        says = rf"^port {self.port}: [12] alerts?, serving, run 3, 20 elements, .*1 lost run"
         self.assertRegex(shown.stdout, says)
         self.assertEqual(service.stop(), 0)
         self.assertRaises(ConnectionRefusedError, self.get, "/health")
@@ -77,6 +78,11 @@ class ShownTest(ServiceTest):
             answer = it.getresponse()
             return answer.status, answer.getheader("Location", "")
 
+    @property
+    def token(self) -> str:
+        """What the page's form has."""
+        return re.findall('name="token" value="([^"]+)"', self.get("/")[1])[0]
+
     def test_a_run_is_ended_on_the_page(self) -> None:
         """And then a client that holds it up, whose job comes back in the next run. What is asked twice, or at another
         time, does nothing to that."""
@@ -84,7 +90,7 @@ class ShownTest(ServiceTest):
         with self.serving(*options) as service, Client(self.port) as it:
             self.assertRegex(it.greeted().ask("OFFER 0 held"), "^OFFERED ")
             self.assertRegex(it.ask("TAKE"), "^ITEM ")
-            token = re.findall('name="token" value="([^"]+)"', self.get("/")[1])[0]
+            token = self.token
             self.assertEqual([self.post(it, f"token={token}") for it in ("/cut", "/end")], [(303, "/")] * 2)
             service.wait("ending")
             until(lambda: 'action="cut"' in self.get("/")[1], "the end can be hastened")
