@@ -103,6 +103,11 @@ def try_start(service: Service) -> None:
         service.machine.run("systemctl", "stop", service.name)
         replies = service.ask()
         service.expect("a client that connects", replies[0].startswith("RUN 2 lost 0 "), replies, service.journal())
+        files, end = ["run-1.txt"], time.monotonic() + PATIENCE
+        while "run-1.txt" in files and time.monotonic() < end:
+            files = service.machine.run("ls", f"/var/lib/rb_broker/{service.port}").said.split()
+        is_right = "run-1.txt.gz" in files and "run-1.txt" not in files
+        service.expect("a history that the unit's service compresses", is_right, files)
     try:
         replies = service.ask()
     except OSError as refused:
