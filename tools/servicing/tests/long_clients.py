@@ -109,7 +109,7 @@ class DaysTest(ServiceTest):
             done = Counter(it for it in lines if not it.startswith("took"))
         closed = [it["closed"] for it in service.all("serving") if "closed" in it]
         print(f"\n{wanted.total()} attempts, {len(service.all('saved'))} runs, {len(service.all('cut'))} cut; closed "
-              f"{max(closed, default='no time', key=lambda it: float(it[:-1]))} at most")
+              f"{max(closed, key=lambda it: float(it[:-1]))} at most")
         self.assertEqual((wanted - done, done - wanted), (Counter(), Counter()))
         self.assertGreaterEqual(len(service.all("saved")), SECONDS / 10)
 
