@@ -108,6 +108,7 @@ class EndsTest(ServiceTest):
                 self.ask("SIZE")
             self.assertGreaterEqual(len(service.all("saved")), 2)
             self.assertLessEqual({it["why"] for it in service.all("ending")}, {"sessions"})
+            self.assertEqual(self.record(1)["end"]["sessions"], 20, "as the server counts them")
 
     def test_signals_in_each_state(self) -> None:
         for wait in (0.0, 0.02, 0.05, 0.08, 0.1, 0.15, 0.2, 0.3, 0.5):
