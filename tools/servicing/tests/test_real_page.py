@@ -78,11 +78,10 @@ class RealPageTest(PageTest, ServiceTest):
             "Elements in the queue", "Lateness of the first"])
         charts = self.browser.value(CHARTS)
         self.assertRegex(charts[0], r": \d+\.\d\d, at most [1-9]")
-        self.assertGreaterEqual(self.browser.value(CLIENTS), 1)
-        links = [f"runs/{it}" for it in range(ended, 0, -1)]
-        self.assertIn(links, (self.browser.value(LINKS), self.browser.value(LINKS)[1:]))
+        # None of this is so between two runs, which the page then shows.
+        self.shows(f"{CLIENTS} > 0 && /^serving, run \\d+, .*: rb_broker {self.port}$/.test(document.title)", True)
+        self.assertLessEqual({f"runs/{it}" for it in range(1, ended + 1)}, {*self.browser.value(LINKS)})
         self.assertEqual(self.browser.value(LIVE), "polite")
-        self.assertRegex(self.browser.value("document.title"), rf"^serving, run \d+, .*: rb_broker {self.port}$")
 
     def take_picture(self) -> None:
         path = os.environ.get("RB_BROKER_PICTURE")
