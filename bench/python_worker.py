@@ -8,12 +8,16 @@ handler the server has told that the job is done. Server, worker and producer sh
 default). With --crowd alone: a server of four workers, and 1 to 4 times as many clients, of which one is a producer
 that connects for each offer and the others are idle workers: how long an offer takes. With --far alone, through a proxy
 that delays: jobs a second of workers with 64 jobs at the same time, and the offers of 50 threads or tasks that share
-one producer.
+one producer, as rows of a table. RB_BROKER_CLIENT names the sources of another client, such as those of a commit:
+
+    git archive COMMIT clients/python/src | tar -x -C /tmp/before
+    RB_BROKER_CLIENT=/tmp/before/clients/python/src bench/python_worker.py --far
 """
 import argparse
 import asyncio
 import json
 import logging
+import math
 import os
 import random
 import statistics
@@ -25,7 +29,8 @@ import time
 from contextlib import contextmanager
 
 TOP = os.path.dirname(os.path.dirname(os.path.realpath(__file__)))
-sys.path[:0] = [f"{TOP}/dev/lib", f"{TOP}/tools", f"{TOP}/clients/python/src"]
+CLIENT = os.environ.get("RB_BROKER_CLIENT", f"{TOP}/clients/python/src")
+sys.path[:0] = [f"{TOP}/dev/lib", f"{TOP}/tools", CLIENT]
 
 from common.program import add_program_option, built_program  # noqa: E402
 from rb_broker_client import AsyncProducer, AsyncWorker, Broker, Producer, Request, Worker  # noqa: E402
@@ -37,9 +42,9 @@ NAP = 0.05  # seconds that a job sleeps
 SPARSE = 200  # jobs that are offered one by one
 PAUSE = 0.1  # seconds between two of these, in the mean
 SEATS, MINUTE = 4, 60  # workers of a server with more clients, and seconds for which it is watched
-ROUND_TRIPS, FAR_NAPS = (0.0005, 0.0025, 0.0055), (0, 0.01)  # seconds, to workers that are far, and of their jobs
-FAR_PLACES, FAR_JOBS = 64, 10_000
-OFFERERS, OFFERS, OFFERS_TRIP = 50, 5_000, 0.05  # who share a producer, their offers, and the seconds of a round trip
+ROUND_TRIPS, FAR_NAPS = (0.00015, 0.0025, 0.0055), (0, 0.01)  # seconds, to workers that are far, and of their jobs
+FAR_PLACES, FAR_JOBS, FAR_TIME = 64, 20_000, 5  # of a worker, and seconds after which what is left is not waited for
+OFFERERS, OFFERS_TRIP = 50, 0.05  # who share a producer for as long, and the seconds of a round trip
 
 
 class Run:
@@ -47,7 +52,7 @@ class Run:
 
     def __init__(self, is_async, port, nap, concurrency, record=None):
         self.begun, self.ended = {}, {}
-        options = {"concurrency": concurrency, "record": record, "session": None}
+        options = {"concurrency": concurrency, "record": record}
         self._nap = nap
         self.worker = AsyncWorker(self._sleep_async, port, **options) if is_async else Worker(
             self._sleep, port, **options)
@@ -55,9 +60,12 @@ class Run:
         self._thread = threading.Thread(target=run, daemon=True)
         self._thread.start()
 
-    def await_done(self, count):
-        while self.worker.report.done < count:
+    def await_done(self, count, seconds=math.inf):
+        """Waits until so many jobs are done, but no longer than this. Gives how many are."""
+        end = time.monotonic() + seconds
+        while self.worker.report.done < count and time.monotonic() < end:
             time.sleep(0.002)
+        return self.worker.report.done
 
     def stop(self):
         self.worker.stop()
@@ -90,7 +98,7 @@ def far(port, round_trip):
 def far_rate(program, is_async, nap, round_trip):
     """Jobs a second, when all are due, of a worker that is so far away."""
     with Server(OPTIONS, program) as server, far(server.port, round_trip) as port:
-        return rate_at(server.port, port, FAR_JOBS, is_async, nap, FAR_PLACES)
+        return rate_at(server.port, port, FAR_JOBS, is_async, nap, FAR_PLACES, FAR_TIME)
 
 
 def far_offers(program, is_async):
@@ -98,7 +106,7 @@ def far_offers(program, is_async):
     took = []
 
     async def offer(number):
-        for _ in range(OFFERS // OFFERERS):
+        while time.monotonic() < end:
             began = time.monotonic()
             offered = producer.offer(str(number))
             if is_async:
@@ -111,6 +119,7 @@ def far_offers(program, is_async):
     with Server(OPTIONS, program) as server, far(server.port, OFFERS_TRIP) as port:
         producer = (AsyncProducer if is_async else Producer)(port)
         began = time.monotonic()
+        end = began + FAR_TIME
         if is_async:
             asyncio.run(offer_all())
         else:
@@ -119,7 +128,7 @@ def far_offers(program, is_async):
                 it.start()
             for it in threads:
                 it.join()
-        return OFFERS / (time.monotonic() - began), took
+        return len(took) / (time.monotonic() - began), took
 
 
 def rate(program, is_async, nap, concurrency):
@@ -128,7 +137,7 @@ def rate(program, is_async, nap, concurrency):
         return rate_at(server.port, server.port, int(100 * concurrency) if nap else 20_000, is_async, nap, concurrency)
 
 
-def rate_at(near, port, count, is_async, nap, concurrency):
+def rate_at(near, port, count, is_async, nap, concurrency, seconds=math.inf):
     """Jobs a second of a worker at a port, when so many are due that were offered at another port of the server."""
     with Broker(near) as broker:
         for first in range(0, count, PIECE):
@@ -136,10 +145,10 @@ def rate_at(near, port, count, is_async, nap, concurrency):
         broker.quit()
     began = time.monotonic()
     run = Run(is_async, port, nap, concurrency)
-    run.await_done(count)
+    done = run.await_done(count, seconds)
     took = time.monotonic() - began
     run.stop()
-    return count / took
+    return done / took
 
 
 def delays(program, is_async):
@@ -191,18 +200,20 @@ def percentile(values, percent):
 
 
 def measure_far(program, kinds, runs):
-    """Measures the clients that are far away."""
+    """Measures the clients that are far away: a row for each, the median of its runs and the least and greatest."""
+    print(f"| of {CLIENT} | ms away | jobs of | a second |\n|---|---|---|---|")
     for name, is_async in kinds:
         for round_trip in ROUND_TRIPS:
             for nap in FAR_NAPS:
                 rates = [far_rate(program, is_async, nap, round_trip) for _ in range(runs)]
-                print(f"{name}, {FAR_PLACES} at a time, jobs of {1e3 * nap:.0f} ms, {1e3 * round_trip:.1f} ms away: "
-                      f"{statistics.median(rates):.0f} a second ({min(rates):.0f} to {max(rates):.0f})", flush=True)
+                print(f"| {name}, {FAR_PLACES} at a time | {1e3 * round_trip:g} | {1e3 * nap:g} ms | "
+                      f"{statistics.median(rates):,.0f} ({min(rates):,.0f} to {max(rates):,.0f}) |", flush=True)
     for name, is_async in (("threads of a Producer", False), ("tasks of an AsyncProducer", True)):
         told = [far_offers(program, is_async) for _ in range(runs)]
         rates, took = [it for it, _ in told], [seconds for _, it in told for seconds in it]
-        print(f"{OFFERERS} {name}, {1e3 * OFFERS_TRIP:.0f} ms away: {statistics.median(rates):.0f} offers a second "
-              f"({min(rates):.0f} to {max(rates):.0f}), the 99th percentile {1e3 * percentile(took, 99):.0f} ms")
+        print(f"| {OFFERERS} {name} | {1e3 * OFFERS_TRIP:g} | offers | {statistics.median(rates):,.0f} "
+              f"({min(rates):,.0f} to {max(rates):,.0f}), 99th percentile {1e3 * percentile(took, 99):,.0f} ms |",
+              flush=True)
 
 
 def main():
