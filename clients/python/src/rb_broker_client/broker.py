@@ -58,7 +58,8 @@ class Session:
         self.patience = None if patience is None else seconds(patience)
         self._fault: Exception | None = RuntimeError("the broker is not connected")
         self._record, self._name = record, uuid.uuid4().hex
-        self._unsent = bytearray()
+        self.unsent = bytearray()
+        """Of the requests, what the connection has not taken yet."""
         self._due: deque[tuple[Request[Any], int]] = deque()  # requests without an answer, with when each was sent
         self._lines: deque[bytes] = deque()  # that came, and are not taken for a reply
         self._rest, self._came = b"", 0  # of a line of which more is to come, and when that came
@@ -67,20 +68,11 @@ class Session:
         self._has_begun = False  # whether a line has come
         self.greeting: Greeting | None = None
         """What the server said first, if it is one that greets."""
-        self._answers: deque[Any] = deque()  # that nobody has taken yet, each refusal in its place
+        self.answers: deque[Any] = deque()
+        """Those that nobody has taken, each refusal in its place."""
         self.at_end = ExitStack()
         if not self._kind.is_async:
             run(self._connect())
-
-    @property
-    def is_sent(self) -> bool:
-        """Whether all of the requests are on their way."""
-        return not self._unsent
-
-    @property
-    def unanswered(self) -> int:
-        """How many requests have no answer that was taken."""
-        return len(self._due) + len(self._answers)
 
     @property
     def due_since(self) -> float:
@@ -101,11 +93,6 @@ class Session:
                 except ConnectionError:
                     return True
         return self._fault is not None
-
-    @property
-    def has_answer(self) -> bool:
-        """Whether an answer has come that was not taken."""
-        return bool(self._answers)
 
     def receive(self) -> None:
         """Reads what has come."""
@@ -135,7 +122,7 @@ class Session:
             self._note(sent, None, request, [*self._lines])
             self._lines.clear()
         self._due.clear()
-        self._answers.clear()
+        self.answers.clear()
 
     def forget(self) -> None:
         """Closes the descriptor alone. The session may be that of the process from which this one was forked."""
@@ -148,19 +135,19 @@ class Session:
         sent = time.monotonic_ns()
         self._due.extend([(it, sent) for it in requests])
         self._read()
-        self._unsent += b"".join([it.line + b"\n" for it in requests])
+        self.unsent += b"".join([it.line + b"\n" for it in requests])
         self._demand()
         try:
-            while self._unsent:
-                del self._unsent[:self._socket.send(self._unsent)]
+            while self.unsent:
+                del self.unsent[:self._socket.send(self.unsent)]
         except (*_NOT_NOW, BrokenPipeError):
             pass  # if the server has ended it, what came before is read first, and then the end
 
     def received(self) -> list[Any]:
         """The answers to what has come, each refusal in its place."""
-        if not self._answers:
+        if not self.answers:
             self._demand()
-        return [self.take_answer() for _ in range(len(self._answers))]
+        return [self.take_answer() for _ in range(len(self.answers))]
 
     async def _connect(self) -> None:
         if isinstance(self._fault, RuntimeError):
@@ -194,26 +181,23 @@ class Session:
         self._demand()
         if self._is_asking:
             raise RuntimeError("another thread or task waits for a reply in this session, which is for one at a time")
-        if self.unanswered:
+        if self._due or self.answers:
             raise RuntimeError("the wait for a reply was broken off, so that the session can only be closed")
-        self._is_asking = True
+        self._is_asking, answers = True, []
         try:
-            return await self._exchange(requests)
+            self.post(*requests)
+            while self._due or self.answers:
+                deadline = math.inf if self.patience is None else time.monotonic() + self.patience
+                while not self.answers:
+                    await self._wait(deadline)
+                answers.append(self._own(self.take_answer()))
         finally:
             self._is_asking = False
-
-    async def _exchange(self, requests: Iterable[Request[Any]]) -> list[Any]:
-        self.post(*requests)
-        answers = []
-        while self.unanswered:
-            deadline = math.inf if self.patience is None else time.monotonic() + self.patience
-            while not self._answers:
-                await self._wait(deadline)
-            answer = self.take_answer()
-            answers.append([*map(self._own, answer)] if isinstance(answer, list) else self._own(answer))
         return answers
 
     def _own(self, answer: Any) -> Any:
+        if isinstance(answer, list):
+            return [*map(self._own, answer)]
         return self._job.of(self, answer) if isinstance(answer, Job) else answer
 
     async def _quit(self) -> None:
@@ -244,7 +228,7 @@ class Session:
             self._due.popleft()
             reply = [self._lines.popleft() for _ in range(len(self._lines) - length_hint(lines))]
             self._note(sent, self._came, request, reply)
-            self._answers.append(answer)
+            self.answers.append(answer)
 
     def _note(self, sent: int, came: int | None, request: Request[Any], reply: list[bytes]) -> None:
         if self._record is None:
@@ -261,7 +245,7 @@ class Session:
 
     def take_answer(self) -> Any:
         """The first answer that was not taken, which there is. A reply that is none is raised."""
-        answer = self._answers.popleft()
+        answer = self.answers.popleft()
         if isinstance(answer, UnknownReplyError):
             self.close()  # which line answers which request is no longer known
             raise answer
@@ -274,12 +258,12 @@ class Session:
     async def _wait(self, deadline: float) -> None:
         # A server reads no further while its replies are not read, so they are read while there is more to send.
         self._demand()
-        events = EVENT_READ if self.is_sent else EVENT_READ | EVENT_WRITE
+        events = EVENT_READ | EVENT_WRITE if self.unsent else EVENT_READ
         left = None if deadline == math.inf else max(deadline - time.monotonic(), 0)
         if not await self._kind.ready(self._socket, events, left):
             raise TimeoutError(f"the server did not answer within {self.patience} seconds")
         self.receive()
-        if not self.is_sent:
+        if self.unsent:
             self.post()
 
 

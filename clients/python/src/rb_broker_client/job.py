@@ -1,6 +1,7 @@
 """The values of requests and replies: their limits, jobs, and what became of jobs."""
 
 import re
+from collections.abc import Callable, Coroutine
 from dataclasses import astuple, dataclass, field, fields
 from typing import Any, ClassVar, Self
 
@@ -94,23 +95,15 @@ class Job:
 class HeldJob(Job):
     """A job that a `Broker` took."""
 
-    def done(self) -> None:
-        self._holder().done(self.id)
-
-    def fail(self) -> "Verdict":
-        verdict: Verdict = self._holder().fail(self.id)
-        return verdict
+    done: Callable[[], None]
+    fail: Callable[[], "Verdict"]
 
 
 class AsyncHeldJob(Job):
     """A job that an `AsyncBroker` took. What its methods give is to be awaited."""
 
-    async def done(self) -> None:
-        await self._holder().done(self.id)
-
-    async def fail(self) -> "Verdict":
-        verdict: Verdict = await self._holder().fail(self.id)
-        return verdict
+    done: Callable[[], Coroutine[Any, Any, None]]
+    fail: Callable[[], Coroutine[Any, Any, "Verdict"]]
 
 
 @dataclass(frozen=True)

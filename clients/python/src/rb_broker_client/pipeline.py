@@ -110,7 +110,7 @@ class Pipeline:
 
     async def _read(self, call: _Call, deadline: float) -> bool:
         while not call.is_answered:
-            events = EVENT_READ if self.session.is_sent else EVENT_READ | EVENT_WRITE
+            events = EVENT_READ | EVENT_WRITE if self.session.unsent else EVENT_READ
             if not await self._kind.ready(self.session._socket, events, max(deadline - time.monotonic(), 0)):
                 return False
             with self._lock:
@@ -133,7 +133,7 @@ class Pipeline:
         self._send()
 
     def _hand_out(self) -> None:
-        while self._calls and self.session.has_answer:
+        while self._calls and self.session.answers:
             answer = self.session.take_answer()
             if not isinstance(answer, Exception):
                 self._calls[0].take(answer)

@@ -44,8 +44,6 @@ class BaseProducer:
         self._may_double, self._patience, self._is_direct = may_double, seconds(patience), tls is None
         self._pauses = pauses or Pauses(longest=2.0)
         self._run, self._kind = Run(log, f"{host}:{port}", on_lost_run), self._session_of._kind
-        self.waited = 0.0
-        """For how many seconds the last session waited until the server had a worker for it."""
         self._is_closed = False
         self._turn: Any = self._kind.lock()
         self._pipeline: Pipeline | None = None  # changed in turn alone
@@ -150,9 +148,8 @@ class BaseProducer:
                 raise TimeoutError(f"connected, but all workers of the server at {self._run.place} were busy for "
                                    f"{time.monotonic() - began:.1f} seconds") from None
             undo.pop_all()
-        self.waited = time.monotonic() - began
-        if self.waited >= LONG:
-            log.warning("waited %.1f seconds until the server at %s had a worker", self.waited, self._run.place)
+        if (waited := time.monotonic() - began) >= LONG:
+            log.warning("waited %.1f seconds until the server at %s had a worker", waited, self._run.place)
         self._pipeline = pipeline = Pipeline(session)
         self._run.served(session.greeting)
         return pipeline
@@ -185,15 +182,11 @@ class AsyncProducer(BaseProducer):
 
 class Producer(BaseProducer):
     """Offers jobs, and connects again when its connection is lost. Threads may share it: their offers go out as they
-    come, over one session. A process that was forked begins a session of its own.
+    come, over one session, which an offer begins if there is none.
 
-    An offer is tried again, for up to `patience`, when the job was surely not accepted: no server was there, or none of
-    its workers was free, or it refused the offer because its run is full or it has no memory. Other refusals are raised
-    at once. If the connection is lost between an offer and its reply, nobody can tell whether the job was accepted.
-    Then it raises `InDoubtError`, or with `may_double=True` offers again: each job at least once, and perhaps twice.
-
-    An offer begins a session if there is none, which keeps one of the server's workers busy until `close`. The server
-    of a service ends it when its run ends, and the next offer begins another.
+    An offer is tried again, for up to `patience`, when the job was surely not accepted. Other refusals are raised at
+    once. If the connection is lost between an offer and its reply, nobody can tell whether the job was accepted. Then
+    it raises `InDoubtError`, or with `may_double=True` offers again: each job at least once, and perhaps twice.
     """
 
     _session_of = Broker

@@ -66,6 +66,15 @@ _again, _size, _count = _form("AGAIN # #", Again), _form("SIZE #", int), _reader
 _NONE = {b"NONE": None}
 
 
+def _plain(line: bytes, read: Reader[Answer], about: str) -> Callable[[], Request[Answer]]:
+    # What makes a request that is always the same.
+    def make() -> Request[Answer]:
+        return Request(line, read)
+
+    make.__doc__ = about
+    return staticmethod(make)
+
+
 @dataclass
 class Request(Generic[Answer]):
     """A request: its line without the line feed, and what reads its reply.
@@ -92,26 +101,21 @@ class Request(Generic[Answer]):
         """Offers an element that expires at this moment of the server's clock, even a past one."""
         return Request(b"OFFERAT %d %s" % (expires_at_ns, _checked(payload)), _reader(_offered))
 
-    @classmethod
-    def poll(cls) -> Request[Job | None]:
-        """Takes a job that has expired, or gives None if there is none."""
-        return Request(b"POLL", _reader(_item, _NONE))
+    poll = _plain(b"POLL", _reader(_item, _NONE), "Takes a job that has expired, or gives None if there is none.")
+    take = _plain(b"TAKE", _reader(_item, refusals=_WAITS), """Takes a job, and waits until there is one. Nothing
+        cancels the wait, and a program that is killed meanwhile may cost the next job an attempt, so a loop of
+        `poll_for(1)` is better in a service.""")
+    peek = _plain(b"PEEK", _reader(_head, _NONE), "Shows an element of least expiry, expired or not, or gives None.")
+    clear = _plain(b"CLEAR", _reader(exact={b"CLEARED": None}), "Takes all elements out of the queue, expired or not.")
+    size = _plain(b"SIZE", _reader(_size), "Counts the elements in the queue, expired or not.")
+    quit = _plain(b"QUIT", _reader(exact={b"BYE": None}), "Ends the session. Nothing after it is served.")
+    greeting = _plain(b"AT 0", _reader(exact={b"ERR 1 syntax": None}),
+                      "Asks what each server refuses, which is no call. The reply tells that it is served.")
 
     @classmethod
     def poll_for(cls, timeout: Duration) -> Request[Job | None]:
         """Takes a job, waiting for one up to this timeout. Gives None if none has expired."""
         return Request(b"POLLFOR %d" % nanoseconds(timeout), _reader(_item, _NONE, _WAITS))
-
-    @classmethod
-    def take(cls) -> Request[Job]:
-        """Takes a job, and waits until there is one. Nothing cancels the wait, and a program that is killed meanwhile
-        may cost the next job an attempt, so a loop of `poll_for(1)` is better in a service."""
-        return Request(b"TAKE", _reader(_item, refusals=_WAITS))
-
-    @classmethod
-    def peek(cls) -> Request[Job | None]:
-        """Shows an element of least expiry, expired or not, or gives None if there is none."""
-        return Request(b"PEEK", _reader(_head, _NONE))
 
     @classmethod
     def drain(cls, most: int) -> Request[list[Job]]:
@@ -132,26 +136,6 @@ class Request(Generic[Answer]):
     def remove(cls, id: int) -> Request[bool]:
         """Takes the element of this id out, expired or not. Gives whether it was there."""
         return Request(b"REMOVE %d" % id, _reader(exact={b"REMOVED yes": True, b"REMOVED no": False}))
-
-    @classmethod
-    def clear(cls) -> Request[None]:
-        """Takes all elements out of the queue, expired or not."""
-        return Request(b"CLEAR", _reader(exact={b"CLEARED": None}))
-
-    @classmethod
-    def size(cls) -> Request[int]:
-        """Counts the elements in the queue, expired or not."""
-        return Request(b"SIZE", _reader(_size))
-
-    @classmethod
-    def quit(cls) -> Request[None]:
-        """Ends the session. Nothing after it is served."""
-        return Request(b"QUIT", _reader(exact={b"BYE": None}))
-
-    @classmethod
-    def greeting(cls) -> Request[None]:
-        """Asks what each server refuses, which is no call. The reply tells that it is served."""
-        return Request(b"AT 0", _reader(exact={b"ERR 1 syntax": None}))
 
 
 def _checked(payload: str) -> bytes:

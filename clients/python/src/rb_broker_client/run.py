@@ -13,10 +13,6 @@ PIECE, MOST_PIECES = 1_024, 4_096  # ids of one number, of each a bit, and how m
 _ALL = LostRun(0, GREATEST_NUMBER)
 
 
-def _ignore(_: object) -> None:
-    pass
-
-
 class Run:
     """The run of a server. It logs when the server has lost it, and calls `on_lost_run`. A server that greets says so.
     Another one begins again then from where it had begun: its ids are given again, and its clock goes back. It also
@@ -24,9 +20,8 @@ class Run:
 
     def __init__(self, log: logging.Logger, place: str, on_lost_run: Callable[[LostRun], object] | None = None) -> None:
         """`place` is what the log calls the server."""
-        self._log, self.place, self._is_away = log, place, False
-        self._on_lost_run: Callable[[LostRun], object] = on_lost_run or _ignore
-        self.on_greeting: Callable[[Greeting], object] = _ignore  # called with the first one of each run
+        self._log, self.place, self._is_away, self._on_lost_run = log, place, False, on_lost_run
+        self.on_greeting: Callable[[Greeting], object] | None = None  # called with the first one of each run
         self._greeting: Greeting | None = None  # the last one
         self._offers: dict[int, tuple[int, int]] = {}  # of each queue: its last id and moment
         self._given: dict[int, int] = {}  # bits of ids, in pieces
@@ -53,16 +48,14 @@ class Run:
         if last is not None and (now.lost != last.lost or now.run < last.run):
             is_same = now.run > last.run and now.at_ns >= last.at_ns  # or else another service
             lost = LostRun(last.at_ns, now.at_ns) if is_same else _ALL
-            self._log.warning("the server at %s has lost a run: what it accepted in the %.1f seconds before its run %d "
-                              "is in doubt", self.place, (lost.until_ns - lost.since_ns) / 1e9, now.run)
-            self._forget()
-            self._tell(self._on_lost_run, lost)
+            self._lost(lost, self._log.warning, "the server at %s has lost a run: what it accepted in the %.1f seconds "
+                       "before its run %d is in doubt", (lost.until_ns - lost.since_ns) / 1e9, now.run)
 
     def offered(self, id: int, moment: int) -> None:
         """An offer was accepted under this id, at this moment."""
         last_id, last_moment = self._offers.get(id % SHARDS, (-1, 0))
         if id <= last_id or moment < last_moment:
-            self._lost(f"gave id {id} to a new job")
+            self._show(f"gave id {id} to a new job")
             last_moment = 0
         self._offers[id % SHARDS] = id, max(moment, last_moment)
 
@@ -78,29 +71,29 @@ class Run:
         # What was seen long ago is forgotten.
         piece, bit = id // PIECE, 1 << id % PIECE
         if seen.get(piece, 0) & bit:
-            self._lost(sign.format(id))
+            self._show(sign.format(id))
         seen[piece] = seen.get(piece, 0) | bit
         if len(seen) > MOST_PIECES:
             del seen[next(iter(seen))]
 
-    def _lost(self, sign: str) -> None:
-        self._log.error("the server at %s has lost its run: it %s. What stood in its queue is gone, and ids of that "
-                        "run name other jobs now", self.place, sign)
-        self._forget()
-        self._tell(self._on_lost_run, _ALL)
+    def _show(self, sign: str) -> None:
+        self._lost(_ALL, self._log.error, "the server at %s has lost its run: it %s. What stood in its queue is gone, "
+                   "and ids of that run name other jobs now", sign)
 
-    def _forget(self) -> None:
+    def _lost(self, lost: LostRun, log: Callable[..., None], text: str, *words: object) -> None:
+        log(text, self.place, *words)
         self._offers.clear()
         self._given.clear()
         self._returned.clear()
+        self._tell(self._on_lost_run, lost)
 
-    def _tell(self, function: Callable[[Any], object], told: object) -> None:
+    def _tell(self, function: Callable[[Any], object] | None, told: object) -> None:
         # In a thread of its own, so that it holds up no loop and no offer.
-        def tell() -> None:
+        def tell(function: Callable[[Any], object]) -> None:
             try:
                 function(told)
             except Exception:
                 self._log.exception("%r failed, which was told of a run", function)
 
-        if function is not _ignore:
-            Thread(target=tell, name="rb_broker_client-tells", daemon=True).start()
+        if function is not None:
+            Thread(target=tell, args=[function], name="rb_broker_client-tells", daemon=True).start()

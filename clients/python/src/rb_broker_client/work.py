@@ -81,13 +81,12 @@ class Work:
         """Whether there is a job of which the server is to be told, or has not said what came of it."""
         return bool(self._held)
 
-    def broke_off(self, job: Job) -> None:
-        """The handler of a job broke off, and the worker ends. The end of the session fails the job."""
-        self._report.unheard += self._held.pop(job.id, None) is not None
-
-    def ended(self, job: Job, is_done: bool) -> None:
-        """The handler of a job has ended, or took too long. If the session was lost meanwhile nothing more is asked."""
-        if is_done:
+    def ended(self, job: Job, is_done: bool | None) -> None:
+        """The handler of a job has ended, or took too long, or, if None, broke off, and the end of the session fails the
+        job. If the session was lost meanwhile nothing more is asked."""
+        if is_done is None:
+            self._report.unheard += self._held.pop(job.id, None) is not None
+        elif is_done:
             self._ended.append((Request.done(job.id), partial(self._done, job)))
         else:
             self._fails[job.id] = job

@@ -64,11 +64,10 @@ class BaseWorker(Generic[Handler, OnDead]):
         the end of a job is told so much later at most. A reply that is `patience` late is taken for a lost session.
         A job whose handler takes longer than `timeout` fails; its place is free once the handler returns.
 
-        `on_dead` is called with each job that failed and won't come back, and is the place to keep it: the server said
-        so, or its run is full. That the last attempt ended with a lost session no reply tells: `attempts` is how many a
-        job has at this server, and with it `on_dead` is called for such a job too. An `Exception` that it raises is
-        logged. `on_lost_run` is called, in a thread of its own, when the server has lost a run. `tls` and `record` are
-        those of a `Broker`.
+        `on_dead` is called with each job that failed and won't come back: the server said so, or its run is full; and
+        with `attempts`, those of the server, also if the last one ended with a lost session, of which no reply tells.
+        An `Exception` that it raises is logged. `on_lost_run` is called, in a thread of its own, when the server has
+        lost a run. `tls` and `record` are those of a `Broker`.
         """
         if not 1 <= concurrency <= MOST_HELD:
             raise ValueError(f"from 1 to {MOST_HELD} jobs can run at the same time")
@@ -183,7 +182,7 @@ class BaseWorker(Generic[Handler, OnDead]):
             pause = min(self._next_visit - now, pause)
         if self._visit is not None:
             work, session = self._visit
-            pause = min(self._late(work, session) - now, work.pause(), pause if session.is_sent else SOON)
+            pause = min(self._late(work, session) - now, work.pause(), SOON if session.unsent else pause)
         return max(pause, 0)
 
     def _late(self, work: Work, session: Session) -> float:
@@ -212,7 +211,7 @@ class BaseWorker(Generic[Handler, OnDead]):
     def _attend(self, work: Work, session: Session) -> None:
         running = len(self._calls)
         questions = work.ask(self._concurrency - running - work.fetching, running, self._is_stopping)
-        if questions or not session.is_sent:
+        if questions or session.unsent:
             session.post(*questions)
         if work.is_left or self._is_stopping and not work.is_served:
             self._end(self._pauses.next() if work.is_used_up else 0)
@@ -265,11 +264,8 @@ class BaseWorker(Generic[Handler, OnDead]):
             call, is_done = self._ends.popleft()
             self._calls.discard(call)
             if call.work is not None and not call.is_told:
-                if is_done is None:
-                    call.work.broke_off(call.job)
-                else:
-                    call.work.ended(call.job, is_done)
-                    self._bury(call.work)
+                call.work.ended(call.job, is_done)
+                self._bury(call.work)
         if self._fault is not None and not (self._calls or self._visit and self._visit[0].is_holding):
             raise self._fault
         for it in self._limited():
@@ -304,12 +300,9 @@ class Worker(BaseWorker[Callable[[Job], None], Callable[[Job], None]]):
     With a `concurrency` of 1 and no `timeout` the handler runs in the thread of `run`, and else in up to 64 threads of
     its own: it must bear to be called by several at a time.
 
-    It has one session at a time, which keeps one of the server's workers busy. The server of a service ends it when its
-    run is to end, once it holds no job. When a session is lost the worker connects again, after pauses that grow while
-    no server answers. So a job may be handled more than once, even if its handler returned: when the session is lost
-    before the server has read that the job is done, it comes back as its next attempt.
-
-    It never fetches more jobs than it can start at once.
+    It has one session at a time, which keeps one of the server's workers busy. When that ends or is lost it connects
+    again, after pauses that grow while no server answers. A job of which the server has not read that it is done comes
+    back, though its handler returned.
     """
 
     _session_of, _turns_of = Broker, ThreadTurns

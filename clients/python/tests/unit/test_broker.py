@@ -61,9 +61,9 @@ class BrokerTest(BrokerCase):
         broker = self.connect("SIZE > SIZE 3; > hangs up")
         broker.post(Request.size())
         deadline = time.monotonic() + PATIENCE
-        while not broker.has_answer and time.monotonic() < deadline:
+        while not broker.answers and time.monotonic() < deadline:
             self.assertFalse(broker.is_lost())
-            self.assertFalse(broker.has_answer)
+            self.assertFalse(broker.answers)
             broker.receive()
         self.assertEqual(broker.received(), [3])
 
