@@ -26,13 +26,14 @@ from typing import Any
 
 from . import __version__
 from .broker import Broker
-from .dead_letters import read_letters, take_letters
+from .dead_letters import payload_of, read_letters, take_letters
 from .durations import from_text, seconds
 from .errors import BrokerError
-from .job import MOST_HELD, Report
+from .job import MOST_HELD
 from .producer import Producer
 from .request import Request
 from .tasks import Tasks
+from .waiting import run
 from .worker import AsyncWorker, Worker
 
 NAME, SCRIPT = "rb_broker_client", "rb-broker"  # the module, and the command that pip installs
@@ -133,35 +134,29 @@ def _client(kind: Callable[..., Any], asked: Asked, *words: Any, **options: Any)
 
 
 def _work(asked: Asked) -> Iterator[str]:
-    logging.basicConfig(level=logging.INFO, format="%(asctime)s %(levelname)s %(message)s")
     is_async = inspect.iscoroutinefunction(asked.handler)
     if inspect.iscoroutinefunction(asked.on_dead) and not is_async:
         raise ValueError("--on-dead can be a coroutine function only if the handler is one")
     worker = _client(AsyncWorker if is_async else Worker, asked, asked.handler, concurrency=asked.concurrency,
                      timeout=asked.timeout, on_dead=asked.on_dead, attempts=asked.attempts)
-    _stop_by_signals(worker.stop)
-    yield _told(asyncio.run(worker.run()) if is_async else worker.run())
+    yield _until_signals(worker.stop, lambda: asyncio.run(worker.run()) if is_async else worker.run())
 
 
-def _stop_by_signals(stop: Callable[[], object]) -> None:
+def _until_signals(stop: Callable[[], object], work: Callable[[], Any]) -> str:
     def hear(number: int, _: Any) -> None:
         signal.signal(number, signal.SIG_DFL)  # whoever asks twice does not want to wait
         stop()
 
+    logging.basicConfig(level=logging.INFO, format="%(asctime)s %(levelname)s %(message)s")
     for number in (signal.SIGINT, signal.SIGTERM):
         signal.signal(number, hear)
-
-
-def _told(report: Report) -> str:
-    return ", ".join(f"{name} {count}" for name, count in vars(report).items())
+    return ", ".join(f"{name} {count}" for name, count in vars(work()).items())
 
 
 def _tasks(asked: Asked) -> Iterator[str]:
     app: Tasks = asked.app
     if asked.action == "run":
-        logging.basicConfig(level=logging.INFO, format="%(asctime)s %(levelname)s %(message)s")
-        _stop_by_signals(app.stop)
-        yield _told(app.run(asked.threads, asked.processes))
+        yield _until_signals(app.stop, partial(app.run, asked.threads, asked.processes))
     elif asked.action == "again":
         yield f"offered {app.again(*(asked.ids or [it.id for it in app.dead()]))}"
     else:
@@ -194,10 +189,7 @@ def _ask(requests: Callable[[Asked], Iterable[Request[Any]]], asked: Asked) -> I
                 request.read(iter([line]))
                 return line.decode()
 
-            (answer,) = broker.ask_all([Request(request.line, read)])
-            if isinstance(answer, BrokerError):
-                raise answer
-            yield answer
+            yield run(broker._ask(Request(request.line, read)))
 
 
 def _drain(asked: Asked) -> Iterator[str]:
@@ -212,7 +204,9 @@ def _drain(asked: Asked) -> Iterator[str]:
 
 def _dead(asked: Asked) -> Iterator[str]:
     if not asked.offer:
-        yield from read_letters(asked.file)
+        for it in read_letters(asked.file):
+            payload_of(it)
+            yield it.decode()
         return
     if asked.port is None:
         raise ValueError("--offer needs --port")

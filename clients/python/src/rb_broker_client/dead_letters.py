@@ -18,9 +18,8 @@ _LONGEST = 4_096  # bytes of no line are more
 class DeadLetters:
     """Keeps dead jobs: `Worker(.., on_dead=DeadLetters("dead.jsonl"))`.
 
-    A file has a line of JSON for each, which is on the disk when the call returns. Several workers may have one file. A
-    producer, of a server that is the queue for such jobs, offers each to it: an `AsyncProducer` in an `AsyncWorker`,
-    which waits for a file or another producer in a thread.
+    A file has a line of JSON for each, which is on the disk when the call returns. A producer, of a server that is the
+    queue for such jobs, offers each to it: an `AsyncProducer` in an `AsyncWorker`, or one that it calls in a thread.
     """
 
     def __init__(self, target: str | os.PathLike[str] | Producer | AsyncProducer) -> None:
@@ -44,31 +43,28 @@ class DeadLetters:
         return None
 
 
-def read_letters(path: str) -> Iterator[str]:
-    """The lines of a file of dead letters. Raises `ValueError` at one that is none."""
+def read_letters(path: str) -> list[bytes]:
+    """The lines of a file of dead letters."""
     with _locked(path, "rb") as file:
-        lines = file.read().splitlines()
-    for line in lines:
-        _payload_of(line)
-        yield line.decode()
+        return file.read().splitlines()
 
 
 def take_letters(path: str, use: Callable[[str], object]) -> int:
     """Calls this with each payload, the latest first, and then takes its line out of the file. Gives how many there
     were. One that is added meanwhile is left, unless it takes the place of one that is."""
-    with _locked(path, "r+b") as file:
-        count = sum(1 for _ in file)
+    count = len(read_letters(path))
     for _ in range(count):
         with _locked(path, "r+b") as file:  # no line is added while one is taken out
             end = file.seek(0, os.SEEK_END)
             file.seek(max(end - _LONGEST, 0))
             last = file.read().splitlines(keepends=True)[-1]
-            use(_payload_of(last))
+            use(payload_of(last))
             file.truncate(end - len(last))
     return count
 
 
-def _payload_of(line: bytes) -> str:
+def payload_of(line: bytes) -> str:
+    """That of a letter. Raises `ValueError` for a line that is none."""
     try:
         payload: str = json.loads(line)["payload"]
         return payload

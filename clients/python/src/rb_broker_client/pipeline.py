@@ -21,7 +21,8 @@ class _Call:
     """A request that was sent, and who waits for its reply."""
 
     def __init__(self, take: Callable[[Any], object]) -> None:
-        self.take, self.answer = take, None  # what is called with the answer; and that, or an exception
+        self.take = take  # what is called with the answer
+        self.answer: Any = None  # or an exception
         self.is_answered = self.is_given_up = False
         self.bell: Any = None  # where it sleeps while another reads
 
@@ -77,8 +78,7 @@ class Pipeline:
                 self._pass_on()
         if isinstance(call.answer, Exception):
             raise call.answer
-        answer: Any = call.answer
-        return answer  # type: ignore[no-any-return]
+        return call.answer  # type: ignore[no-any-return]
 
     def leave(self) -> None:
         """Takes no request any more, and hangs up once nobody waits."""

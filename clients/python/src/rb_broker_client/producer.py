@@ -1,12 +1,10 @@
 """Offers jobs to a server that may be replaced by another."""
 
-import asyncio
 import copy
 import logging
 import math
 import os
 import ssl
-import threading
 import time
 from collections.abc import AsyncIterator, Callable
 from contextlib import ExitStack, asynccontextmanager
@@ -121,21 +119,18 @@ class BaseProducer:
 
     async def _served(self, request: Request[Offered], deadline: float) -> Pipeline:
         # One that is served already, so that an offer is in doubt only while it is answered.
-        pipeline = self._pipeline
-        if pipeline is not None and not pipeline.is_left:
-            return pipeline
-        async with self._in_turn(deadline, request):
-            if self._is_closed:
-                raise RuntimeError("the producer is closed")
-            pipeline = self._pipeline
-            if pipeline is not None and not pipeline.is_left:
-                return pipeline
-            try:
-                return await self._next_pipeline(deadline)
-            except OSError as fault:
-                raise NotOfferedError(f"{request} was not accepted: {fault}") from fault
+        while (pipeline := self._pipeline) is None or pipeline.is_left:
+            async with self._in_turn(deadline, request):
+                if self._is_closed:
+                    raise RuntimeError("the producer is closed")
+                if self._pipeline is pipeline:  # nobody has begun the next one meanwhile
+                    try:
+                        await self._begin_pipeline(deadline)
+                    except OSError as fault:
+                        raise NotOfferedError(f"{request} was not accepted: {fault}") from fault
+        return pipeline
 
-    async def _next_pipeline(self, deadline: float) -> Pipeline:
+    async def _begin_pipeline(self, deadline: float) -> None:
         session = self._session_at(max(deadline - time.monotonic(), LEAST))
         with ExitStack() as undo:
             undo.callback(session.close)
@@ -150,9 +145,8 @@ class BaseProducer:
             undo.pop_all()
         if (waited := time.monotonic() - began) >= LONG:
             log.warning("waited %.1f seconds until the server at %s had a worker", waited, self._run.place)
-        self._pipeline = pipeline = Pipeline(session)
+        self._pipeline = Pipeline(session)
         self._run.served(session.greeting)
-        return pipeline
 
     def _begin_anew(self) -> None:
         # In a forked process, whose other threads are gone, whatever they were at. The session is the other process's.

@@ -114,18 +114,12 @@ class Store:
     def claim(self, id: str, turn: int, owner: str) -> StoredTask | None:
         """The task of a turn that is delivered, from now on run by this owner; or, if it is `running`, by another one.
         None if it is done, cancelled or dead, or has another turn."""
-        with self._transaction() as db:
-            row, now = db.execute(f"SELECT {_COLUMNS}, touched FROM tasks WHERE id = ? AND turn = ? AND "
-                                  "state != 'dead'", [id, turn]).fetchone(), self.now()
-            if row is None:
-                return None
-            *columns, touched = row
-            task = StoredTask(*columns)
-            if task.state == "running" and touched > now - STALE:
-                return task
-            db.execute("UPDATE tasks SET state = 'running', offers = 0, owner = ?, touched = ?, began = ? WHERE id = ?",
-                       [owner, now, now, id])
-        return replace(task, state="claimed")
+        words = {"id": id, "turn": turn, "owner": owner, "stale": STALE}
+        task = self._one(f"""UPDATE tasks SET state = 'running', offers = 0, owner = :owner, touched = :now, began = :now
+            WHERE id = :id AND turn = :turn AND (state IN ('new', 'waiting') OR state = 'running' AND touched <= :now -
+            :stale) RETURNING {_COLUMNS}""", False, **words)
+        return replace(task, state="claimed") if task else self._one(
+            f"SELECT {_COLUMNS} FROM tasks WHERE id = :id AND turn = :turn AND state = 'running'", False, **words)
 
     def done(self, task: StoredTask) -> None:
         """The task was done, and is forgotten."""
@@ -181,8 +175,8 @@ class Store:
         self._do(f"UPDATE tasks SET {change}, touched = :now WHERE id = :id AND turn = :turn AND state = 'running'",
                  is_synced, **{**vars(task), **words})
 
-    def _one(self, statement: str, **words: Any) -> StoredTask | None:
-        rows = self._do(statement, **words)
+    def _one(self, statement: str, is_synced: bool = True, **words: Any) -> StoredTask | None:
+        rows = self._do(statement, is_synced, **words)
         return StoredTask(*rows[0]) if rows else None
 
     def _do(self, statement: str, is_synced: bool = True, **words: Any) -> list[Any]:

@@ -70,11 +70,12 @@ class Middleware:
 class Task:
     """A function that can be called later. To call it calls the function now."""
 
-    def __init__(self, app: "Tasks", function: Callable[..., Any], name: str, attempts: int, backoff: Backoff,
-                 timeout: float) -> None:
-        self.name, self.function, self.attempts, self.backoff, self._app = name, function, attempts, backoff, app
-        self.timeout, self.is_async = timeout, inspect.iscoroutinefunction(function)
-        self._signature = inspect.signature(function)
+    def __init__(self, app: "Tasks", function: Callable[..., Any], name: str | None, attempts: int, backoff: Backoff,
+                 timeout: Duration | str | None) -> None:
+        self.name = name or f"{function.__module__}.{function.__qualname__}"
+        self.timeout = math.inf if timeout is None else seconds(from_text(timeout))
+        self.function, self.attempts, self.backoff, self._app = function, attempts, backoff, app
+        self.is_async, self._signature = inspect.iscoroutinefunction(function), inspect.signature(function)
         if inspect.isgeneratorfunction(function) or inspect.isasyncgenfunction(function):
             raise TypeError(f"a task is a function that runs to its end, not {function!r}")
         if "key" in self._signature.parameters:
@@ -88,7 +89,11 @@ class Task:
         returns. Gives the task's id, or None if there is one of this key that waits or runs. Raises `TypeError` for
         arguments that the function does not take, or that JSON can't hold."""
         self._signature.bind(*words, **options)
-        return self._app._add(self.name, json.dumps([words, options]), key, from_text(delay))
+        arguments, due = json.dumps([words, options]), self._app._store.now() + from_text(delay)
+        task = self._app._store.add(self.name, arguments, key, due)
+        if task is not None:
+            self._app._offer(task)
+        return task.id if task else None
 
     def at(self, moment: datetime, *words: Any, key: str | None = None, **options: Any) -> str | None:
         """The same at a moment, which must have a time zone. One that has passed is now."""
@@ -101,10 +106,9 @@ class Tasks:
     """The tasks of a file, and the broker that says when each is due.
 
     A task is in the file before it is offered to the broker, and is out of it before the broker is told that it is
-    done. What the broker or a worker loses is offered again out of the file. So a task that was accepted is run until
-    it is done, is dead or was cancelled, as long as the file is there and a worker runs. That rests on this file and on
-    SQLite, and on no proof. A task can be run twice: if its worker is killed after its work, or stands still for ten
-    seconds.
+    done. What the broker or a worker loses is offered again out of the file. That no task is lost rests on this file
+    and on SQLite, and on no proof. One can be run twice: if its worker is killed after its work, or stands still for
+    ten seconds.
     """
 
     def __init__(self, path: str | os.PathLike[str], port: int, host: str = "127.0.0.1", *, patience: Duration = 5.0,
@@ -123,17 +127,13 @@ class Tasks:
         self._producer._run.on_greeting = self._greeted
 
     def task(self, *, attempts: int = 8, backoff: Backoff = exponential("10s"),
-             timeout: Duration | str | None = None,
-             name: str | None = None) -> Callable[[Callable[..., Any]], Task]:
+             timeout: Duration | str | None = None, name: str | None = None) -> Callable[[Callable[..., Any]], Task]:
         """Makes a task of a function, which may be a coroutine function. It has so many attempts, and `backoff` says
         how long after a failure the next one is. One that takes longer than `timeout` fails: a coroutine is cancelled,
         and any other function ends with its process, if `run` has `processes`. Its name, by default that of the
         function with its module, is in the file: keep it."""
-        limit = math.inf if timeout is None else seconds(from_text(timeout))
-
         def make(function: Callable[..., Any]) -> Task:
-            task = Task(self, function, name or f"{function.__module__}.{function.__qualname__}", attempts, backoff,
-                        limit)
+            task = Task(self, function, name, attempts, backoff, timeout)
             if self._tasks.setdefault(task.name, task) is not task:
                 raise ValueError(f"there is a task of this name: {task.name}")
             return task
@@ -181,11 +181,10 @@ class Tasks:
         self._producer.close()
 
     def _run(self, threads: int, owner: str) -> Report:
-        if any(it.is_async for it in self._tasks.values()):
-            handler = partial(self._handle, Looping)
-            worker: Worker | AsyncWorker = AsyncWorker(handler, concurrency=threads, **self._place)
-        else:
-            worker = Worker(blocking(partial(self._handle, Blocking)), concurrency=threads, **self._place)
+        worker: Worker | AsyncWorker = (
+            AsyncWorker(partial(self._handle, Looping), concurrency=threads, **self._place)
+            if any(it.is_async for it in self._tasks.values())
+            else Worker(blocking(partial(self._handle, Blocking)), concurrency=threads, **self._place))
         worker._run_known.on_greeting = self._greeted
         self._owner, self._worker = owner, worker
         keepers = [threading.Thread(target=it, name="rb_broker_client-keeps", daemon=True)
@@ -200,12 +199,6 @@ class Tasks:
             self._is_over.set()
             for it in keepers:
                 it.join()
-
-    def _add(self, name: str, arguments: str, key: str | None, delay: float) -> str | None:
-        task = self._store.add(name, arguments, key, self._store.now() + delay)
-        if task is not None:
-            self._offer(task)
-        return task.id if task else None
 
     def _offer(self, task: StoredTask) -> bool:
         try:
@@ -226,32 +219,27 @@ class Tasks:
             await self._attempt(kind, task)
 
     async def _attempt(self, kind: Kind, task: StoredTask) -> None:
-        fault = None
+        end: Callable[[], None] = partial(self._store.done, task)
         self._in_hand.add(task.id)
         try:
             await self._call(kind, task, self._tasks[task.name])
-        except Exception as raised:
-            fault = raised
+        except Exception as fault:
+            end = partial(self._fail, task, fault)
         except BaseException:  # such as a cancellation
             await kind.apart(partial(self._store.release, task))
             raise
         finally:
             self._in_hand.discard(task.id)
-        await kind.apart(partial(self._fail, task, fault) if fault else partial(self._store.done, task))
+        await kind.apart(end)
 
     async def _call(self, kind: Kind, task: StoredTask, function: Task) -> None:
         words, options = json.loads(task.arguments)
-
-        def call() -> None:
+        if function.is_async:
             with self._told(task):
-                function.function(*words, **options)
-
-        if not function.is_async:
-            await kind.apart(call)
-            return
-        with self._told(task):
-            async with asyncio.timeout(None if function.timeout == math.inf else function.timeout):
-                await function.function(*words, **options)
+                async with asyncio.timeout(None if function.timeout == math.inf else function.timeout):
+                    await function.function(*words, **options)
+        else:
+            await kind.apart(self._told(task)(partial(function.function, *words, **options)))
 
     @contextmanager
     def _told(self, task: StoredTask) -> Iterator[None]:

@@ -11,7 +11,7 @@ import selectors
 import socket
 import threading
 from collections.abc import Callable
-from contextlib import ExitStack, suppress
+from contextlib import suppress
 from typing import Any
 
 from .waiting import Task, run
@@ -31,19 +31,19 @@ class ThreadTurns:
     def __init__(self, is_apart: bool) -> None:
         self._is_apart, self._threads = is_apart, 0
         self._tasks: queue.SimpleQueue[Task | None] = queue.SimpleQueue()
-        self._at_end = ExitStack()
+        self._open: list[Any] = []
         self._is_rung = True  # whether a byte is in the socket or about to be: one is enough. There is none yet
 
     def __del__(self) -> None:  # once nobody can wake any more
-        self._at_end.close()
+        for it in self._open:
+            it.close()
 
     async def run(self, turn: Turn) -> None:
         """Takes turns until all is done. The descriptors are made here, so that a process that was forked before has
         its own."""
         self._reader, self._writer = socket.socketpair()
         self._selector = selectors.DefaultSelector()
-        for close in (self._reader.close, self._writer.close, self._selector.close):
-            self._at_end.callback(close)
+        self._open = [self._reader, self._writer, self._selector]
         self._selector.register(self._reader, selectors.EVENT_READ, self._hear)
         self._is_rung = False  # before the first turn looks whether it is to stop
         while (pause := turn()) is not None:

@@ -145,16 +145,13 @@ class BaseWorker(Generic[Handler, OnDead]):
                 if work.greeting is None or work.is_holding or not isinstance(fault, ConnectionError):
                     self._run_known.away("the session at %s was lost: %s", fault)
                 self._end(self._pauses.next())
-        if self._may_connect():
+        if not (self._visit or self._is_stopping or self._is_connecting or len(self._calls) >= self._concurrency
+                or time.monotonic() < self._next_visit):
             self._is_connecting = True
             self._turns.begin(self._connect())
             self._settle()  # what it raised, if it has ended
         is_over = self._is_stopping and not (self._visit or self._is_connecting)
         return None if is_over and all(it.is_told for it in self._calls) else self._pause()
-
-    def _may_connect(self) -> bool:
-        return not (self._visit or self._is_stopping or self._is_connecting or len(self._calls) >= self._concurrency
-                    or time.monotonic() < self._next_visit)
 
     async def _connect(self) -> None:
         try:
