@@ -1,4 +1,4 @@
-"""Jobs that failed in their last attempt, kept in a file or in a queue of their own."""
+"""Jobs that failed in their last attempt, kept in a file."""
 
 import json
 import os
@@ -6,41 +6,32 @@ from collections.abc import Callable, Iterator
 from contextlib import contextmanager
 from datetime import datetime, timezone
 from functools import partial
-from typing import IO, Any
+from typing import IO
 
 from .job import Job
-from .producer import AsyncProducer, Producer
 from .waiting import Looping
 
 _LONGEST = 4_096  # bytes of no line are more
 
 
 class DeadLetters:
-    """Keeps dead jobs: `Worker(.., on_dead=DeadLetters("dead.jsonl"))`.
+    """Keeps dead jobs in a file: `Worker(.., on_dead=DeadLetters("dead.jsonl"))`. It has a line of JSON for each, which
+    is on the disk when the call returns. Several workers may have one file."""
 
-    A file has a line of JSON for each, which is on the disk when the call returns. A producer, of a server that is the
-    queue for such jobs, offers each to it: an `AsyncProducer` in an `AsyncWorker`, or one that it calls in a thread.
-    """
-
-    def __init__(self, target: str | os.PathLike[str] | Producer | AsyncProducer) -> None:
+    def __init__(self, path: str | os.PathLike[str]) -> None:
         """Raises `OSError` if the file can't be written."""
-        self._target, self.is_async = target, isinstance(target, AsyncProducer)  # what a call gives is to be awaited
-        if not isinstance(target, (Producer, AsyncProducer)):
-            open(target, "ab").close()
+        self._path = path
+        open(path, "ab").close()
 
-    async def keep(self, job: Job) -> None:
-        """Keeps a job, and holds up no event loop."""
-        await (self(job) if self.is_async else Looping.apart(partial(self, job)))
-
-    def __call__(self, job: Job) -> Any:
-        """Keeps a job. What is given for an `AsyncProducer` is to be awaited."""
-        if isinstance(self._target, (Producer, AsyncProducer)):
-            return self._target.offer(job.payload)
+    def __call__(self, job: Job) -> None:
         died = datetime.now(timezone.utc).isoformat(timespec="milliseconds")
         letter = {"payload": job.payload, "attempts": job.attempt, "died": died, "id": job.id}
-        with _locked(self._target, "ab") as file:
+        with _locked(self._path, "ab") as file:
             file.write(json.dumps(letter).encode() + b"\n")
-        return None
+
+    async def keep(self, job: Job) -> None:
+        """The same in a thread, which holds up no event loop."""
+        await Looping.apart(partial(self, job))
 
 
 def read_letters(path: str) -> list[bytes]:

@@ -104,7 +104,7 @@ class BaseProducer:
                     raise InDoubtError(f"{request} was accepted or not: {fault}") from fault
 
     async def _is_continued(self, ended: Greeting | None, request: Request[Offered], deadline: float) -> bool:
-        # A run that ends in good order answers what it carries out. Behind TLS a proxy may have taken the reply with it.
+        # A run that ends in good order answers what it carries out. Behind TLS a proxy may have taken a reply with it.
         pauses = copy.copy(self._pauses)
         pauses.reset()
         while ended is not None and self._is_direct:

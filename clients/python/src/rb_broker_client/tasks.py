@@ -21,9 +21,8 @@ from .durations import Duration, from_text, seconds
 from .errors import BrokerError
 from .job import Greeting, Job, Report
 from .producer import Producer
-from .task_processes import Processes
+from .task_runners import Processes, Testing
 from .task_store import STALE, Store, StoredTask, going_on
-from .task_testing import Testing
 from .waiting import Blocking, Kind, Looping, blocking
 from .worker import AsyncWorker, Worker
 

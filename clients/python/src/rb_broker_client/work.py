@@ -82,8 +82,8 @@ class Work:
         return bool(self._held)
 
     def ended(self, job: Job, is_done: bool | None) -> None:
-        """The handler of a job has ended, or took too long, or, if None, broke off, and the end of the session fails the
-        job. If the session was lost meanwhile nothing more is asked."""
+        """The handler of a job has ended or took too long, or it broke off, if this is None: then the end of the session
+        fails the job. If the session was lost meanwhile nothing more is asked."""
         if is_done is None:
             self._report.unheard += self._held.pop(job.id, None) is not None
         elif is_done:

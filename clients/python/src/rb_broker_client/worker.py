@@ -102,8 +102,7 @@ class BaseWorker(Generic[Handler, OnDead]):
             raise TypeError(f"a function is to be called with each job, not {function!r}")
         if inspect.isgeneratorfunction(function) or inspect.isasyncgenfunction(function):
             raise TypeError(f"nothing runs a generator: {function!r}")
-        if not self._session_of._kind.is_async and (
-                inspect.iscoroutinefunction(function) or isinstance(function, DeadLetters) and function.is_async):
+        if inspect.iscoroutinefunction(function) and not self._session_of._kind.is_async:
             raise TypeError(f"only an AsyncWorker awaits a coroutine function: {function!r}")
 
     async def _work(self) -> Report:

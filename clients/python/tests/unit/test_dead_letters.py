@@ -9,7 +9,7 @@ from from_threads import for_both_kinds
 from scripted import PATIENCE, ScriptedTest, free_port
 from test_command import run
 from worker_case import LAST, WorkerCase
-from rb_broker_client import AsyncProducer, AsyncWorker, DeadLetters, Job, Producer, Report, Worker
+from rb_broker_client import AsyncWorker, DeadLetters, Job, Producer, Report
 
 BAD, KEEPS_B = "WAIT > ITEM 2 1000 3 b; FAIL 2 > DEAD 2", "AT 0; OFFER 0 b > OFFERED 0 5"
 
@@ -38,13 +38,8 @@ class KeptTest(FileCase, WorkerCase):
 
     def test_a_queue_of_its_own(self):
         with Producer(self.play(KEEPS_B).port, patience=PATIENCE) as producer:
-            self.assert_reports(Report(dead=1), f"{BAD}; {LAST}", on_dead=DeadLetters(producer))
-
-        async def keep():
-            async with AsyncProducer(self.play(KEEPS_B).port, patience=PATIENCE) as producer:
-                await DeadLetters(producer)(Job(2, 1000, 3, "b"))
-
-        asyncio.run(keep())
+            options = {"on_dead": lambda job: producer.offer(job.payload)}
+            self.assert_reports(Report(dead=1), f"{BAD}; {LAST}", **options)
 
     def test_several_threads_have_one_file(self):
         def keep(number):
@@ -75,9 +70,6 @@ class LoopTest(FileCase):
             threading.Timer(PATIENCE, worker.stop).start()
             self.assertEqual(asyncio.run(asyncio.wait_for(worker.run(), PATIENCE)), Report(done=1, dead=1))
         self.assertEqual(self.payloads(), ["b"])
-
-    def test_a_worker_without_a_loop_offers_by_no_producer_of_one(self):
-        self.assertRaises(TypeError, Worker, print, 7011, on_dead=DeadLetters(AsyncProducer(7012)))
 
 
 class CommandTest(FileCase):

@@ -11,7 +11,7 @@ from datetime import datetime, timedelta, timezone
 from scripted import PATIENCE, ScriptedTest, free_port
 from test_command import run
 from rb_broker_client import Greeting, Job, Report, waiting
-from rb_broker_client.task_processes import Processes
+from rb_broker_client.task_runners import Processes
 from rb_broker_client.tasks import Middleware, RetryLater, Tasks, exponential
 
 app = None  # that of a test, for the command

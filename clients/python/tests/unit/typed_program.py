@@ -29,7 +29,7 @@ async def work_async() -> None:
         await (await broker.take()).done()
         for it in await broker.drain(5):
             print(await it.fail())
-    await AsyncWorker(deliver_async, 7011, on_dead=DeadLetters(AsyncProducer(7012))).run()
+    await AsyncWorker(deliver_async, 7011, on_dead=DeadLetters("dead.jsonl")).run()
     await AsyncWorker(deliver_async, 7011, on_dead=deliver).run()
     async with AsyncProducer(7011) as producer:
         await producer.offer("a", delay=1)
