@@ -2,12 +2,15 @@
 import multiprocessing
 import os
 import random
+import threading
 import time
+from concurrent.futures import ThreadPoolExecutor
 
 from rb_broker_client import task_store, tasks
 from records import process_of
 
 ROOM, DELAYS = os.environ["TASKS_ROOM"], (0, 0, 0.2, 2)
+AT_ONCE = 8  # tasks that one process offers
 if os.environ["TASKS_BRIEF"]:
     tasks.STALE, task_store.STALE, task_store.UNSENT = 2.0, 2.0, 0.5
 app = tasks.Tasks(f"{ROOM}/tasks.db", int(os.environ["TASKS_PORT"]), patience=1,
@@ -36,9 +39,19 @@ def work(number):
 
 
 def offer(first, end, pause):
-    """Offers the tasks of these numbers, with pauses of up to so many seconds."""
-    for number in range(first, end):
-        note("offers", "begins", number)
-        work.later(random.choice(DELAYS), number)
-        note("offers", "ends", number)
-        time.sleep(random.uniform(0, pause))
+    """Offers the tasks of these numbers, several at a time, with pauses of up to so many seconds."""
+    numbers, in_order = iter(range(first, end)), threading.Lock()
+
+    def offer_some(_):
+        while True:
+            with in_order:
+                number = next(numbers, end)
+                if number == end:
+                    return
+                note("offers", "begins", number)
+            work.later(random.choice(DELAYS), number)
+            note("offers", "ends", number)
+            time.sleep(random.uniform(0, pause))
+
+    with ThreadPoolExecutor(AT_ONCE) as threads:
+        list(threads.map(offer_some, range(AT_ONCE)))  # which raises what one has raised

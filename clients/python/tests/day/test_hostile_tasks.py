@@ -24,7 +24,7 @@ TASKS = int(os.environ.get("RB_BROKER_TASKS", 150))
 IS_BRIEF = TASKS < 1_000
 KILLS, OF_ALL = max(10, TASKS // 100), 5  # how many, and how many of these are of all at once
 THREADS, PROCESSES = 4, (0, 1, 2)  # of each worker
-PAUSE = 0.2  # seconds at most between two offers
+PAUSE = 1.0  # seconds at most between two offers of a thread
 LONGEST = 300 + TASKS  # seconds
 SERVICE = ("--every", "1h" if IS_BRIEF else "30s", "--stop-within", "5s", "--sessions", 400, "--delay", "1s",
            "--attempts", 100, "--keep", 3)
@@ -102,9 +102,9 @@ class HostileTasksTest(ServedTest):
     def offered(self):
         """The number of the first task that nobody has begun to offer."""
         with open(self.path("offers"), "rb") as file:
-            file.seek(max(file.seek(0, os.SEEK_END) - 64, 0))
-            *_, last = [b"begins -1", *file.read().splitlines()]
-        return int(last.split()[1]) + 1
+            file.seek(max(file.seek(0, os.SEEK_END) - 4_096, 0))
+            lines = file.read().splitlines()
+        return max((int(it.split()[1]) for it in lines if it.startswith(b"begins ")), default=-1) + 1
 
     def left(self):
         """How many tasks are not done."""
