@@ -8,14 +8,14 @@
 Delays, waits, timeouts and patience are seconds or a `timedelta`. Moments of the protocol are whole nanoseconds of the
 server's clock, under names that end in `_ns`.
 """
+from .answers import (
+    Again, AsyncHeldJob, BrokerError, Dead, DisconnectedError, FullError, Greeting, HeldJob, InDoubtError, Job, LostRun,
+    NotHeldError, NotOfferedError, Offered, OutOfMemoryError, RefusedError, Report, StoppedError, UnknownReplyError,
+    Verdict,
+)
 from .broker import AsyncBroker, Broker
 from .dead_letters import DeadLetters
 from .durations import Duration, Pauses
-from .errors import (
-    BrokerError, DisconnectedError, FullError, InDoubtError, NotHeldError, NotOfferedError, OutOfMemoryError,
-    RefusedError, StoppedError, UnknownReplyError,
-)
-from .job import Again, AsyncHeldJob, Dead, Greeting, HeldJob, Job, LostRun, Offered, Report, Verdict
 from .producer import AsyncProducer, Producer
 from .request import Request
 from .worker import AsyncWorker, Worker

@@ -25,11 +25,10 @@ from functools import partial
 from typing import Any
 
 from . import __version__
+from .answers import MOST_HELD, BrokerError
 from .broker import Broker
 from .dead_letters import payload_of, read_letters, take_letters
 from .durations import from_text, seconds
-from .errors import BrokerError
-from .job import MOST_HELD
 from .producer import Producer
 from .request import Request
 from .tasks import Tasks

@@ -17,9 +17,10 @@ from operator import length_hint
 from selectors import EVENT_READ, EVENT_WRITE
 from typing import Any, ClassVar, Concatenate, Generic, Self, TextIO
 
+from .answers import (
+    LONGEST_REPLY, AsyncHeldJob, BrokerError, DisconnectedError, EndedError, Greeting, HeldJob, Job, UnknownReplyError,
+)
 from .durations import Duration, seconds
-from .errors import BrokerError, DisconnectedError, EndedError, UnknownReplyError
-from .job import LONGEST_REPLY, AsyncHeldJob, Greeting, HeldJob, Job
 from .request import Answer, Request
 from .waiting import Blocking, Kind, Looping, Words, blocking, run
 
@@ -86,13 +87,12 @@ class Session:
     def is_lost(self) -> bool:
         """Whether the server has ended the session, as far as that is known: it may have ended it all the same. This
         looks at what has come, and takes nothing of it."""
-        if self._fault is None:
-            with suppress(*_NOT_NOW):
-                try:
-                    return not socket.socket.recv(self._socket, 1, socket.MSG_PEEK)
-                except ConnectionError:
-                    return True
-        return self._fault is not None
+        try:
+            return self._fault is not None or not socket.socket.recv(self._socket, 1, socket.MSG_PEEK)
+        except _NOT_NOW:
+            return False
+        except ConnectionError:
+            return True
 
     def receive(self) -> None:
         """Reads what has come."""

@@ -8,7 +8,7 @@ from datetime import datetime, timezone
 from functools import partial
 from typing import IO
 
-from .job import Job
+from .answers import Job
 from .waiting import Looping
 
 _LONGEST = 4_096  # bytes of no line are more

@@ -5,7 +5,7 @@ import re
 from datetime import timedelta
 from fractions import Fraction
 
-from .job import GREATEST_NUMBER
+from .answers import GREATEST_NUMBER
 
 Duration = int | float | timedelta
 """Seconds as a number, or a `timedelta`."""

@@ -7,9 +7,9 @@ from collections.abc import Callable
 from selectors import EVENT_READ, EVENT_WRITE
 from typing import Any
 
+from .answers import DisconnectedError, UnknownReplyError
 from .broker import Session
 from .durations import FOR_EVER
-from .errors import DisconnectedError, UnknownReplyError
 from .request import Answer, Request
 
 

@@ -13,10 +13,9 @@ from functools import partial
 from typing import Any, ClassVar, Self, TextIO
 from weakref import WeakSet
 
+from .answers import EndedError, FullError, Greeting, InDoubtError, LostRun, NotOfferedError, Offered, OutOfMemoryError
 from .broker import AsyncBroker, Broker, Session, checked_port
 from .durations import FOR_EVER, Duration, Pauses, nanoseconds, seconds
-from .errors import EndedError, FullError, InDoubtError, NotOfferedError, OutOfMemoryError
-from .job import Greeting, LostRun, Offered
 from .pipeline import LeftError, Pipeline
 from .request import Request
 from .run import Run

@@ -7,9 +7,11 @@ from collections.abc import Callable, Iterator, Mapping
 from dataclasses import dataclass
 from typing import Generic, NoReturn, TypeVar
 
+from .answers import (
+    GREATEST_NUMBER, LONGEST_PAYLOAD, REFUSALS, Again, BrokerError, Dead, Job, Offered, StoppedError, UnknownReplyError,
+    Verdict,
+)
 from .durations import Duration, nanoseconds
-from .errors import REFUSALS, BrokerError, StoppedError, UnknownReplyError
-from .job import GREATEST_NUMBER, LONGEST_PAYLOAD, Again, Dead, Job, Offered, Verdict
 
 Answer = TypeVar("Answer")
 Reader = Callable[[Iterator[bytes]], Answer]  # of a reply, of which it takes as many lines as there are

@@ -5,7 +5,7 @@ from collections.abc import Callable
 from threading import Thread
 from typing import Any
 
-from .job import GREATEST_NUMBER, Greeting, LostRun
+from .answers import GREATEST_NUMBER, Greeting, LostRun
 
 SHARDS = 64  # queues that a broker on Redis may have under one name, by whose number ids count
 PIECE, MOST_PIECES = 1_024, 4_096  # ids of one number, of each a bit, and how many of these are kept

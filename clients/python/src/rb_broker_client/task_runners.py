@@ -13,8 +13,8 @@ from dataclasses import astuple, dataclass
 from multiprocessing.connection import Connection
 from typing import TYPE_CHECKING, Any, Self
 
+from .answers import Job, Report
 from .durations import Duration, from_text
-from .job import Job, Report
 from .task_store import Store, StoredTask, going_on
 from .waiting import Blocking, Looping, run
 

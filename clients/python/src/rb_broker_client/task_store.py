@@ -11,7 +11,7 @@ from contextlib import contextmanager
 from dataclasses import dataclass, replace
 from typing import Any
 
-from .job import Greeting
+from .answers import Greeting
 
 log = logging.getLogger("rb_broker_client.tasks")
 
@@ -115,8 +115,8 @@ class Store:
         """The task of a turn that is delivered, from now on run by this owner; or, if it is `running`, by another one.
         None if it is done, cancelled or dead, or has another turn."""
         words = {"id": id, "turn": turn, "owner": owner, "stale": STALE}
-        task = self._one(f"""UPDATE tasks SET state = 'running', offers = 0, owner = :owner, touched = :now, began = :now
-            WHERE id = :id AND turn = :turn AND (state IN ('new', 'waiting')
+        task = self._one(f"""
+            UPDATE tasks SET state = 'running', offers = 0, owner = :owner, touched = :now, began = :now WHERE id = :id AND turn = :turn AND (state IN ('new', 'waiting')
             OR state = 'running' AND touched <= :now - :stale) RETURNING {_COLUMNS}""", False, **words)
         return replace(task, state="claimed") if task else self._one(
             f"SELECT {_COLUMNS} FROM tasks WHERE id = :id AND turn = :turn AND state = 'running'", False, **words)

@@ -17,9 +17,8 @@ from datetime import datetime
 from functools import partial
 from typing import Any
 
+from .answers import BrokerError, Greeting, Job, Report
 from .durations import Duration, from_text, seconds
-from .errors import BrokerError
-from .job import Greeting, Job, Report
 from .producer import Producer
 from .task_runners import Processes, Testing
 from .task_store import STALE, Store, StoredTask, going_on

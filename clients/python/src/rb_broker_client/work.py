@@ -12,9 +12,8 @@ from functools import partial
 from time import monotonic
 from typing import Any
 
+from .answers import Again, BrokerError, FullError, Greeting, Job, OutOfMemoryError, Report, StoppedError
 from .durations import Pauses
-from .errors import BrokerError, FullError, OutOfMemoryError, StoppedError
-from .job import Again, Greeting, Job, Report
 from .request import Request
 from .run import Run
 
@@ -82,7 +81,7 @@ class Work:
         return bool(self._held)
 
     def ended(self, job: Job, is_done: bool | None) -> None:
-        """The handler of a job has ended or took too long, or it broke off, if this is None: then the end of the session
+        """The handler of a job has ended or took too long, or, if this is None, broke off, and the end of the session
         fails the job. If the session was lost meanwhile nothing more is asked."""
         if is_done is None:
             self._report.unheard += self._held.pop(job.id, None) is not None

@@ -14,13 +14,12 @@ from dataclasses import dataclass
 from functools import partial
 from typing import Any, ClassVar, Generic, TextIO, TypeVar
 
+from .answers import MOST_HELD, Job, LostRun, Report
 from .broker import AsyncBroker, Broker, Session, checked_port
 from .dead_letters import DeadLetters
 from .durations import FOR_EVER, Duration, Pauses, seconds
-from .job import MOST_HELD, Job, LostRun, Report
 from .run import Run
-from .turns import LoopTurns, ThreadTurns
-from .waiting import blocking
+from .waiting import LoopTurns, ThreadTurns, blocking
 from .work import Work
 
 log = logging.getLogger(__name__)

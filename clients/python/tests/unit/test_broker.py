@@ -16,7 +16,7 @@ from rb_broker_client import (
     Again, AsyncBroker, AsyncProducer, Broker, DisconnectedError, FullError, Job, NotHeldError, Offered, Producer,
     Request, StoppedError, UnknownReplyError, Worker,
 )
-from rb_broker_client.errors import EndedError
+from rb_broker_client.answers import EndedError
 
 DRAINED_LATE = "DRAIN 2 > DRAINED 2, ITEM 0 0 1 a; SIZE > late: ITEM 1 0 1 b, SIZE 0"
 
