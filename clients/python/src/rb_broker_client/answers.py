@@ -52,11 +52,9 @@ class LostRun:
 
 @dataclass(frozen=True, eq=False, repr=False)
 class Job:
-    """An element of the queue: one that was given, or one that `peek` shows. Its `attempt` is 1 for the first one.
-
-    `done` and `fail` raise `NotHeldError` if the job isn't held any more, also if its session has ended, and for the
-    jobs of a worker, which tells the server itself. Jobs are equal whose fields are.
-    """
+    """An element of the queue: one that was given, or one that `peek` shows. The first `attempt` is 1. `done` and
+    `fail` raise `NotHeldError` if the job isn't held any more, also if its session has ended, and for the jobs of a
+    worker, which tells the server itself. Jobs are equal whose fields are."""
 
     id: int
     expires_at_ns: int
@@ -126,13 +124,10 @@ Verdict = Again | Dead
 
 @dataclass
 class Report:
-    """What became of the jobs that a worker took.
-
-    `done`: the handler returned, and the server was told. `again`: the handler raised an exception, and the job was
-    offered again. `dead`: it raised one in the last attempt. `lost`: it raised one in a full run, which takes no job
-    back, so that nobody will try it again. `unheard`: what the server made of it is not known; unless it was told in
-    time that the job is done, it comes back.
-    """
+    """What became of the jobs that a worker took. `done`: the handler returned, and the server was told. `again`: it
+    raised an exception, and the job was offered again. `dead`: it did in the last attempt. `lost`: it did in a full
+    run, which takes no job back. `unheard`: what the server made of it is not known; unless it was told in time that
+    the job is done, it comes back."""
 
     done: int = 0
     again: int = 0

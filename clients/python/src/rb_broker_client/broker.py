@@ -11,7 +11,7 @@ import time
 import uuid
 from collections import deque
 from collections.abc import Callable, Coroutine, Iterable
-from contextlib import ExitStack, suppress
+from contextlib import ExitStack
 from functools import wraps
 from operator import length_hint
 from selectors import EVENT_READ, EVENT_WRITE
@@ -51,10 +51,9 @@ class Session:
 
     def __init__(self, port: int, host: str = "127.0.0.1", patience: Duration | None = None, *,
                  tls: ssl.SSLContext | None = None, record: TextIO | None = None) -> None:
-        """A reply that does not come within `patience` raises `TimeoutError`. With `tls` the connection is encrypted,
-        and the certificates are those of this context. To `record`, a text file, a line is added for each request once
-        it has its answer, or at the end: when it was sent, when its reply had come (null if that never came), its line,
-        and the reply's lines."""
+        """A reply that does not come within `patience` raises `TimeoutError`. With `tls` the connection is encrypted.
+        To `record`, a text file, a line is added for each request once it has its answer, or at the end: when it was
+        sent, when its reply had come (null if that never came), its line, and the reply's lines."""
         self._port, self._host, self._tls = checked_port(port), host, tls
         self.patience = None if patience is None else seconds(patience)
         self._fault: Exception | None = RuntimeError("the broker is not connected")
@@ -317,13 +316,9 @@ class AsyncBroker(Session):
 class Broker(Session):
     """One session with `rb_broker serve`, from the connection to its end. One thread or task at a time may use it.
 
-    There is a method for each request, which sends it, waits for the reply and gives that as a value. A refusal is
-    raised as a kind of `RefusedError`, a lost connection as an `OSError`. `ask_all` sends several in one piece.
-
-    The jobs that a session holds fail when it ends, by `quit`, by `close` or at the end of a `with`: they come back to
-    other sessions until their attempts are used up. If the wait for a reply is broken off, by `patience` or by the
-    exception of a signal handler, the session can only be closed.
-    """
+    There is a method for each request, which gives its reply as a value. A refusal is raised as a kind of
+    `RefusedError`, a lost connection as an `OSError`. If the wait for a reply is broken off, by `patience` or by the
+    exception of a signal handler, the session can only be closed. The jobs that it holds fail when it ends."""
 
     _kind, _job = Blocking, HeldJob
 

@@ -47,9 +47,8 @@ def seconds(duration: Duration) -> float:
 
 
 class Pauses:
-    """The pauses between tries that fail one after the other. Each is twice as long as the one before, from `first` up
-    to `longest`, less a random part, up to a half: clients that lose their server together do not come back together.
-    """
+    """The pauses between tries that fail. Each is twice as long as the one before, from `first` up to `longest`, less a
+    random part, up to a half: clients that lose their server together do not come back together."""
 
     def __init__(self, first: Duration = 0.1, longest: Duration = 10.0) -> None:
         self._longest = seconds(longest)

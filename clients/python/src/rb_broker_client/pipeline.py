@@ -36,10 +36,8 @@ class _Call:
 
 class Pipeline:
     """The requests of several callers in one session, which is served already. One of those that wait reads for all, as
-    long as the reply to its own request has not come; then another goes on.
-
-    A session in which nobody waits for the replies that are due is closed.
-    """
+    long as the reply to its own request has not come; then another goes on. Once nobody waits for the replies that are
+    due the session is closed."""
 
     def __init__(self, session: Session) -> None:
         self.session, self._kind = session, session._kind

@@ -175,12 +175,9 @@ class AsyncProducer(BaseProducer):
 
 class Producer(BaseProducer):
     """Offers jobs, and connects again when its connection is lost. Threads may share it: their offers go out as they
-    come, over one session, which an offer begins if there is none.
-
-    An offer is tried again, for up to `patience`, when the job was surely not accepted. Other refusals are raised at
-    once. If the connection is lost between an offer and its reply, nobody can tell whether the job was accepted. Then
-    it raises `InDoubtError`, or with `may_double=True` offers again: each job at least once, and perhaps twice.
-    """
+    come, over one session, which an offer begins if there is none. An offer that was surely not accepted is tried
+    again, for up to `patience`. If the connection is lost before the reply nobody can tell. Then it raises
+    `InDoubtError`, or with `may_double=True` offers again: each job at least once, and perhaps twice."""
 
     _session_of = Broker
     offer, close = blocking(BaseProducer._offer), blocking(BaseProducer._close)

@@ -116,7 +116,8 @@ class Store:
         None if it is done, cancelled or dead, or has another turn."""
         words = {"id": id, "turn": turn, "owner": owner, "stale": STALE}
         task = self._one(f"""
-            UPDATE tasks SET state = 'running', offers = 0, owner = :owner, touched = :now, began = :now WHERE id = :id AND turn = :turn AND (state IN ('new', 'waiting')
+            UPDATE tasks SET state = 'running', offers = 0, owner = :owner, touched = :now, began = :now
+            WHERE id = :id AND turn = :turn AND (state IN ('new', 'waiting')
             OR state = 'running' AND touched <= :now - :stale) RETURNING {_COLUMNS}""", False, **words)
         return replace(task, state="claimed") if task else self._one(
             f"SELECT {_COLUMNS} FROM tasks WHERE id = :id AND turn = :turn AND state = 'running'", False, **words)

@@ -104,10 +104,8 @@ class Tasks:
     """The tasks of a file, and the broker that says when each is due.
 
     A task is in the file before it is offered to the broker, and is out of it before the broker is told that it is
-    done. What the broker or a worker loses is offered again out of the file. That no task is lost rests on this file
-    and on SQLite, and on no proof. One can be run twice: if its worker is killed after its work, or stands still for
-    ten seconds.
-    """
+    done. What the broker or a worker loses is offered again. That no task is lost rests on this file and on SQLite, and
+    on no proof. One can be run twice: if its worker is killed after its work, or stands still for ten seconds."""
 
     def __init__(self, path: str | os.PathLike[str], port: int, host: str = "127.0.0.1", *, patience: Duration = 5.0,
                  overdue: Duration = 60.0, tls: ssl.SSLContext | None = None) -> None:
@@ -126,10 +124,9 @@ class Tasks:
 
     def task(self, *, attempts: int = 8, backoff: Backoff = exponential("10s"),
              timeout: Duration | str | None = None, name: str | None = None) -> Callable[[Callable[..., Any]], Task]:
-        """Makes a task of a function, which may be a coroutine function. It has so many attempts, and `backoff` says
-        how long after a failure the next one is. One that takes longer than `timeout` fails: a coroutine is cancelled,
-        and any other function ends with its process, if `run` has `processes`. Its name, by default that of the
-        function with its module, is in the file: keep it."""
+        """Makes a task of a function or a coroutine function. `backoff` says how long after a failed attempt the next
+        one is. One that takes longer than `timeout` fails: a coroutine is cancelled, and any other function ends with
+        its process, if `run` has `processes`. Its name, by default with that of its module, is in the file: keep it."""
         def make(function: Callable[..., Any]) -> Task:
             task = Task(self, function, name, attempts, backoff, timeout)
             if self._tasks.setdefault(task.name, task) is not task:

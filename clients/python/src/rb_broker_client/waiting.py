@@ -121,9 +121,8 @@ Kind = type[Blocking] | type[Looping]
 
 
 class ThreadTurns:
-    """Takes turns in the thread that calls `run`. Tasks run in this thread, or `apart`, in others. There is no lock here,
-    for which a signal handler would wait for ever in the middle of what its thread does. A byte in a socket does it.
-    """
+    """Takes turns in the thread that calls `run`. Tasks run in this thread, or `apart`, in others. No lock is here: a
+    signal handler would wait for ever for one that its thread holds. A byte in a socket does it."""
 
     has_started = False  # nothing that is waited for
 
@@ -138,8 +137,7 @@ class ThreadTurns:
             it.close()
 
     async def run(self, turn: Turn) -> None:
-        """Takes turns until all is done. The descriptors are made here, so that a process that was forked before has
-        its own."""
+        """Takes turns until all is done. Descriptors are made here: a process that was forked before has its own."""
         self._reader, self._writer = socket.socketpair()
         self._selector = selectors.DefaultSelector()
         self._open = [self._reader, self._writer, self._selector]
@@ -196,9 +194,9 @@ class ThreadTurns:
 
 
 class LoopTurns:
-    """Takes turns in callbacks of an event loop, and runs each task beside them. A turn that starts tasks is followed by
-    another as soon as each has run up to where it waits: what ends at once is told in one piece, and its place is free
-    when more is fetched. Its methods do what those of `ThreadTurns` do."""
+    """Takes turns in callbacks of an event loop, and runs each task beside them. Its methods do what those of
+    `ThreadTurns` do. A turn that starts tasks is followed by another as soon as each has run up to where it waits: what
+    ends at once is told in one piece, and its place is free when more is fetched."""
 
     def __init__(self, is_apart: bool) -> None:
         self._tasks: set[Any] = set()

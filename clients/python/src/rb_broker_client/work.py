@@ -1,8 +1,4 @@
-"""What a worker asks in one session, and what the answers make of its jobs.
-
-No socket, thread or event loop is here: a worker sends what a `Work` asks, gives it the answers, and runs the jobs that
-it was given.
-"""
+"""What a worker asks in one session, and what the answers make of its jobs. No socket, thread or loop is here."""
 
 import logging
 import math
@@ -25,12 +21,9 @@ Asked = tuple[Request[Any], Callable[[Any], None]]  # a request, and what takes 
 
 
 class Work:
-    """One session of a worker, from the moment at which it is connected to that at which it has been left.
-
-    In turns: `ask` says what is to be sent, `answered` takes each answer, in order, and `given` and `dead` say what
-    came of it: jobs to be run, and jobs that failed in their last attempt. The caller takes them out. `ended` is called
-    with each job whose handler has ended.
-    """
+    """One session of a worker. In turns, `ask` says what is to be sent, `answered` takes each answer, in order, and
+    `given` and `dead` say what came of it: jobs to be run, and jobs that failed in their last attempt. The caller takes
+    them out. `ended` is called with each job whose handler has ended."""
 
     def __init__(self, wait: float, report: Report, pauses: Pauses, run: Run, attempts: float = math.inf) -> None:
         """A wait for a job lasts so many seconds while none runs. Each job has so many attempts."""

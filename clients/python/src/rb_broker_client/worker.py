@@ -56,18 +56,15 @@ class BaseWorker(Generic[Handler, OnDead]):
                  on_dead: OnDead | None = None, attempts: int | None = None,
                  on_lost_run: Callable[[LostRun], object] | None = None, tls: ssl.SSLContext | None = None,
                  pauses: Pauses | None = None, record: TextIO | None = None) -> None:
-        """Connects to nothing yet.
-
-        `wait` is how long the worker waits for a job at a time, and so how long a stop takes at most while it is idle.
-        It makes a call each time. While jobs run a wait is a fifth of that, since a server reads nothing behind a wait:
-        the end of a job is told so much later at most. A reply that is `patience` late is taken for a lost session.
-        A job whose handler takes longer than `timeout` fails; its place is free once the handler returns.
+        """Connects to nothing yet. `wait` is how long the worker waits for a job at a time, and so how long a stop
+        takes at most while it is idle. It makes a call each time. While jobs run a wait is a fifth of that, since a
+        server reads nothing behind a wait: the end of a job is told so much later at most. A reply that is `patience`
+        late is taken for a lost session. A job whose handler takes longer than `timeout` fails; its place is free once
+        the handler returns.
 
         `on_dead` is called with each job that failed and won't come back: the server said so, or its run is full; and
         with `attempts`, those of the server, also if the last one ended with a lost session, of which no reply tells.
-        An `Exception` that it raises is logged. `on_lost_run` is called, in a thread of its own, when the server has
-        lost a run. `tls` and `record` are those of a `Broker`.
-        """
+        `on_lost_run` is called, in a thread of its own, when the server has lost a run."""
         if not 1 <= concurrency <= MOST_HELD:
             raise ValueError(f"from 1 to {MOST_HELD} jobs can run at the same time")
         self._handler, self._concurrency = handler, concurrency
@@ -278,11 +275,8 @@ class BaseWorker(Generic[Handler, OnDead]):
 
 
 class AsyncWorker(BaseWorker[Callable[[Job], Awaitable[object]], Function]):
-    """A `Worker` for asyncio, whose handler is a coroutine function.
-
-    Each job is a task of the loop, which is cancelled after `timeout`. If `run` is cancelled so are these tasks, and
-    the session ends with their jobs. `on_dead` may be a coroutine function too.
-    """
+    """A `Worker` for asyncio, whose handler is a coroutine function, as `on_dead` may be. Each job is a task, which is
+    cancelled after `timeout`. If `run` is cancelled so are these tasks, and the session ends with their jobs."""
 
     _session_of, _turns_of = AsyncBroker, LoopTurns
     run = BaseWorker._work
@@ -293,12 +287,8 @@ class Worker(BaseWorker[Callable[[Job], None], Callable[[Job], None]]):
     handler returns, and fails when it raises an `Exception`.
 
     With a `concurrency` of 1 and no `timeout` the handler runs in the thread of `run`, and else in up to 64 threads of
-    its own: it must bear to be called by several at a time.
-
-    It has one session at a time, which keeps one of the server's workers busy. When that ends or is lost it connects
-    again, after pauses that grow while no server answers. A job of which the server has not read that it is done comes
-    back, though its handler returned.
-    """
+    its own: it must bear to be called by several at a time. It has one session at a time, and begins the next after
+    pauses that grow while no server answers. A job of which the server has not read that it is done comes back."""
 
     _session_of, _turns_of = Broker, ThreadTurns
     run = blocking(BaseWorker._work)
