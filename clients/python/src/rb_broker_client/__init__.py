@@ -1,9 +1,7 @@
 """A client of `rb_broker serve`, of the standard library alone.
 
-- `Broker` is one session with the server: a method for each request, and several in one piece.
-- `Producer` offers jobs to a server that may be replaced by another.
-- `Worker` takes jobs, runs a handler on each, and tells the server what came of it.
-- `AsyncBroker`, `AsyncProducer` and `AsyncWorker` do the same for asyncio.
+A `Broker` is one session with the server. A `Producer` offers jobs to a server that may be replaced by another. A
+`Worker` takes jobs, runs a handler on each, and tells the server what came of it. Each has a twin for asyncio.
 
 Delays, waits, timeouts and patience are seconds or a `timedelta`. Moments of the protocol are whole nanoseconds of the
 server's clock, under names that end in `_ns`.

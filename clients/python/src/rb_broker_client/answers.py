@@ -6,8 +6,8 @@ is a `BrokerError`.
 
 import re
 from collections.abc import Callable, Coroutine
-from dataclasses import astuple, dataclass, field, fields
-from typing import Any, ClassVar, Self
+from dataclasses import dataclass, field
+from typing import TYPE_CHECKING, Any, ClassVar, Self
 
 GREATEST_NUMBER = 2**64 - 1  # that a request or a reply may have
 LONGEST_PAYLOAD = 64  # characters, each of which is printable ASCII and none a space
@@ -50,26 +50,17 @@ class LostRun:
     until_ns: int
 
 
-@dataclass(frozen=True, eq=False, repr=False)
+@dataclass(frozen=True)
 class Job:
     """An element of the queue: one that was given, or one that `peek` shows. The first `attempt` is 1. `done` and
     `fail` raise `NotHeldError` if the job isn't held any more, also if its session has ended, and for the jobs of a
-    worker, which tells the server itself. Jobs are equal whose fields are."""
+    worker, which tells the server itself."""
 
     id: int
     expires_at_ns: int
     attempt: int
     payload: str
     _session: ClassVar[Any] = None  # of one that a broker took
-
-    def __eq__(self, other: object) -> bool:
-        return isinstance(other, Job) and astuple(self) == astuple(other)
-
-    def __hash__(self) -> int:
-        return hash(astuple(self))
-
-    def __repr__(self) -> str:
-        return f"Job({', '.join(f'{it.name}={getattr(self, it.name)!r}' for it in fields(self))})"
 
     def done(self) -> Any:
         """The job is finished."""
@@ -84,26 +75,22 @@ class Job:
             raise NotHeldError(f"job {self.payload} is not held: no broker took it, or its session has ended")
         return self._session
 
-    @classmethod
-    def of(cls, session: object, job: "Job") -> Self:
-        """The job, which this session was shown."""
-        made = cls(job.id, job.expires_at_ns, job.attempt, job.payload)
-        vars(made)["_session"] = session  # past the lock of a frozen class
-        return made
+    def of(self, session: object) -> Self:
+        """This job, which the session was shown."""
+        vars(self)["_session"] = session  # past the lock of a frozen class
+        return self
 
 
-class HeldJob(Job):
-    """A job that a `Broker` took."""
+if TYPE_CHECKING:  # what `done` and `fail` give, by the kind of the broker that took the job
+    class HeldJob(Job):
+        done: Callable[[], None]
+        fail: Callable[[], "Verdict"]
 
-    done: Callable[[], None]
-    fail: Callable[[], "Verdict"]
-
-
-class AsyncHeldJob(Job):
-    """A job that an `AsyncBroker` took. What its methods give is to be awaited."""
-
-    done: Callable[[], Coroutine[Any, Any, None]]
-    fail: Callable[[], Coroutine[Any, Any, "Verdict"]]
+    class AsyncHeldJob(Job):
+        done: Callable[[], Coroutine[Any, Any, None]]
+        fail: Callable[[], Coroutine[Any, Any, "Verdict"]]
+else:
+    HeldJob = AsyncHeldJob = Job
 
 
 @dataclass(frozen=True)

@@ -46,7 +46,6 @@ class Session:
     """What `Broker` and `AsyncBroker` have in common."""
 
     _kind: ClassVar[Kind]
-    _job: ClassVar[type[Job]]
     _socket: socket.socket  # once it is connected
 
     def __init__(self, port: int, host: str = "127.0.0.1", patience: Duration | None = None, *,
@@ -58,8 +57,7 @@ class Session:
         self.patience = None if patience is None else seconds(patience)
         self._fault: Exception | None = RuntimeError("the broker is not connected")
         self._record, self._name = record, uuid.uuid4().hex
-        self.unsent = bytearray()
-        """Of the requests, what the connection has not taken yet."""
+        self.unsent = bytearray()  # of the requests, what the connection has not taken yet
         self._due: deque[tuple[Request[Any], int]] = deque()  # requests without an answer, with when each was sent
         self._lines: deque[bytes] = deque()  # that came, and are not taken for a reply
         self._rest, self._came = b"", 0  # of a line of which more is to come, and when that came
@@ -68,8 +66,7 @@ class Session:
         self._has_begun = False  # whether a line has come
         self.greeting: Greeting | None = None
         """What the server said first, if it is one that greets."""
-        self.answers: deque[Any] = deque()
-        """Those that nobody has taken, each refusal in its place."""
+        self.answers: deque[Any] = deque()  # those that nobody has taken, each refusal in its place
         self.at_end = ExitStack()
         if not self._kind.is_async:
             run(self._connect())
@@ -122,12 +119,6 @@ class Session:
             self._lines.clear()
         self._due.clear()
         self.answers.clear()
-
-    def forget(self) -> None:
-        """Closes the descriptor alone. The session may be that of the process from which this one was forked."""
-        self._record = None
-        self._due.clear()
-        self.close()
 
     def post(self, *requests: Request[Any]) -> None:
         """Sends requests in one piece, as far as the connection takes it now. The rest is sent with what follows."""
@@ -197,7 +188,7 @@ class Session:
     def _own(self, answer: Any) -> Any:
         if isinstance(answer, list):
             return [*map(self._own, answer)]
-        return self._job.of(self, answer) if isinstance(answer, Job) else answer
+        return answer.of(self) if isinstance(answer, Job) else answer
 
     async def _quit(self) -> None:
         """Ends the session, waits until the server has read so, and hangs up."""
@@ -205,8 +196,7 @@ class Session:
         self.close()
 
     async def _await_service(self) -> None:
-        """Waits until the server serves this session. One that connects while all of the server's workers are busy is
-        only served when one of them is free. This is no call and changes nothing."""
+        """Waits until the server serves this session, for which one of its workers must be free. This is no call."""
         await self._ask(Request.greeting())
 
     def _read(self) -> None:
@@ -287,7 +277,7 @@ class _Gives(Generic[Answer]):
 class AsyncBroker(Session):
     """A `Broker` for asyncio: `async with AsyncBroker(7011) as broker`. Its methods are coroutine functions."""
 
-    _kind, _job = Looping, AsyncHeldJob
+    _kind = Looping
 
     offer = _asks(Request.offer)
     offer_at = _asks(Request.offer_at)
@@ -320,7 +310,7 @@ class Broker(Session):
     `RefusedError`, a lost connection as an `OSError`. If the wait for a reply is broken off, by `patience` or by the
     exception of a signal handler, the session can only be closed. The jobs that it holds fail when it ends."""
 
-    _kind, _job = Blocking, HeldJob
+    _kind = Blocking
 
     offer = blocking(AsyncBroker.offer)
     offer_at = blocking(AsyncBroker.offer_at)

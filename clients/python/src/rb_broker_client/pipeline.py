@@ -9,7 +9,6 @@ from typing import Any
 
 from .answers import DisconnectedError, UnknownReplyError
 from .broker import Session
-from .durations import FOR_EVER
 from .request import Answer, Request
 
 
@@ -43,11 +42,9 @@ class Pipeline:
         self.session, self._kind = session, session._kind
         self._lock = threading.Lock()  # in which nobody waits
         self._calls: deque[_Call] = deque()  # whose replies have not come
-        self._waiting = 0  # of these, that are not given up
         self._is_read = self._is_ended = False
-        self.is_left = False
-        """Whether it takes no request any more."""
-        self._at_end: list[Any] = []  # where those sleep that wait for the end
+        self.is_left = False  # whether it takes no request any more
+        self.end = self._kind.bell()  # which can be acquired once it has hung up
 
     async def ask(
         self, request: Request[Answer], deadline: float, take: Callable[[Answer], object] = lambda _: None
@@ -62,7 +59,6 @@ class Pipeline:
             if self.is_left:
                 raise LeftError
             self._calls.append(call)
-            self._waiting += 1
             self._send(request)
         try:
             while not call.is_answered:
@@ -70,9 +66,7 @@ class Pipeline:
                     raise TimeoutError(f"no reply came within {time.monotonic() - sent:.1f} seconds")
         finally:
             with self._lock:
-                if not call.is_answered:
-                    call.is_given_up = True
-                    self._waiting -= 1
+                call.is_given_up = not call.is_answered
                 self._pass_on()
         if isinstance(call.answer, Exception):
             raise call.answer
@@ -83,14 +77,6 @@ class Pipeline:
         with self._lock:
             self.is_left = True
             self._pass_on()
-
-    async def end(self) -> None:
-        """Waits until it has hung up."""
-        with self._lock:
-            if self._is_ended:
-                return
-            self._at_end.append(bell := self._kind.bell())
-        await self._kind.acquire(bell, FOR_EVER)
 
     async def _wait(self, call: _Call, deadline: float) -> bool:
         with self._lock:
@@ -140,7 +126,6 @@ class Pipeline:
     def _settle(self, answer: Any) -> None:
         call = self._calls.popleft()
         call.answer, call.is_answered = answer, True
-        self._waiting -= not call.is_given_up
         call.wake()
 
     def _lose(self, fault: Exception) -> None:
@@ -154,10 +139,9 @@ class Pipeline:
         # Somebody is to read for those that wait, or, if nobody does, the session is to end in which something is due.
         if self._is_read or self._is_ended:
             return
-        if self._waiting:
+        if not all(it.is_given_up for it in self._calls):
             any(it.wake() for it in self._calls)
         elif self.is_left or self._calls:
             self.is_left = self._is_ended = True
             self.session.close()
-            for it in self._at_end:
-                it.release()
+            self.end.release()

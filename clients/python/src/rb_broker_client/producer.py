@@ -2,12 +2,11 @@
 
 import copy
 import logging
-import math
 import os
 import ssl
 import time
-from collections.abc import AsyncIterator, Callable
-from contextlib import ExitStack, asynccontextmanager
+from collections.abc import Callable
+from contextlib import ExitStack
 from dataclasses import replace
 from functools import partial
 from typing import Any, ClassVar, Self, TextIO
@@ -23,7 +22,6 @@ from .waiting import blocking
 
 log = logging.getLogger(__name__)
 
-LONG = 1.0  # seconds of a wait for one of the server's workers from which it is logged
 LEAST = 1e-3  # seconds of a try whose time is over
 
 
@@ -70,22 +68,12 @@ class BaseProducer:
     async def _close(self) -> None:
         """Ends the session, if there is one, once the offers of others are answered."""
         self._is_closed = True
-        async with self._in_turn():
-            pipeline, self._pipeline = self._pipeline, None
+        await self._kind.acquire(self._turn, FOR_EVER)
+        pipeline, self._pipeline = self._pipeline, None
+        self._turn.release()
         if pipeline is not None:
             pipeline.leave()
-            await pipeline.end()
-
-    @asynccontextmanager
-    async def _in_turn(self, deadline: float = math.inf, what: object = "") -> AsyncIterator[None]:
-        began = time.monotonic()
-        if not await self._kind.acquire(self._turn, min(max(deadline - began, 0), FOR_EVER)):
-            raise NotOfferedError(f"{what} was not offered: another offer has been looking for the server at "
-                                  f"{self._run.place} for {time.monotonic() - began:.1f} seconds")
-        try:
-            yield
-        finally:
-            self._turn.release()
+            await self._kind.acquire(pipeline.end, FOR_EVER)
 
     async def _try(self, request: Request[Offered], deadline: float, see: Callable[[Offered], None]) -> Offered:
         while True:
@@ -119,14 +107,19 @@ class BaseProducer:
     async def _served(self, request: Request[Offered], deadline: float) -> Pipeline:
         # One that is served already, so that an offer is in doubt only while it is answered.
         while (pipeline := self._pipeline) is None or pipeline.is_left:
-            async with self._in_turn(deadline, request):
+            began = time.monotonic()
+            if not await self._kind.acquire(self._turn, max(deadline - began, 0)):
+                raise NotOfferedError(f"{request} was not offered: another offer has been looking for the server at "
+                                      f"{self._run.place} for {time.monotonic() - began:.1f} seconds")
+            try:
                 if self._is_closed:
                     raise RuntimeError("the producer is closed")
                 if self._pipeline is pipeline:  # nobody has begun the next one meanwhile
-                    try:
-                        await self._begin_pipeline(deadline)
-                    except OSError as fault:
-                        raise NotOfferedError(f"{request} was not accepted: {fault}") from fault
+                    await self._begin_pipeline(deadline)
+            except OSError as fault:
+                raise NotOfferedError(f"{request} was not accepted: {fault}") from fault
+            finally:
+                self._turn.release()
         return pipeline
 
     async def _begin_pipeline(self, deadline: float) -> None:
@@ -142,17 +135,15 @@ class BaseProducer:
                 raise TimeoutError(f"connected, but all workers of the server at {self._run.place} were busy for "
                                    f"{time.monotonic() - began:.1f} seconds") from None
             undo.pop_all()
-        if (waited := time.monotonic() - began) >= LONG:
-            log.warning("waited %.1f seconds until the server at %s had a worker", waited, self._run.place)
         self._pipeline = Pipeline(session)
         self._run.served(session.greeting)
 
     def _begin_anew(self) -> None:
         # In a forked process, whose other threads are gone, whatever they were at. The session is the other process's.
         self._turn = self._kind.lock()
-        if self._pipeline is not None:
-            self._pipeline.session.forget()
-        self._pipeline = None
+        pipeline, self._pipeline = self._pipeline, None
+        if pipeline is not None:
+            pipeline.session.at_end.close()
 
 
 _PRODUCERS: WeakSet[BaseProducer] = WeakSet()  # of this process

@@ -36,20 +36,16 @@ class Run:
         """There is a session, and the server serves it, and has greeted it if it is one that does."""
         if self._is_away:
             self._log.info("served again at %s", self.place)
-        self._is_away = False
-        if greeting is not None:
-            self._greeted(greeting)
-
-    def _greeted(self, now: Greeting) -> None:
-        last, self._greeting = self._greeting, now
-        if now == last:
+        self._is_away, last = False, self._greeting
+        if greeting is None or greeting == last:
             return
-        self._tell(self.on_greeting, now)
-        if last is not None and (now.lost != last.lost or now.run < last.run):
-            is_same = now.run > last.run and now.at_ns >= last.at_ns  # or else another service
-            lost = LostRun(last.at_ns, now.at_ns) if is_same else _ALL
+        self._greeting = greeting
+        self._tell(self.on_greeting, greeting)
+        if last is not None and (greeting.lost != last.lost or greeting.run < last.run):
+            is_same = greeting.run > last.run and greeting.at_ns >= last.at_ns  # or else another service
+            lost = LostRun(last.at_ns, greeting.at_ns) if is_same else _ALL
             self._lost(lost, self._log.warning, "the server at %s has lost a run: what it accepted in the %.1f seconds "
-                       "before its run %d is in doubt", (lost.until_ns - lost.since_ns) / 1e9, now.run)
+                       "before its run %d is in doubt", (lost.until_ns - lost.since_ns) / 1e9, greeting.run)
 
     def offered(self, id: int, moment: int) -> None:
         """An offer was accepted under this id, at this moment."""

@@ -9,9 +9,9 @@ import threading
 import time
 import uuid
 from concurrent.futures import ThreadPoolExecutor
-from dataclasses import astuple, dataclass
+from dataclasses import astuple
 from multiprocessing.connection import Connection
-from typing import TYPE_CHECKING, Any, Self
+from typing import TYPE_CHECKING, Any, NamedTuple, Self
 
 from .answers import Job, Report
 from .durations import Duration, from_text
@@ -24,8 +24,7 @@ if TYPE_CHECKING:
 LOOK = 0.5  # seconds between two looks at the processes
 
 
-@dataclass
-class _Child:
+class _Child(NamedTuple):
     owner: str  # of its tasks, in the file
     process: Any
     report: Connection
@@ -88,24 +87,20 @@ class Processes:
         if child.process.exitcode is None:
             return
         self._children.remove(child)
+        text = "it took too long, and was ended with its process"
         for _, task in self._app._store.running(child.owner):
-            if not hung:
-                self._fail(task, f"its process ended with status {child.process.exitcode}")
-            elif task in hung:
-                self._fail(task, "it took too long, and was ended with its process")
-            else:
+            if hung and task not in hung:
                 self._app._store.release(task)
                 self._app._offer(task)
+                continue
+            fault = TimeoutError(text if hung else f"its process ended with status {child.process.exitcode}")
+            self._app._tell(self._app._middleware[::-1], "failed", task, fault)
+            self._app._fail(task, fault)
 
     def _hung(self, child: _Child) -> list[StoredTask]:
         now, tasks = self._app._store.now(), self._app._tasks
         return [it for began, it in self._app._store.running(child.owner)
                 if it.name in tasks and now - began > tasks[it.name].timeout]
-
-    def _fail(self, task: StoredTask, text: str) -> None:
-        fault = TimeoutError(text)
-        self._app._tell(self._app._middleware[::-1], "failed", task, fault)
-        self._app._fail(task, fault)
 
 
 class Testing:

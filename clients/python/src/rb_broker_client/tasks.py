@@ -41,8 +41,7 @@ class RetryLater(Exception):
 
 
 def exponential(first: Duration | str, most: Duration | str = "1h", jitter: float = 0.2) -> Backoff:
-    """Delays each of which is twice as long as the one before, up to `most`, and then longer or shorter by up to this
-    part, at random."""
+    """Delays that double, up to `most`, and then are longer or shorter by up to this part, at random."""
     least, longest = from_text(first), from_text(most)
 
     def backoff(failures: int) -> float:
@@ -144,8 +143,7 @@ class Tasks:
         return self._store.cancel(key)
 
     def dead(self) -> list[StoredTask]:
-        """The tasks that failed in their last attempt, the oldest first. `error` has the traceback of that, and
-        `arguments` are JSON."""
+        """The tasks that failed in their last attempt, the oldest first. `error` has its traceback."""
         return self._store.dead()
 
     def again(self, *ids: str) -> int:
@@ -161,8 +159,8 @@ class Tasks:
 
     def run(self, threads: int = 4, processes: int = 0) -> Report:
         """Runs tasks until `stop`, so many at the same time, in threads; in one event loop, if there are coroutine
-        functions among them. With `processes` it does so in each of so many, which it begins by a fork, and ends one
-        whose task takes too long. Several such calls may run the tasks of one file."""
+        functions among them. With `processes` it does so in each of so many, which it forks. Several such calls may run
+        the tasks of one file."""
         return Processes(self, threads, processes).run() if processes else self._run(threads, uuid.uuid4().hex)
 
     def stop(self, *_: object) -> None:

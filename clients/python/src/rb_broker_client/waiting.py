@@ -14,7 +14,7 @@ import time
 from collections.abc import Callable, Coroutine
 from concurrent.futures import ThreadPoolExecutor
 from contextlib import suppress
-from functools import wraps
+from functools import partial, wraps
 from typing import Any, ParamSpec, TypeVar
 
 Result = TypeVar("Result")
@@ -46,16 +46,9 @@ def blocking(coroutine: Callable[Words, Coroutine[Any, Any, Result]]) -> Callabl
 
 
 class Blocking:
-    """How a client waits that blocks its thread."""
+    """How a client waits that blocks its thread. A bell is acquired once it has been released."""
 
-    is_async, lock = False, threading.Lock
-
-    @staticmethod
-    def bell() -> Any:
-        """What is acquired once it has been released."""
-        bell = threading.Lock()
-        bell.acquire()
-        return bell
+    is_async, lock, bell = False, threading.Lock, partial(threading.Semaphore, 0)
 
     @staticmethod
     async def apart(function: Callable[[], Result]) -> Result:
@@ -79,11 +72,8 @@ class Blocking:
 class Looping:
     """How a client of asyncio waits."""
 
-    is_async, lock, sleep = True, asyncio.Lock, staticmethod(asyncio.sleep)
-
-    @staticmethod
-    def bell() -> Any:
-        return asyncio.Semaphore(0)
+    is_async, lock, bell = True, asyncio.Lock, partial(asyncio.Semaphore, 0)
+    sleep = staticmethod(asyncio.sleep)
 
     @staticmethod
     async def apart(function: Callable[[], Result]) -> Result:
@@ -166,17 +156,16 @@ class ThreadTurns:
         """Runs a task of the worker itself."""
         run(task)
 
-    def start(self, task: Task, running: int) -> Callable[[], object]:
-        """Runs a task, beside so many others. Gives what cancels it, which no thread can be."""
+    def start(self, task: Task, running: int) -> Any:
+        """Runs a task, beside so many others. Gives what cancels it, or None, as no thread can be cancelled."""
         if not self._is_apart:
             run(task)
-            return lambda: None
+            return
         self._tasks.put(task)
         if running >= self._threads:
             self._threads += 1
             # Those of an executor would be waited for at the end of the program, even if one hangs.
             threading.Thread(target=self._work, name=f"rb_broker_client-{self._threads}", daemon=True).start()
-        return lambda: None
 
     def _work(self) -> None:
         for task in iter(self._tasks.get, None):
@@ -265,11 +254,10 @@ class LoopTurns:
     def begin(self, task: Task) -> None:
         self.start(task, 0)
 
-    def start(self, task: Task, running: int) -> Callable[[], object]:
+    def start(self, task: Task, running: int) -> Any:
         self.has_started = True
         self._tasks.add(started := self._loop.create_task(task, context=self._context.copy()))
-        cancel: Callable[[], object] = started.cancel
-        return cancel
+        return started.cancel
 
     def ended(self) -> None:
         self._tasks.discard(asyncio.current_task())

@@ -34,7 +34,7 @@ class Work:
         self.is_served = False
         self._asked: deque[Callable[[Any], None]] = deque()  # what takes each answer that is due
         self._ended: list[Asked] = [(Request.greeting(), self._served)]  # what is to be sent
-        self._held: dict[int, Job] = {}  # what the server gave, and has not said to have ended
+        self.held: dict[int, Job] = {}  # what the server gave, and has not said to have ended
         self._refused: list[Job] = []  # what failed, and could not come back for want of memory
         self._fails: dict[int, Job] = {}  # failures whose answer is due
         self.fetching = 0  # how many jobs are asked for
@@ -56,7 +56,7 @@ class Work:
         asked, self._ended = self._ended, []
         if not self.is_served or self._is_leaving:
             pass  # a wait that a busy server has not read can't be taken back, and may cost a job an attempt
-        elif (is_stopping or self.is_used_up) and not (self._held or self._asked):
+        elif (is_stopping or self.is_used_up) and not (self.held or self._asked):
             self._is_leaving = True
             asked.append((Request.quit(), self._left))
         elif free > 0 and not (is_stopping or self.is_used_up) and self._may_fetch():
@@ -68,16 +68,11 @@ class Work:
         """Takes the answer to the first request that has none: a value, a refusal, or a wait that was given up."""
         self._asked.popleft()(answer)
 
-    @property
-    def is_holding(self) -> bool:
-        """Whether there is a job of which the server is to be told, or has not said what came of it."""
-        return bool(self._held)
-
     def ended(self, job: Job, is_done: bool | None) -> None:
         """The handler of a job has ended or took too long, or, if this is None, broke off, and the end of the session
         fails the job. If the session was lost meanwhile nothing more is asked."""
         if is_done is None:
-            self._report.unheard += self._held.pop(job.id, None) is not None
+            self._report.unheard += self.held.pop(job.id, None) is not None
         elif is_done:
             self._ended.append((Request.done(job.id), partial(self._done, job)))
         else:
@@ -89,8 +84,8 @@ class Work:
     def lost(self) -> None:
         """The session was lost. What the server made of the jobs that it gave is not known."""
         self._is_lost = True
-        self._report.unheard += len(self._held)
-        self._held.clear()
+        self._report.unheard += len(self.held)
+        self.held.clear()
         self._fail_unheard([*self._fails.values(), *self._refused])
 
     def _fail_unheard(self, failed: list[Job]) -> None:
@@ -110,7 +105,7 @@ class Work:
         for job in refused:
             if is_stopping:  # the end of the session fails it
                 self._report.unheard += 1
-                del self._held[job.id]
+                del self.held[job.id]
                 self._fail_unheard([job])
             else:
                 self.ended(job, False)
@@ -155,7 +150,7 @@ class Work:
         self._pauses.reset()
         for job in jobs:
             self._run.given(job.id)
-            self._held[job.id] = job
+            self.held[job.id] = job
         self.given += jobs
 
     def _not_fetched(self, refused: BrokerError, asked: float) -> None:
@@ -186,7 +181,7 @@ class Work:
 
     def _done(self, job: Job, answer: Any) -> None:
         _demand(answer)
-        del self._held[job.id]
+        del self.held[job.id]
         self._report.done += 1
 
     def _failed(self, job: Job, answer: Any) -> None:
@@ -197,7 +192,7 @@ class Work:
             return
         if not isinstance(answer, FullError):
             _demand(answer)
-        del self._held[job.id]
+        del self.held[job.id]
         if isinstance(answer, Again):
             self._run.came_back(answer.id)
             self._report.again += 1

@@ -40,9 +40,10 @@ class _Call:
     job: Job
     work: Work | None
     began: float
+    late: float  # when it takes longer than a handler may
     is_told: bool = False  # whether it has ended as far as the server is told
     is_logged: bool = False  # whether it was logged that it takes long
-    cancel: Callable[[], object] = lambda: None
+    cancel: Callable[[], object] | None = None
 
 
 class BaseWorker(Generic[Handler, OnDead]):
@@ -109,9 +110,8 @@ class BaseWorker(Generic[Handler, OnDead]):
             raise RuntimeError("a worker runs once: make another one")
         self._has_run = True
         is_over = threading.Event()
-        watch = threading.Thread(target=self._watch, args=[is_over], name="rb_broker_client-watches", daemon=True)
+        threading.Thread(target=self._watch, args=[is_over], name="rb_broker_client-watches", daemon=True).start()
         try:
-            watch.start()
             await self._turns.run(self._turn)
         finally:
             is_over.set()
@@ -137,7 +137,7 @@ class BaseWorker(Generic[Handler, OnDead]):
                 if not self._turns.has_started:
                     self._attend(work, session)
             except OSError as fault:
-                if work.greeting is None or work.is_holding or not isinstance(fault, ConnectionError):
+                if work.greeting is None or work.held or not isinstance(fault, ConnectionError):
                     self._run_known.away("the session at %s was lost: %s", fault)
                 self._end(self._pauses.next())
         if not (self._visit or self._is_stopping or self._is_connecting or len(self._calls) >= self._concurrency
@@ -169,7 +169,7 @@ class BaseWorker(Generic[Handler, OnDead]):
 
     def _pause(self) -> float:
         now = time.monotonic()
-        pause = min([FOR_EVER, *(it.began + self._timeout - now for it in self._limited())])
+        pause = min([FOR_EVER, *(it.late - now for it in self._calls)])
         if self._next_visit > now:
             pause = min(self._next_visit - now, pause)
         if self._visit is not None:
@@ -218,7 +218,8 @@ class BaseWorker(Generic[Handler, OnDead]):
             self._next_visit = max(self._next_visit, time.monotonic() + pause)
 
     def _start(self, function: Function, job: Job, work: Work | None) -> None:
-        call = _Call(function, job, work, time.monotonic())
+        now = time.monotonic()
+        call = _Call(function, job, work, now, now + self._timeout if work else math.inf)
         self._calls.add(call)
         call.cancel = self._turns.start(self._run(call), len(self._calls) - 1)
 
@@ -258,20 +259,17 @@ class BaseWorker(Generic[Handler, OnDead]):
             if call.work is not None and not call.is_told:
                 call.work.ended(call.job, is_done)
                 self._bury(call.work)
-        if self._fault is not None and not (self._calls or self._visit and self._visit[0].is_holding):
+        if self._fault is not None and not (self._calls or self._visit and self._visit[0].held):
             raise self._fault
-        for it in self._limited():
-            if it.work and it.began <= time.monotonic() - self._timeout:
+        for it in [*self._calls] if self._timeout < math.inf else ():
+            if it.work and it.late <= time.monotonic():
                 log.error("the handler of job %s, attempt %d, takes longer than %g seconds: the job fails",
                           it.job.payload, it.job.attempt, self._timeout)
-                it.is_told = True
+                it.is_told, it.late = True, math.inf
                 it.work.ended(it.job, False)
                 self._bury(it.work)
-                it.cancel()
-
-    def _limited(self) -> list[_Call]:
-        # What runs and has a timeout.
-        return [it for it in self._calls if it.work and not it.is_told] if self._timeout < math.inf else []
+                if it.cancel:
+                    it.cancel()
 
 
 class AsyncWorker(BaseWorker[Callable[[Job], Awaitable[object]], Function]):
