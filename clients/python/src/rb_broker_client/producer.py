@@ -45,8 +45,7 @@ class BaseProducer:
         _PRODUCERS.add(self)
 
     async def _offer(self, payload: str, *, delay: Duration = 0) -> Offered:
-        """Offers a job that expires this delay after the server has accepted it, in seconds or as a `timedelta`. Raises
-        `RuntimeError` once the producer is closed."""
+        """Offers a job that expires this delay after the server has accepted it."""
         request, delay_ns = Request.offer(payload, delay=delay), nanoseconds(delay)
         deadline, doubt, pauses = time.monotonic() + self._patience, None, copy.copy(self._pauses)
         pauses.reset()  # of other offers, which may be tried at the same time

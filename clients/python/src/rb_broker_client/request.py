@@ -79,12 +79,8 @@ def _plain(line: bytes, read: Reader[Answer], about: str) -> Callable[[], Reques
 
 @dataclass
 class Request(Generic[Answer]):
-    """A request: its line without the line feed, and what reads its reply.
-
-    A broker has a method for each. They are values here so that several can be sent in one piece:
-
-        broker.ask_all([Request.offer("a"), Request.offer("b", delay=2.5), Request.size()])
-    """
+    """A request: its line without the line feed, and what reads its reply. A broker has a method for each. They are
+    values here so that several can be sent in one piece: `broker.ask_all([Request.offer("a"), Request.size()])`."""
 
     line: bytes
     read: Reader[Answer]

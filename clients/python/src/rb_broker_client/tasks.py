@@ -158,9 +158,8 @@ class Tasks:
         return Testing(self)
 
     def run(self, threads: int = 4, processes: int = 0) -> Report:
-        """Runs tasks until `stop`, so many at the same time, in threads; in one event loop, if there are coroutine
-        functions among them. With `processes` it does so in each of so many, which it forks. Several such calls may run
-        the tasks of one file."""
+        """Runs tasks until `stop`, so many at the same time, in threads, or in an event loop if there are coroutine
+        functions; in each of so many `processes`, if there are any. Several such calls may run the tasks of a file."""
         return Processes(self, threads, processes).run() if processes else self._run(threads, uuid.uuid4().hex)
 
     def stop(self, *_: object) -> None:

@@ -96,8 +96,7 @@ class Work:
                 log.error("job %s failed in its last attempt, %d, and its session was lost", job.payload, job.attempt)
 
     def pause(self) -> float:
-        """Within how many seconds something is to be done though nothing happens, which was not to be done when it was
-        asked last."""
+        """Within how many seconds something is to be done, though nothing happens, that was not at the last `ask`."""
         return max(self._next_try - monotonic(), 0) if self._next_try > self._looked else math.inf
 
     def _try_again(self, is_stopping: bool) -> None:

@@ -1,10 +1,12 @@
 """A worker whose servers stop waits, refuse, go away and come back; and the ways to stop it."""
 import asyncio
 import errno
+import gc
 import logging
 import os
 import signal
 import time
+import unittest.mock
 
 from from_threads import for_both_kinds
 from scripted import PATIENCE, free_port
@@ -195,6 +197,13 @@ class ForkTest(WorkerCase):
         before = os.listdir("/proc/self/fd")
         workers = [Worker(self.handle, 7011) for _ in range(5)]
         self.assertEqual((len(os.listdir("/proc/self/fd")), len(workers)), (len(before), 5))
+
+    def test_nothing_is_said_of_one_that_gets_no_descriptor(self):
+        with unittest.mock.patch("socket.socketpair", side_effect=OSError), \
+                unittest.mock.patch("sys.unraisablehook") as says:
+            self.assertRaises(OSError, lambda: Worker(self.handle, 7011).run())
+            gc.collect()
+        self.assertFalse(says.called)
 
     def test_each_process_hears_its_own_stop(self):
         """If no stop ends a process another signal does."""
