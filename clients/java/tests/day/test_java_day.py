@@ -8,6 +8,7 @@ import subprocess
 from collections import defaultdict
 
 import test_hostile_day
+import test_rollovers
 from recording_proxy import RecordingProxy
 from server import PATIENCE, start
 
@@ -71,6 +72,10 @@ class JavaDayTest(test_hostile_day.HostileDayTest):
 
     def told(self):
         return noted_in(self.notes), noted_in(self.killed)
+
+
+class JavaRolloverDayTest(test_rollovers.AtService, JavaDayTest):
+    pass
 
 
 def noted_in(paths):

@@ -49,7 +49,8 @@ class Nuisance(threading.Thread):
 
         def ask(request):
             connection.sendall(f"{request}\n".encode())
-            return replies.readline()
+            reply = replies.readline()
+            return replies.readline() if reply.startswith(b"RUN ") else reply  # a service greets first
 
         for said in random.sample(NOISE, 8):
             reply = ask(said)

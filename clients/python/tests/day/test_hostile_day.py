@@ -81,10 +81,7 @@ class HostileDayTest(ServedTest):
         producers = [self.begin(self.produce), self.begin(lambda: asyncio.run(self.produce_async()))]
         killer = self.begin(self.kill_now_and_then)
         self.addCleanup(self.is_over.set)
-        self.wait_until(lambda: len(self.offered) >= JOBS // 3, LONGEST)
-        self.replace(JOBS // 2)  # calls, which are soon made
-        self.wait_until(lambda: self.size() is None, LONGEST)
-        self.replace(1_000_000)
+        self.change_servers()
         for it in producers:
             it.join(LONGEST)
         self.assertEqual(self.faults, [])
@@ -122,9 +119,14 @@ class HostileDayTest(ServedTest):
         lines = self.assert_drained(self.server, self.histories[-1], POLICY, lost="[0-9]+")
         self.lost += int(lines[0].split(" ")[-1])
 
-    def replace(self, calls):
+    def change_servers(self):
+        """One server is replaced by the next, which soon runs full and is replaced too."""
+        self.wait_until(lambda: len(self.offered) >= JOBS // 3, LONGEST)
         self.end()
-        self.serve_next(calls)
+        self.serve_next(JOBS // 2)
+        self.wait_until(lambda: self.size() is None, LONGEST)
+        self.end()
+        self.serve_next(1_000_000)
 
     def record(self, kind):
         self.records.append(f"{self.room}/{kind}-{len(self.records)}.jsonl")

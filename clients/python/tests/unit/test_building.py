@@ -13,6 +13,7 @@ import rb_broker_client
 TOP = os.path.realpath(os.path.join(os.path.dirname(os.path.realpath(__file__)), *[os.pardir] * 2))
 LONGEST = 300  # seconds; the proofs may need the machine
 PYTHONS = (sys.executable, "/usr/bin/python3")
+MYPY = shutil.which("mypy")
 
 SAYS = """
 import importlib.metadata, os, rb_broker_client
@@ -78,22 +79,18 @@ class PackageTest(unittest.TestCase):
             run([*pip, "uninstall", "--yes", "rb-broker-client"], room)
             self.assertIn("ModuleNotFoundError", run([python, "-c", "import rb_broker_client"], room, status=1))
 
+    @unittest.skipUnless(MYPY, "there is no mypy")
     def test_each_type_is_right(self):
-        mypy = shutil.which("mypy")
-        if mypy is None:
-            self.skipTest("there is no mypy")
-        run([mypy, "--strict", "--python-version", "3.11", "--cache-dir", os.devnull, "src"], TOP)
+        run([MYPY, "--strict", "--python-version", "3.11", "--cache-dir", os.devnull, "src"], TOP)
 
+    @unittest.skipUnless(MYPY, "there is no mypy")
     def test_a_forgotten_await_or_a_handler_of_the_other_kind_has_a_wrong_type(self):
         """The program is right as it stands, and each of these changes makes it wrong."""
-        mypy = shutil.which("mypy")
-        if mypy is None:
-            self.skipTest("there is no mypy")
         with open(os.path.join(TOP, "tests", "unit", "typed_program.py"), encoding="ascii") as file:
             right = file.read()
         with tempfile.TemporaryDirectory() as room:
             path, sources = os.path.join(room, "program.py"), os.path.join(TOP, "src")
-            words = ["/usr/bin/env", f"MYPYPATH={sources}", mypy, "--strict", "--cache-dir", os.devnull, path]
+            words = ["/usr/bin/env", f"MYPYPATH={sources}", MYPY, "--strict", "--cache-dir", os.devnull, path]
             for before, after, says in (
                 ("", "", "Success"),
                 ("await (await broker.take()).done()", "(await broker.take()).done()", "missing an await"),
