@@ -6,6 +6,7 @@ import re
 import socket
 import tempfile
 import threading
+import time
 import unittest
 from pathlib import Path
 
@@ -132,6 +133,14 @@ class ScriptedTest(unittest.TestCase):
 def table(name):
     """The text of a table of rows or cases, behind what is said about it."""
     return Path(__file__).with_name(name).read_text("ascii").partition("\n\n")[2]
+
+
+def wait_for(is_so):
+    """Waits until something holds, but not for ever. Gives whether it does."""
+    deadline = time.monotonic() + PATIENCE
+    while not is_so() and time.monotonic() < deadline:
+        time.sleep(0.01)
+    return is_so()
 
 
 def free_port():

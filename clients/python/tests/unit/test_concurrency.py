@@ -8,7 +8,7 @@ import time
 import unittest.mock
 
 from from_threads import for_both_kinds
-from scripted import PATIENCE
+from scripted import PATIENCE, wait_for
 from worker_case import A, GIVES_A, GIVES_B, LAST, ConcurrencyCase, WorkerCase
 from rb_broker_client import AsyncWorker, Job, Report
 
@@ -65,10 +65,7 @@ class ThreadsTest(ConcurrencyCase):
     def test_no_thread_is_left(self):
         names = lambda: [it.name for it in threading.enumerate()]
         self.assert_reports(Report(done=1), f"{GIVES_A}; BRIEF > ends a: stops: NONE; DONE 0; QUIT")
-        deadline = time.monotonic() + PATIENCE
-        while "rb_broker_client-1" in names() and time.monotonic() < deadline:
-            time.sleep(0.01)
-        self.assertNotIn("rb_broker_client-1", names())
+        self.assertTrue(wait_for(lambda: "rb_broker_client-1" not in names()), names())
 
 
 class TimeoutTest(ConcurrencyCase):

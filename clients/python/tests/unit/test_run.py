@@ -1,11 +1,10 @@
 """A server that has lost its run, as its clients notice; and one that goes on, of which nothing is logged."""
 import threading
-import time
 import unittest
 from unittest.mock import Mock
 
 from from_threads import for_both_kinds
-from scripted import PATIENCE
+from scripted import PATIENCE, wait_for
 from test_producer import ProducerCase, offer
 from worker_case import A, LAST, WorkerCase, paragraphs
 from rb_broker_client import (
@@ -49,12 +48,6 @@ class RunTest(unittest.TestCase):
         self.assertEqual((len(run._given), log.error.call_count), (4_096, 0))
         run.given(4_999 * 1_024)
         self.assertEqual(log.error.call_count, 1)
-
-
-def wait_for(is_so):
-    deadline = time.monotonic() + PATIENCE
-    while not is_so() and time.monotonic() < deadline:
-        time.sleep(0.001)
 
 
 GREETS = "AT 0 > RUN {} lost {} at {}, ERR 1 syntax"

@@ -7,8 +7,9 @@ import threading
 import time
 import unittest.mock
 from datetime import datetime, timedelta, timezone
+from pathlib import Path
 
-from scripted import PATIENCE, ScriptedTest, free_port
+from scripted import ScriptedTest, free_port, wait_for
 from test_command import run
 from rb_broker_client import Greeting, Job, Report, waiting
 from rb_broker_client.task_runners import Processes
@@ -196,13 +197,7 @@ class TasksTest(ScriptedTest):
         for it in names:
             touches.later(0, it)
         is_done = lambda: len(self.app.dead()) == 5 and all(os.path.exists(f"{self.path}.{it}") for it in names)
-
-        def stop():
-            deadline = time.monotonic() + PATIENCE
-            while not is_done() and time.monotonic() < deadline:
-                time.sleep(0.05)
-            self.app.stop()
-
+        stop = lambda: (wait_for(is_done), self.app.stop())
         with unittest.mock.patch.object(self.app, "_run", self.run_from_file), \
                 unittest.mock.patch("rb_broker_client.task_store.AT_ONCE", 1), \
                 unittest.mock.patch("rb_broker_client.task_store.UNSENT", 0):
@@ -215,19 +210,15 @@ class TasksTest(ScriptedTest):
 
     def test_a_process_ends_with_the_one_that_watches_it(self):
         """Whatever its tasks do."""
-        pids, hangs = f"{self.path}.pids", lambda threads, owner: (self.write_pid(pids), time.sleep(60))
+        pids, hangs = Path(f"{self.path}.pids"), lambda threads, owner: (self.write_pid(pids), time.sleep(60))
         with unittest.mock.patch.object(self.app, "_run", hangs):
             parent = os.fork() or self.run_processes(pids)
-        deadline, told = time.monotonic() + PATIENCE, ()
-        while len(told) < 2 and time.monotonic() < deadline:
-            time.sleep(0.05)
-            told = [int(it) for it in open(pids).read().split()] if os.path.exists(pids) else ()
+        told = lambda: pids.read_text().split() if pids.exists() else ()
+        self.assertTrue(wait_for(lambda: len(told()) == 2))
         os.kill(parent, signal.SIGKILL)
         os.waitpid(parent, 0)
-        lives = lambda: os.path.exists(path := f"/proc/{told[1]}/stat") and open(path).read().split(") ")[1][0] != "Z"
-        while lives() and time.monotonic() < deadline:
-            time.sleep(0.05)
-        self.assertFalse(lives())
+        stat = Path(f"/proc/{told()[1]}/stat")
+        self.assertTrue(wait_for(lambda: not stat.exists() or stat.read_text().split(") ")[1][0] == "Z"))
 
     def run_processes(self, pids):
         try:
