@@ -1,5 +1,6 @@
 """A hostile day at a service, which replaces its server every few seconds."""
 import gzip
+import shutil
 from pathlib import Path
 
 import test_hostile_day
@@ -12,6 +13,11 @@ RUNS = 3  # at least
 
 class AtService:
     """What of a day is another at a service."""
+
+    def setUp(self):
+        super().setUp()
+        if shutil.which("ss") is None:
+            self.skipTest("there is no ss, which a service needs")
 
     @property
     def port(self):
