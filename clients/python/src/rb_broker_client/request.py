@@ -73,7 +73,7 @@ def _plain(line: bytes, read: Reader[Answer], about: str) -> Callable[[], Reques
     def make() -> Request[Answer]:
         return Request(line, read)
 
-    make.__doc__ = about
+    make.__name__, make.__doc__ = line.decode().lower(), about
     return staticmethod(make)
 
 
