@@ -57,11 +57,11 @@ class CallsTest(unittest.IsolatedAsyncioTestCase):
                 first(refusal)
                 await self.let_go_out()
                 self.assertEqual((len(self.link.sent), self.link.is_closed), (2, False))
-                second([b"OFFERED 1 5\n"])
+                second(b"OFFERED 1 5\n")
                 self.assertEqual((self.replies, self.link.is_closed), ([[b"OFFERED 1 5\n"]], True))
                 await self.use(FakeLink())
                 for answer in self.link.sent:  # what was refused, and what came meanwhile
-                    answer([b"OFFERED 2 5\n"])
+                    answer(b"OFFERED 2 5\n")
                 self.assertEqual(self.replies[1:], [[b"OFFERED 2 5\n"]] * 2)
 
     async def test_nothing_is_fetched_for_a_session_that_left_before_its_call_was_sent(self) -> None:
@@ -87,24 +87,24 @@ class CallsTest(unittest.IsolatedAsyncioTestCase):
         self.calls.submit([b"1 SIZE", b"1 PEEK"], self.replies.append)
         self.calls.submit([b"2 TAKE"], self.replies.append)
         await self.let_go_out()
-        self.link.sent.pop()([b"SIZE 0\n"])
+        self.link.sent.pop()(b"SIZE 0\n")
         self.assertEqual(self.replies, [])
         self.calls.withhold(b"2 ")
         await self.let_go_out()
         self.assert_sent(b"2 WAIT", b"1 PEEK")
-        self.link.sent.pop()([b"LATER - 5 5\n", b"NONE\n"])
+        self.link.sent.pop()(b"LATER - 5 5\n\0NONE\n")
         self.assertEqual(self.replies, [[b"LATER - 5 5\n"], [b"SIZE 0\n", b"NONE\n"]])
 
     async def test_the_rest_of_a_session_that_has_ended_is_refused(self) -> None:
         self.calls.submit([b"1 DONE 1", b"1 DONE 2", b"1 DONE 3"], self.replies.append)
         await self.let_go_out()
-        self.link.sent.pop()([b"DONE 1\n"])
+        self.link.sent.pop()(b"DONE 1\n")
         await self.let_go_out()
         self.link.sent.pop()(ErrorAnswer("LEASE the lease of this gateway is over"))
         self.assertEqual(self.replies, [[b"DONE 1\n", b"ERR 5 not-held\n", b"ERR 5 not-held\n"]])
 
     async def test_what_a_lost_link_did_not_answer_is_in_doubt(self) -> None:
         await self.submit(2)
-        self.link.sent[0]([b"OFFERED 0 5\n"])
+        self.link.sent[0](b"OFFERED 0 5\n")
         self.calls.use(None)
         self.assertEqual(self.replies, [[b"OFFERED 0 5\n"], None])

@@ -53,7 +53,7 @@ class LeaseTest(RedisTest):
         _, number, score, _ = self.renew(queue, other)
         self.renew(queue, late)
         self.assertNotEqual(self.renew(queue, other, number, score)[2], score)
-        self.assertEqual(queue.call("rb_calls", "", late, f"{late}000000001 SIZE"), [b"SIZE 0\n"])
+        self.assertEqual(queue.call("rb_calls", "", late, f"{late}000000001 SIZE"), b"SIZE 0\n")
 
     def test_a_gateway_that_left_has_none(self) -> None:
         queue = self.queue()

@@ -84,7 +84,7 @@ class TablesTest(RedisTest):
             return str(queue.command("LLEN", queue.history))
         if step.asked == "last":
             return queue.command("LINDEX", queue.history, -1).decode()
-        (reply,) = queue.call("rb_calls", f"{step.moment:020}", "", step.asked)
+        (reply,) = queue.make([step.asked], f"{step.moment:020}")
         lines = reply.decode().splitlines()
         self.finish(queue, step, [line.split(" ")[1] for line in lines if line.startswith("ITEM ")])
         return " ".join(lines[0].split(" ")[:2]) if lines[0].startswith("LATER") else lines[0]
@@ -93,7 +93,7 @@ class TablesTest(RedisTest):
         """What was fetched is done, since a queue of the tables holds nothing."""
         if ids:
             seat = step.asked.split(" ")[0]
-            queue.call("rb_calls", f"{step.moment:020}", "", *(f"{seat} DONE {id}" for id in ids))
+            queue.make([f"{seat} DONE {id}" for id in ids], f"{step.moment:020}")
 
     def play(self, queue: Queue, file: str, steps: list[Step]) -> None:
         """Tries each row."""

@@ -1,4 +1,4 @@
-#!lua name=rb_broker_5
+#!lua name=rb_broker_6
 -- The broker's calls as functions of a Redis (7.0 or later). docs/PROTOCOL.md has the requests, docs/HISTORY.md the
 -- lines of events.
 --
@@ -48,7 +48,7 @@
 -- rb_renew, which ends the sessions if the score is still the same. From then on no call is made in the name of the late
 -- gateway: it gets the error LEASE, and has to join anew. So nothing is given at a seat that has ended.
 --
--- Functions. ARGS are those after the keys. The name of each ends in the version of this library, as rb_calls_5 does,
+-- Functions. ARGS are those after the keys. The name of each ends in the version of this library, as rb_calls_6 does,
 -- and so does that of the library. So gateways of several versions serve a queue side by side, as long as its format is
 -- one that they know; of a later one they get the error FORMAT.
 --   rb_version                                    the version of this library; it needs no keys
@@ -59,9 +59,9 @@
 --       number after the Redis has lost this call. MOST is that of a queue that is made now, or with `set` also of one
 --       that there is; '0 drop' is no end. -> [GATEWAY, PACE, PERIOD, ATTEMPTS], or the error POLICY
 --   rb_calls MOMENT GATEWAY CALL ..               makes the calls, one after the other, in one step.
---       MOMENT is '' for the node's TIME, or 20 digits. GATEWAY is '' for the commands. -> a reply for each, or the
---       error LEASE. A step that has taken its time makes no further call: then there are fewer replies, and those of
---       the first calls
+--       MOMENT is '' for the node's TIME, or 20 digits. GATEWAY is '' for the commands. -> the replies, with a zero byte
+--       between them, or the error LEASE. A step that has taken its time makes no further call: then there are fewer
+--       replies, and those of the first calls
 --   rb_spare MOMENT GATEWAY CALL ..               the same for a Redis that is full: offers are 'ERR 7 memory', and all
 --       that takes work out, or back, goes on
 --   rb_renew GATEWAY LEASE TOKEN CLIENTS [LATE SCORE]  renews the lease, tells how many clients there are, and ends up
@@ -93,7 +93,7 @@
 --
 -- A publish is 'HEAD NOW': the expiry of an element that has become the earliest, and what the clock shows.
 
-local VERSION = '5'
+local VERSION = '6'
 local FORMAT = '1'
 local LAST = '18446744073709551615'
 local MOST_HELD = 64
@@ -102,30 +102,37 @@ local MOST_MICROSECONDS = 8000 -- after which a step begins no further call
 local MOST_WORK = 512 -- the same, in calls and in jobs that they give or let fail, where TIME stands still in a step
 local WORK_BETWEEN_LOOKS = 16
 local NEVER = '~' -- above every moment
+local NOT_HELD, FULL, MEMORY, HELD = 'ERR 5 not-held\n', 'ERR 6 full\n', 'ERR 7 memory\n', 'ERR 9 held\n'
 local MOST_DROPPED = 50000 -- events that go at once
 local READ_AHEAD = 16 -- elements that are read at once from the front of due
 local MOST_NEW = 64 -- elements of a step that due does not have yet
+local MOST_KNOWN = 20000 -- members of held that are remembered
 local ENDED = '0' -- in the place of a score: the gateway's sessions are ended
 
 -- What stands before a number of so many digits. A library that is loaded may not use string.rep.
 local ZEROS = { [20] = '' }
 for digits = 19, 0, -1 do ZEROS[digits] = ZEROS[digits + 1] .. '0' end
 
+local call, sub, find -- redis.call and functions of `string`, which a library has only once it is loaded
+
+local function prepare() call, sub, find = redis.call, string.sub, string.find end
+
 local function pad(number) return ZEROS[#number] .. number end
 local function whole(number) return string.format('%d', number) end
-local function plain(digits) return string.match(digits, '^0*(.+)$') end
+local function plain(digits) return sub(digits, find(digits, '[^0]') or -1) end
 
--- The last three digits of each number, and the 17 in front of them of some, by the number without its last three.
+-- The last three digits of each number, and those in front of them of some, by the number without its last three.
 local ENDS, fronts, front_count = {}, {}, 0
 for last = 0, 999 do ENDS[last] = (last < 10 and '00' or last < 100 and '0' or '') .. last end
 
--- A number that is counted, with 20 digits: it costs less than to format each.
-local function padded(number)
+-- A number that is counted, in digits: it costs less than to format each.
+local function counted(number)
     local last = number % 1000
+    if number == last then return whole(number) end
     local front = fronts[number - last]
     if not front then
         if front_count == 1000 then fronts, front_count = {}, 0 end
-        front = string.format('%017d', (number - last) / 1000)
+        front = whole((number - last) / 1000)
         fronts[number - last], front_count = front, front_count + 1
     end
     return front .. ENDS[last]
@@ -158,228 +165,299 @@ end
 
 local function moment_of(microsecond) return pad(whole(microsecond) .. '000') end
 
--- The queue as a step sees it. Events, counters and the wake are written by `close`, once for all calls of a step; what
--- changes in due and ids by `settle`, and in held by `settle_held`, at the end or before somebody looks for it there. So
--- an element that is given in the step that offers it is never in due.
-local FIELDS = { 'next', 'at', 'calls', 'fetched', 'wake', 'pace', 'limit', 'history', 'loading', 'format', 'most' }
+-- What the clock shows, without zeros in front.
+local function clock()
+    local time = call('TIME')
+    local second, microsecond = time[1], time[2]
+    return second .. sub('000000', #microsecond + 1) .. microsecond .. '000'
+end
 
-local call, sub -- redis.call and string.sub, which a library has only once it is loaded
+-- The members of held by the calls that say DONE of them, by the key of held and the gateway. So such a job need not be
+-- looked for. They are forgotten at each renewal, which also begins each link: a Redis that was no primary for a while
+-- remembers what others have changed since.
+local known, known_count = {}, 0
+
+local function known_of(keys, gateway)
+    if known_count > MOST_KNOWN then known, known_count = {}, 0 end
+    local of_queue = known[keys[3]]
+    if not of_queue then
+        of_queue = {}
+        known[keys[3]] = of_queue
+    end
+    local of_gateway = of_queue[gateway]
+    if not of_gateway then
+        of_gateway = {}
+        of_queue[gateway] = of_gateway
+    end
+    return of_gateway
+end
+
+local function forget_known(keys, gateway)
+    if known[keys[3]] then known[keys[3]][gateway] = nil end
+end
 
 local function is_loading() return redis.error_reply('LOADING_QUEUE a load into this queue has not ended') end
 local function is_later(format) return redis.error_reply('FORMAT ' .. format .. ' ' .. FORMAT) end
+local function lease_is_over() return redis.error_reply('LEASE the lease of this gateway is over') end
 
--- An empty list that has room.
-local function list() return { nil, nil, nil, nil, nil, nil, nil, nil } end
+-- Whether the sessions of a gateway are ended just now.
+local function is_ended(keys, gateway)
+    for _, ended in ipairs(redis.call('ZRANGEBYSCORE', keys[7], ENDED, ENDED)) do
+        if ended == gateway then return true end
+    end
+    return false
+end
 
-local function open(keys, moment)
-    call, sub = redis.call, string.sub
-    local next, at_before, calls, fetched, wake, pace, limit, history, loading, format, most =
-        unpack(call('HMGET', keys[4], unpack(FIELDS)))
-    if loading then return nil, is_loading() end
-    if (format or FORMAT) ~= FORMAT then return nil, is_later(format) end
-    if not pace then return nil, redis.error_reply('NOQUEUE there is no such queue') end
-    local now = microseconds()
-    local clock, at = moment == '' and moment_of(now) or moment, at_before
-    if clock > at then at = clock end
-    local asked = moment == '' and at or moment
-    local plain_asked = plain(asked)
-    calls = tonumber(calls)
-    return {
-        keys = keys, asked = asked, at = at, plain_asked = plain_asked,
-        plain_clock = clock == asked and plain_asked or plain(clock),
-        stamp = ' ' .. plain_asked .. ' ' .. (at == asked and plain_asked or plain(at)) .. ' ',
-        next = tonumber(next), calls = calls, fetched = tonumber(fetched), wake = wake,
-        pace = pace, limit = tonumber(limit or '1e300'),
-        silent = history == 'no', brief = history == 'brief', lines = list(), counts = {},
-        at_before = at_before, calls_before = calls, wake_before = wake, work = 0, returned = 0, died = 0, began = now,
-        heads = {}, first = 1, popped = 0, ahead = 1, taken = list(), fresh = 0, new = list(), new_ids = list(),
-        holds = list(),
-        most = most and tonumber(string.match(most, '^%d+')), refuses = most and string.find(most, 'refuse'),
-    }
+-- The step, of which there is one at a time: what it has read, and what it is still to write. Events, counters and the
+-- wake are written by `close`, once for all calls of a step; what changes in due and ids by `settle`, and in held by
+-- `settle_held`, at the end or before somebody looks for it there. So an element that is given in the step that offers it
+-- is never in due. Lists are used again, and each has a count beside it.
+local due, ids, held, state, history, dead, gateways, opening -- its keys
+local asked, at, plain_asked, plain_clock, stamp -- its moments, of which the stamp tells events
+local next_id, call_count, fetched, wake, limit, is_silent, is_brief -- what state has
+local calls_before, wake_before, earlier
+local most_text, most, refuses -- how many events history may have, and whether offers are refused then
+local pace, period, attempts -- once it has learnt the policy
+local is_spare, work, returned, died
+local lines, line_count = {}, 0 -- events
+local heads, first, popped, ahead, is_all, taken = {}, 1, 0, 1, nil, {} -- the front of due, and ids that go from there
+local new, new_ids, fresh, least = {}, {}, 0, nil -- elements that are new, and the place of the earliest
+local holds, ends, hold_count = {}, {}, 0 -- jobs that are fetched, and the calls that say DONE of them
+local done, done_at, done_count = {}, {}, 0 -- jobs that are done, and which replies say so
+local counts = {} -- how many jobs a session holds, for those of which it was counted
+local replies, reply_count = {}, 0
+local known_here -- the members of held that are known
+
+local function learn_most(text)
+    most_text = text
+    most, refuses = text and tonumber(string.match(text, '^%d+')), text and find(text, 'refuse')
+end
+
+-- Begins a step. -> nothing, or an error
+local function open(keys, moment, gateway)
+    due, ids, held, state, history, dead, gateways, opening = unpack(keys)
+    local next_offer, last, calls, fetches, known_wake, most_calls, kept, loading, format, end_of_history, lease = unpack(call(
+        'HMGET', state, 'next', 'at', 'calls', 'fetched', 'wake', 'limit', 'history', 'loading', 'format', 'most',
+        'lease:' .. gateway))
+    if loading then return is_loading() end
+    if (format or FORMAT) ~= FORMAT then return is_later(format) end
+    if not calls then return redis.error_reply('NOQUEUE there is no such queue') end
+    if gateway ~= '' and (not lease or is_ended(keys, gateway)) then return lease_is_over() end
+    plain_clock = moment == '' and clock() or plain(moment)
+    local now = pad(plain_clock)
+    at = now > last and now or last
+    asked = moment == '' and at or now
+    local plain_at = at == now and plain_clock or plain(at)
+    plain_asked = asked == at and plain_at or plain_clock
+    stamp = ' ' .. plain_asked .. ' ' .. plain_at .. ' '
+    next_id, call_count, fetched, wake = tonumber(next_offer), tonumber(calls), tonumber(fetches), known_wake
+    limit, is_silent, is_brief = most_calls and tonumber(most_calls) or math.huge, kept == 'no', kept == 'brief'
+    if end_of_history ~= most_text then learn_most(end_of_history) end
+    calls_before, wake_before, earlier, attempts = call_count, wake, nil, nil
+    is_spare, work, returned, died = false, 0, 0, 0
+    line_count, popped, fresh, least, hold_count, done_count, reply_count = 0, 0, 0, nil, 0, 0, 0
+    heads, first, ahead, is_all = {}, 1, 1, nil
+    if next(counts) then counts = {} end
+    known_here = gateway ~= '' and known_of(keys, gateway)
 end
 
 -- Lets the oldest events go, an eighth of those that there may be.
-local function drop_oldest(queue, count)
-    local gone = whole(math.min(count - math.floor(queue.most * 7 / 8), MOST_DROPPED))
-    redis.call('LTRIM', queue.keys[5], gone, -1)
-    redis.call('UNLINK', queue.keys[8])
-    redis.call('HSET', queue.keys[4], 'dropped', whole(redis.call('HINCRBY', queue.keys[4], 'cut', gone)))
+local function drop_oldest(count)
+    local gone = whole(math.min(count - math.floor(most * 7 / 8), MOST_DROPPED))
+    call('LTRIM', history, gone, -1)
+    call('UNLINK', opening)
+    call('HSET', state, 'dropped', whole(call('HINCRBY', state, 'cut', gone)))
 end
 
-local function append(queue)
-    if #queue.lines > 0 and not queue.silent then
-        local count = redis.call('RPUSH', queue.keys[5], unpack(queue.lines))
-        if queue.most and count > queue.most and not queue.refuses then drop_oldest(queue, count) end
+local function append()
+    if line_count > 0 and not is_silent then
+        local count = call('RPUSH', history, unpack(lines, 1, line_count))
+        if most and count > most and not refuses then drop_oldest(count) end
     end
-    queue.lines = {}
+    line_count = 0
 end
 
 -- Writes what the step did to the elements.
-local function settle(queue)
-    local keys = queue.keys
-    if queue.popped > 0 then
-        call('ZREMRANGEBYRANK', keys[1], '0', whole(queue.popped - 1))
-        call('HDEL', keys[2], unpack(queue.taken))
-        queue.popped, queue.taken = 0, {}
+local function settle()
+    if popped > 0 then
+        call('ZREMRANGEBYRANK', due, '0', whole(popped - 1))
+        call('HDEL', ids, unpack(taken, 1, popped))
+        popped = 0
     end
-    if queue.fresh > 0 then
-        call('ZADD', keys[1], unpack(queue.new))
-        call('HSET', keys[2], unpack(queue.new_ids))
-        queue.fresh, queue.new, queue.new_ids, queue.least = 0, {}, {}, nil
+    if fresh > 0 then
+        call('ZADD', due, unpack(new, 1, 2 * fresh))
+        call('HSET', ids, unpack(new_ids, 1, 2 * fresh))
+        fresh, least = 0, nil
     end
-    queue.heads, queue.first, queue.is_all = {}, 1, nil
+    heads, first, is_all = {}, 1, nil
 end
 
--- Writes what the step let sessions hold.
-local function settle_held(queue)
-    if queue.holds[1] then
-        call('ZADD', queue.keys[3], unpack(queue.holds))
-        queue.holds = {}
+-- Writes what the step let sessions hold, and what it let them be done with.
+local function settle_held()
+    if hold_count > 0 then
+        call('ZADD', held, unpack(holds, 1, 2 * hold_count))
+        if known_here then
+            for place = 1, hold_count do known_here[ends[place]] = holds[2 * place] end
+            known_count = known_count + hold_count
+        end
+        hold_count = 0
     end
-end
-
-local function close(queue)
-    local state = queue.keys[4]
-    if queue.popped + queue.fresh > 0 then settle(queue) end
-    settle_held(queue)
-    append(queue)
-    if queue.returned > 0 then call('HINCRBY', state, 'returned', whole(queue.returned)) end
-    if queue.died > 0 then call('HINCRBY', state, 'died', whole(queue.died)) end
-    if queue.calls > queue.calls_before then
-        call('HSET', state, 'next', whole(queue.next), 'at', queue.at, 'calls', whole(queue.calls),
-            'fetched', whole(queue.fetched), 'wake', queue.wake)
-    elseif queue.wake ~= queue.wake_before then
-        call('HSET', state, 'wake', queue.wake)
-    end
-    if queue.earlier then
-        local channel = string.gsub(queue.keys[1], ':due$', ':head')
-        redis.call('PUBLISH', channel, plain(queue.earlier) .. ' ' .. queue.plain_clock)
+    if done_count > 0 then
+        if call('ZREM', held, unpack(done, 1, done_count)) < done_count then -- somebody has changed held by hand
+            for place = 1, done_count do replies[done_at[place]] = NOT_HELD end
+        end
+        done_count = 0
     end
 end
 
-local function record(queue, seat, act)
-    local lines = queue.lines
-    local count = #lines + 1
-    queue.calls = queue.calls + 1
-    lines[count] = seat .. queue.stamp .. act
-    if count == 1000 then append(queue) end
+-- Ends a step.
+local function close()
+    if popped + fresh > 0 then settle() end
+    settle_held()
+    append()
+    if returned > 0 then call('HINCRBY', state, 'returned', whole(returned)) end
+    if died > 0 then call('HINCRBY', state, 'died', whole(died)) end
+    if call_count > calls_before then
+        call('HSET', state, 'next', counted(next_id), 'at', at, 'calls', counted(call_count), 'fetched', counted(fetched),
+            'wake', wake)
+    elseif wake ~= wake_before then
+        call('HSET', state, 'wake', wake)
+    end
+    if earlier then call('PUBLISH', sub(due, 1, -4) .. 'head', plain(earlier) .. ' ' .. plain_clock) end
+end
+
+-- Records an event: its line is the seat, the stamp and the act.
+local function record(line)
+    call_count, line_count = call_count + 1, line_count + 1
+    lines[line_count] = line
+    if line_count == 1000 then append() end
 end
 
 -- Records what was found, or that nothing was.
-local function record_found(queue, seat, found, act)
-    if found or not queue.brief then record(queue, seat, act) end
+local function record_found(found, line)
+    if found or not is_brief then record(line) end
 end
 
-local function is_full(queue) return queue.calls >= queue.limit end
-
 -- The place of the earliest of the new elements, if there is one.
-local function least_new(queue)
-    local new, least = queue.new, queue.least
-    if not least and queue.fresh > 0 then
+local function least_new()
+    if not least and fresh > 0 then
         least = 2
-        for place = 4, 2 * queue.fresh, 2 do
+        for place = 4, 2 * fresh, 2 do
             if new[place] < new[least] then least = place end
         end
-        queue.least = least
     end
     return least
 end
 
 -- The member of the earliest element, and its place if it is a new one; nothing if the queue is empty.
-local function head_of(queue)
-    local head = queue.heads[queue.first]
-    if not head and not queue.is_all then
-        local popped, ahead = queue.popped, queue.ahead
-        queue.heads = call('ZRANGE', queue.keys[1], whole(popped), whole(popped + ahead - 1))
-        queue.first, queue.is_all = 1, #queue.heads < ahead
-        head = queue.heads[1]
+local function head_of()
+    local head = heads[first]
+    if not head and not is_all then
+        heads = call('ZRANGE', due, whole(popped), whole(popped + ahead - 1))
+        first, is_all = 1, #heads < ahead
+        head = heads[1]
     end
-    local least = least_new(queue)
-    if least and (not head or queue.new[least] < head) then return queue.new[least], least end
+    local place = least_new()
+    if place and (not head or new[place] < head) then return new[place], place end
     return head
 end
 
 -- Inserts an element, and records its offer. A first attempt has no origin yet.
-local function insert(queue, seat, expiry, origin, first, attempt, payload)
-    local digits, shown = padded(queue.next), plain(expiry)
-    local id = plain(digits)
-    local rest = (origin or id) .. ' ' .. (first or shown) .. ' ' .. attempt .. ' ' .. payload
-    local member = expiry .. ':' .. digits .. ' ' .. rest
-    if queue.fresh == MOST_NEW then settle(queue) end
-    local new, ids, fresh = queue.new, queue.new_ids, 2 * queue.fresh + 2
-    new[fresh - 1], new[fresh] = '0', member
-    ids[fresh - 1], ids[fresh] = id, expiry
-    queue.next, queue.fresh = queue.next + 1, fresh / 2
-    if queue.least and member < new[queue.least] then queue.least = fresh end
-    if expiry < queue.wake then
-        queue.wake = expiry
-        if not queue.earlier or expiry < queue.earlier then queue.earlier = expiry end
+local function insert(seat, expiry, origin, first_expiry, attempt, payload)
+    local id, shown = counted(next_id), expiry == asked and plain_asked or plain(expiry)
+    local rest = (origin or id) .. ' ' .. (first_expiry or shown) .. ' ' .. attempt .. ' ' .. payload
+    local member = expiry .. ':' .. ZEROS[#id] .. id .. ' ' .. rest
+    if fresh == MOST_NEW then settle() end
+    local place = 2 * fresh + 2
+    new[place - 1], new[place] = '0', member
+    new_ids[place - 1], new_ids[place] = id, expiry
+    next_id, fresh = next_id + 1, fresh + 1
+    if least and member < new[least] then least = place end
+    if expiry < wake then
+        wake = expiry
+        if not earlier or expiry < earlier then earlier = expiry end
     end
-    record(queue, seat, 'offer ' .. id .. ' ' .. shown .. ' ' .. rest)
+    record(seat .. stamp .. 'offer ' .. id .. ' ' .. shown .. ' ' .. rest)
     return id, shown
 end
 
 -- How many jobs the session holds.
-local function count_of(queue, seat)
-    local count = queue.counts[seat]
+local function count_of(seat)
+    local count = counts[seat]
     if not count then
-        settle_held(queue)
+        settle_held()
         local prefix = pad(seat)
-        count = call('ZLEXCOUNT', queue.keys[3], '[' .. prefix .. ':', '(' .. prefix .. ';')
-        queue.counts[seat] = count
+        count = call('ZLEXCOUNT', held, '[' .. prefix .. ':', '(' .. prefix .. ';')
+        counts[seat] = count
     end
     return count
 end
 
+-- The session holds so many jobs more.
+local function count_held(seat, more)
+    local count = counts[seat]
+    if count then counts[seat] = count + more end
+end
+
 -- Takes an element out that due does not have yet.
-local function take_new(queue, place)
-    local new, ids, last = queue.new, queue.new_ids, 2 * queue.fresh
-    new[place], ids[place - 1], ids[place] = new[last], ids[last - 1], ids[last]
-    new[last - 1], new[last], ids[last - 1], ids[last] = nil, nil, nil, nil
-    queue.fresh, queue.least = queue.fresh - 1, nil
+local function take_new(place)
+    local last = 2 * fresh
+    new[place], new_ids[place - 1], new_ids[place] = new[last], new_ids[last - 1], new_ids[last]
+    fresh, least = fresh - 1, nil
+end
+
+-- Lets the session hold an element, whose member of due is this.
+local function hold(seat, id, expiry, rest, shown)
+    fetched, hold_count, work = fetched + 1, hold_count + 1, work + 1
+    local number, place = counted(fetched), 2 * hold_count
+    holds[place - 1] = '0'
+    holds[place] = ZEROS[#seat] .. seat .. ':' .. id .. ' ' .. ZEROS[#number] .. number .. ' ' .. expiry .. ' ' .. rest
+    ends[hold_count] = seat .. ' DONE ' .. shown
+    count_held(seat, 1)
 end
 
 -- Takes out the earliest element, if it has expired, and lets the session hold it. -> its id and its ITEM line
-local function fetch(queue, seat)
-    local head, place = head_of(queue)
+local function fetch(seat)
+    local head, place = head_of()
     local expiry = head and sub(head, 1, 20)
-    if not head or expiry > queue.at then return nil end
-    local id, rest, counts = sub(head, 22, 41), sub(head, 43), queue.counts
-    local shown = plain(id)
-    if place then
-        take_new(queue, place)
-    else
-        queue.first, queue.popped = queue.first + 1, queue.popped + 1
-        queue.taken[queue.popped] = shown
+    if not head or expiry > at then return nil end
+    local id, rest = sub(head, 22, 41), sub(head, 43)
+    local gap = find(rest, ' ', 1, true)
+    local attempt = find(rest, ' ', gap + 1, true) + 1
+    local shown, item = sub(rest, 1, gap - 1), rest
+    if pad(shown) ~= id or pad(sub(rest, gap + 1, attempt - 2)) ~= expiry then -- it is not the first of its job
+        shown = plain(id)
+        item = shown .. ' ' .. plain(expiry) .. ' ' .. sub(rest, attempt)
     end
-    if counts[seat] then counts[seat] = counts[seat] + 1 end
-    queue.fetched, queue.work = queue.fetched + 1, queue.work + 1
-    local holds = queue.holds
-    local count = #holds
-    holds[count + 1] = '0'
-    holds[count + 2] = pad(seat) .. ':' .. id .. ' ' .. padded(queue.fetched) .. ' ' .. expiry .. ' ' .. rest
-    return shown, 'ITEM ' .. shown .. ' ' .. plain(expiry) .. ' ' .. string.match(rest, '^%d+ %d+ (.*)$') .. '\n'
+    if place then
+        take_new(place)
+    else
+        first, popped = first + 1, popped + 1
+        taken[popped] = shown
+    end
+    hold(seat, id, expiry, rest, shown)
+    return shown, 'ITEM ' .. item .. '\n'
 end
 
 -- When a wait that finds nothing has to be tried again.
-local function later(queue, start)
-    local head = head_of(queue)
+local function later(start)
+    local head = head_of()
     local expiry = head and sub(head, 1, 20) or NEVER
-    if queue.wake == '' or expiry > queue.wake then queue.wake = expiry end
-    return 'LATER ' .. (head and plain(expiry) or '-') .. ' ' .. queue.plain_clock .. ' ' .. start .. '\n'
+    if wake == '' or expiry > wake then wake = expiry end
+    return 'LATER ' .. (head and plain(expiry) or '-') .. ' ' .. plain_clock .. ' ' .. start .. '\n'
 end
 
--- Reads the rest of the policy, which few steps need.
-local function learn_policy(queue)
-    local period, attempts = unpack(call('HMGET', queue.keys[4], 'period', 'attempts'))
-    queue.period, queue.attempts = period, tonumber(attempts)
+-- Reads the policy, which few steps need.
+local function learn_policy()
+    pace, period, attempts = unpack(call('HMGET', state, 'pace', 'period', 'attempts'))
+    attempts = tonumber(attempts)
 end
 
 -- The moment at which the next attempt of a job that fails now expires.
-local function next_expiry(queue, first, attempt)
-    if queue.pace == 'delay' then return add(queue.asked, queue.period) or LAST end
-    local passed = multiply(queue.period, attempt)
-    return passed and add(pad(first), passed) or LAST
+local function next_expiry(first_expiry, attempt)
+    if pace == 'delay' then return add(asked, period) or LAST end
+    local passed = multiply(period, attempt)
+    return passed and add(pad(first_expiry), passed) or LAST
 end
 
 -- The job that a member of held describes.
@@ -390,231 +468,240 @@ local function job_of(member)
         payload = payload, member = member }
 end
 
+-- Lets a session hold a job no more.
+local function release(seat, job)
+    call('ZREM', held, job.member)
+    count_held(seat, -1)
+    if known_here then known_here[seat .. ' DONE ' .. plain(job.id)] = nil end
+end
+
 -- Lets a held job fail. -> its reply, or nil if its next attempt is refused: then it stays held
-local function fail_job(queue, seat, job)
+local function fail_job(seat, job)
     local reply
-    if not queue.attempts then learn_policy(queue) end
-    queue.work = queue.work + 1
-    if job.attempt >= queue.attempts then
-        redis.call('ZADD', queue.keys[6], 0, job.id .. ' ' .. queue.at .. ' ' .. string.sub(job.member, 64))
-        queue.died = queue.died + 1
+    if not attempts then learn_policy() end
+    work = work + 1
+    if job.attempt >= attempts then
+        call('ZADD', dead, 0, job.id .. ' ' .. at .. ' ' .. sub(job.member, 64))
+        died = died + 1
         reply = 'DEAD ' .. plain(job.id) .. '\n'
-    elseif is_full(queue) then
+    elseif call_count >= limit then
         return nil
     else
-        local id, shown = insert(queue, seat, next_expiry(queue, job.first, job.attempt), job.origin, job.first,
-            whole(job.attempt + 1), job.payload)
-        queue.returned = queue.returned + 1
+        local id, shown = insert(seat, next_expiry(job.first, job.attempt), job.origin, job.first, whole(job.attempt + 1),
+            job.payload)
+        returned = returned + 1
         reply = 'AGAIN ' .. id .. ' ' .. shown .. '\n'
     end
-    redis.call('ZREM', queue.keys[3], job.member)
-    if queue.counts[seat] then queue.counts[seat] = queue.counts[seat] - 1 end
+    release(seat, job)
     return reply
 end
 
 -- Ends a session: what it holds fails in the order of the fetches. -> how many jobs are lost
-local function end_session(queue, seat)
-    settle_held(queue)
+local function end_session(seat)
+    settle_held()
     local prefix = pad(seat)
-    local members = redis.call('ZRANGEBYLEX', queue.keys[3], '[' .. prefix .. ':', '(' .. prefix .. ';')
+    local members = call('ZRANGEBYLEX', held, '[' .. prefix .. ':', '(' .. prefix .. ';')
     local jobs, lost = {}, 0
     for place, member in ipairs(members) do jobs[place] = job_of(member) end
     table.sort(jobs, function(one, other) return one.fetch < other.fetch end)
     for _, job in ipairs(jobs) do
-        if not fail_job(queue, seat, job) then
-            redis.call('ZREM', queue.keys[3], job.member)
+        if not fail_job(seat, job) then
+            release(seat, job)
             lost = lost + 1
         end
     end
-    queue.counts[seat] = 0
+    counts[seat] = 0
     return lost
 end
 
--- The requests. Each gets the queue, the seat and the words, and returns the reply.
+-- The requests. Each gets the seat and the words, and returns the reply.
 local requests = {}
 
-local HELD, FULL, NOT_HELD = 'ERR 9 held\n', 'ERR 6 full\n', 'ERR 5 not-held\n'
-local MEMORY = 'ERR 7 memory\n'
-
-local function offer_at(queue, seat, expiry, payload)
-    if is_full(queue) then return FULL end
-    if queue.spare or queue.refuses and call('LLEN', queue.keys[5]) + #queue.lines >= queue.most then
-        return MEMORY
-    end
-    local id, shown = insert(queue, seat, expiry, nil, nil, '1', payload)
+local function offer_at(seat, expiry, payload)
+    if call_count >= limit then return FULL end
+    if is_spare or refuses and call('LLEN', history) + line_count >= most then return MEMORY end
+    local id, shown = insert(seat, expiry, nil, nil, '1', payload)
     return 'OFFERED ' .. id .. ' ' .. shown .. '\n'
 end
 
-function requests.OFFER(queue, seat, delay, payload)
-    local expiry = delay == '0' and queue.asked or add(queue.asked, pad(delay))
+function requests.OFFER(seat, delay, payload)
+    local expiry = delay == '0' and asked or add(asked, pad(delay))
     if not expiry then return 'ERR 3 range\n' end
-    return offer_at(queue, seat, expiry, payload)
+    return offer_at(seat, expiry, payload)
 end
 
-function requests.OFFERAT(queue, seat, expiry, payload) return offer_at(queue, seat, pad(expiry), payload) end
+function requests.OFFERAT(seat, expiry, payload) return offer_at(seat, pad(expiry), payload) end
 
 -- A request that is refused while its session holds as many jobs as it may.
-local function counted(request)
-    return function(queue, seat, number, start)
-        if count_of(queue, seat) >= MOST_HELD then return HELD end
-        return request(queue, seat, number, start)
+local function counting(request)
+    return function(seat, number, start)
+        if count_of(seat) >= MOST_HELD then return HELD end
+        return request(seat, number, start)
     end
 end
 
-requests.POLL = counted(function(queue, seat)
-    if is_full(queue) then return FULL end
-    local id, item = fetch(queue, seat)
-    record_found(queue, seat, id, 'poll ' .. (id or 'none'))
+requests.POLL = counting(function(seat)
+    if call_count >= limit then return FULL end
+    local id, item = fetch(seat)
+    record_found(id, seat .. stamp .. 'poll ' .. (id or 'none'))
     return item or 'NONE\n'
 end)
 
-function requests.take(queue, seat)
-    if is_full(queue) then return FULL end
-    local id, item = fetch(queue, seat)
-    if not id then return later(queue, queue.plain_asked) end
-    record(queue, seat, 'take ' .. id)
+function requests.take(seat)
+    if call_count >= limit then return FULL end
+    local id, item = fetch(seat)
+    if not id then return later(plain_asked) end
+    record(seat .. stamp .. 'take ' .. id)
     return item
 end
 
-function requests.pollfor(queue, seat, timeout, start)
-    if is_full(queue) then return FULL end
-    if start == '' then start = queue.plain_asked end
-    local id, item = fetch(queue, seat)
-    if not id and (add(pad(start), pad(timeout)) or LAST) > queue.at then return later(queue, start) end
-    record_found(queue, seat, id, 'pollfor ' .. start .. ' ' .. timeout .. ' ' .. (id or 'none'))
+function requests.pollfor(seat, timeout, start)
+    if call_count >= limit then return FULL end
+    if start == '' then start = plain_asked end
+    local id, item = fetch(seat)
+    if not id and (add(pad(start), pad(timeout)) or LAST) > at then return later(start) end
+    record_found(id, seat .. stamp .. 'pollfor ' .. start .. ' ' .. timeout .. ' ' .. (id or 'none'))
     return item or 'NONE\n'
 end
 
-function requests.wait(queue)
-    if is_full(queue) then return FULL end
-    return later(queue, queue.plain_asked)
+function requests.wait()
+    if call_count >= limit then return FULL end
+    return later(plain_asked)
 end
 
-requests.TAKE, requests.POLLFOR = counted(requests.take), counted(requests.pollfor)
-requests.WAIT = counted(requests.wait)
+requests.TAKE, requests.POLLFOR, requests.WAIT =
+    counting(requests.take), counting(requests.pollfor), counting(requests.wait)
 
-function requests.PEEK(queue, seat)
-    if is_full(queue) then return FULL end
-    local head = head_of(queue) or ''
+function requests.PEEK(seat)
+    if call_count >= limit then return FULL end
+    local head = head_of() or ''
     local expiry, id, attempt, payload = string.match(head, '^0*(%d+):0*(%d+) %d+ %d+ (%d+) (.*)$')
-    record(queue, seat, 'peek ' .. (id or 'none'))
+    record(seat .. stamp .. 'peek ' .. (id or 'none'))
     if not id then return 'NONE\n' end
     return 'HEAD ' .. id .. ' ' .. expiry .. ' ' .. attempt .. ' ' .. payload .. '\n'
 end
 
-function requests.REMOVE(queue, seat, id)
-    if is_full(queue) then return FULL end
-    settle(queue)
-    local expiry = redis.call('HGET', queue.keys[2], id)
+function requests.REMOVE(seat, id)
+    if call_count >= limit then return FULL end
+    settle()
+    local expiry = call('HGET', ids, id)
     if expiry then
         local member = expiry .. ':' .. pad(id)
-        redis.call('ZREMRANGEBYLEX', queue.keys[1], '[' .. member .. ' ', '(' .. member .. '!')
-        redis.call('HDEL', queue.keys[2], id)
+        call('ZREMRANGEBYLEX', due, '[' .. member .. ' ', '(' .. member .. '!')
+        call('HDEL', ids, id)
     end
     local answer = expiry and 'yes' or 'no'
-    record(queue, seat, 'remove ' .. id .. ' ' .. answer)
+    record(seat .. stamp .. 'remove ' .. id .. ' ' .. answer)
     return 'REMOVED ' .. answer .. '\n'
 end
 
-function requests.DRAIN(queue, seat, most)
-    if is_full(queue) then return FULL end
-    local max = math.min(tonumber(most), MOST_HELD - count_of(queue, seat))
+function requests.DRAIN(seat, number)
+    if call_count >= limit then return FULL end
+    local max = math.min(tonumber(number), MOST_HELD - count_of(seat))
     local act, items = { 'drain ' .. whole(max) }, { '' }
     while #items <= max do
-        local id, item = fetch(queue, seat)
+        local id, item = fetch(seat)
         if not id then break end
         act[#act + 1], items[#items + 1] = id, item
     end
-    record_found(queue, seat, items[2], table.concat(act, ' '))
+    record_found(items[2], seat .. stamp .. table.concat(act, ' '))
     items[1] = 'DRAINED ' .. whole(#items - 1) .. '\n'
     return table.concat(items)
 end
 
-function requests.CLEAR(queue, seat)
-    if is_full(queue) then return FULL end
-    settle(queue)
-    redis.call('UNLINK', queue.keys[1], queue.keys[2])
-    record(queue, seat, 'clear')
+function requests.CLEAR(seat)
+    if call_count >= limit then return FULL end
+    settle()
+    call('UNLINK', due, ids)
+    record(seat .. stamp .. 'clear')
     return 'CLEARED\n'
 end
 
-function requests.SIZE(queue, seat)
-    if is_full(queue) then return FULL end
-    local count = whole(call('ZCARD', queue.keys[1]) - queue.popped + queue.fresh)
-    record(queue, seat, 'size ' .. count)
+function requests.SIZE(seat)
+    if call_count >= limit then return FULL end
+    local count = whole(call('ZCARD', due) - popped + fresh)
+    record(seat .. stamp .. 'size ' .. count)
     return 'SIZE ' .. count .. '\n'
 end
 
 -- Makes a command that finds what a session holds by the id.
-local function on_held(queue, command, seat, id)
+local function on_held(command, seat, id)
     local front = pad(seat) .. ':' .. pad(id)
-    return call(command, queue.keys[3], '[' .. front .. ' ', '(' .. front .. '!')
+    return call(command, held, '[' .. front .. ' ', '(' .. front .. '!')
 end
 
-function requests.DONE(queue, seat, id)
-    if on_held(queue, 'ZREMRANGEBYLEX', seat, id) == 0 then
-        if not queue.holds[1] then return NOT_HELD end
-        settle_held(queue) -- it may have been fetched in this step
-        return requests.DONE(queue, seat, id)
-    end
-    local counts = queue.counts
-    if counts[seat] then counts[seat] = counts[seat] - 1 end
+function requests.DONE(seat, id)
+    settle_held()
+    if on_held('ZREMRANGEBYLEX', seat, id) == 0 then return NOT_HELD end
+    if known_here then known_here[seat .. ' DONE ' .. id] = nil end -- it was fetched in this step
+    count_held(seat, -1)
     return 'DONE ' .. id .. '\n'
 end
 
-function requests.FAIL(queue, seat, id)
-    settle_held(queue)
-    local member = on_held(queue, 'ZRANGEBYLEX', seat, id)[1]
+-- The same, where the member of held is known.
+local function done_known(text, member)
+    local gap = find(text, ' ', 1, true)
+    done_count = done_count + 1
+    done[done_count], done_at[done_count] = member, reply_count + 1
+    known_here[text], known_count = nil, known_count - 1
+    if next(counts) then count_held(sub(text, 1, gap - 1), -1) end
+    return sub(text, gap + 1) .. '\n'
+end
+
+function requests.FAIL(seat, id)
+    settle_held()
+    local member = on_held('ZRANGEBYLEX', seat, id)[1]
     if not member then return NOT_HELD end
-    return fail_job(queue, seat, job_of(member)) or FULL
+    return fail_job(seat, job_of(member)) or FULL
 end
 
-function requests.END(queue, seat) return 'ENDED ' .. end_session(queue, seat) .. '\n' end
+function requests.END(seat) return 'ENDED ' .. end_session(seat) .. '\n' end
 
-local function dead_job(queue, id)
-    return redis.call('ZRANGEBYLEX', queue.keys[6], '[' .. pad(id) .. ' ', '(' .. pad(id) .. '!')[1]
-end
+local function dead_job(id) return call('ZRANGEBYLEX', dead, '[' .. pad(id) .. ' ', '(' .. pad(id) .. '!')[1] end
 
-function requests.REVIVE(queue, seat, id, delay)
-    local member = dead_job(queue, id)
+function requests.REVIVE(seat, id, delay)
+    local member = dead_job(id)
     if not member then return 'NONE\n' end
-    local reply = requests.OFFER(queue, seat, delay, string.match(member, '(%S+)$'))
-    if string.sub(reply, 1, 3) ~= 'ERR' then redis.call('ZREM', queue.keys[6], member) end
+    local reply = requests.OFFER(seat, delay, string.match(member, '(%S+)$'))
+    if sub(reply, 1, 3) ~= 'ERR' then call('ZREM', dead, member) end
     return reply
 end
 
-function requests.DROP(queue, seat, id)
-    local member = dead_job(queue, id)
+function requests.DROP(seat, id)
+    local member = dead_job(id)
     if not member then return 'NONE\n' end
-    redis.call('ZREM', queue.keys[6], member)
+    call('ZREM', dead, member)
     return 'DROPPED ' .. id .. '\n'
 end
 
--- Whether the sessions of a gateway may make calls. A lease that is over counts until another gateway has found it so.
-local function has_lease(keys, gateway)
-    local lease = redis.call('ZSCORE', keys[7], gateway)
-    return lease and lease ~= ENDED
+-- Whether a step has taken its time.
+local function is_late(began)
+    return work >= MOST_WORK or microseconds() - began >= MOST_MICROSECONDS
 end
 
-local function lease_is_over() return redis.error_reply('LEASE the lease of this gateway is over') end
-
 local function perform(keys, args, spare)
-    local queue, fault = open(keys, args[1])
-    if not queue then return fault end
-    if args[2] ~= '' and not has_lease(keys, args[2]) then return lease_is_over() end
-    queue.spare, queue.ahead = spare, math.min(#args - 2, READ_AHEAD)
-    local replies, next_look = {}, WORK_BETWEEN_LOOKS
+    local fault = open(keys, args[1], args[2])
+    if fault then return fault end
+    local known, next_look, began = known_here or {}, WORK_BETWEEN_LOOKS, nil
+    is_spare, ahead = spare, math.min(#args - 2, READ_AHEAD)
     for place = 3, #args do
-        local seat, word, number, rest = string.match(args[place], '^(%d+) (%a+) ?(%S*) ?(%S*)$')
-        replies[place - 2] = requests[word](queue, seat, number, rest)
-        queue.work = queue.work + 1
-        if queue.work >= next_look then
-            if queue.work >= MOST_WORK or microseconds() - queue.began >= MOST_MICROSECONDS then break end
-            next_look = queue.work + WORK_BETWEEN_LOOKS
+        local text = args[place]
+        local member = known[text]
+        if member then
+            replies[place - 2] = done_known(text, member)
+        else
+            local seat, word, number, rest = string.match(text, '^(%d+) (%a+) ?(%S*) ?(%S*)$')
+            replies[place - 2] = requests[word](seat, number, rest)
+        end
+        work, reply_count = work + 1, place - 2
+        if work >= next_look then
+            began = began or args[1] == '' and tonumber(plain_clock) / 1e3 or microseconds()
+            if is_late(began) then break end
+            next_look = work + WORK_BETWEEN_LOOKS
         end
     end
-    close(queue)
-    return replies
+    close()
+    return table.concat(replies, '\0', 1, reply_count)
 end
 
 local function make_queue(keys, pace, period, attempts)
@@ -655,6 +742,7 @@ local function join_gateway(keys, args)
 end
 
 local function forget_gateway(keys, gateway)
+    forget_known(keys, gateway)
     redis.call('HDEL', keys[4], 'lease:' .. gateway, 'clients:' .. gateway)
     return redis.call('ZREM', keys[7], gateway)
 end
@@ -668,18 +756,19 @@ end
 local function end_gateway(keys, late, score)
     local found = redis.call('ZSCORE', keys[7], late)
     if not found or found ~= score and found ~= ENDED then return 0 end
-    local queue, fault = open(keys, '')
-    if not queue then return nil, fault end
-    local first, above = held_by(late)
-    local members = redis.call('ZRANGEBYLEX', keys[3], first, above, 'LIMIT', 0, MOST_ENDED)
+    local fault = open(keys, '', '')
+    if fault then return nil, fault end
+    forget_known(keys, late)
+    local lowest, above = held_by(late)
+    local members = call('ZRANGEBYLEX', held, lowest, above, 'LIMIT', 0, MOST_ENDED)
     local ended
     for _, member in ipairs(members) do
         local seat = plain(string.sub(member, 1, 20))
-        if seat ~= ended then end_session(queue, seat) end
+        if seat ~= ended then end_session(seat) end
         ended = seat
     end
     if #members < MOST_ENDED then forget_gateway(keys, late) else redis.call('ZADD', keys[7], ENDED, late) end
-    close(queue)
+    close()
     return #members
 end
 
@@ -691,9 +780,10 @@ end
 
 local function renew(keys, args)
     local gateway, lease, token, clients, late, score = unpack(args)
-    if not has_lease(keys, gateway) or redis.call('HGET', keys[4], 'lease:' .. gateway) ~= lease .. ' ' .. token then
+    if redis.call('HGET', keys[4], 'lease:' .. gateway) ~= lease .. ' ' .. token or is_ended(keys, gateway) then
         return lease_is_over()
     end
+    forget_known(keys, gateway)
     redis.call('ZADD', keys[7], whole(microseconds() + tonumber(lease)), gateway)
     redis.call('HSET', keys[4], 'clients:' .. gateway, clients)
     local told, fault = { 0, moment_of(microseconds()), redis.call('HGET', keys[4], 'at') }, nil
@@ -787,7 +877,11 @@ local function calls(keys, args) return perform(keys, args, false) end
 local function spare(keys, args) return perform(keys, args, true) end
 
 local function register(name, callback, ...)
-    redis.register_function { function_name = name .. '_' .. VERSION, callback = callback, flags = { ... } }
+    local function prepared(keys, args)
+        prepare()
+        return callback(keys, args)
+    end
+    redis.register_function { function_name = name .. '_' .. VERSION, callback = prepared, flags = { ... } }
 end
 
 register('rb_version', function() return VERSION end, 'no-writes')

@@ -152,8 +152,8 @@ class Calls:
         del self._flying[batch]
         if self._again or self._turns:
             self._schedule()
-        if isinstance(answer, list):
-            self._made(batch, answer)
+        if isinstance(answer, bytes):
+            self._made(batch, answer.split(b"\0"))
         elif answer is None:
             batch.doubt()
         else:
@@ -177,7 +177,7 @@ class Calls:
     def _copied(self, link: Link, batch: Batch, answer: Answer, count: Answer) -> None:
         """So many replicas have what the batch did. If they are too few, a fail-over may lose it: others are waited for,
         until it is in doubt. How many are wanted may change meanwhile."""
-        if not isinstance(answer, list) or isinstance(count, int) and count >= self.replicas:
+        if not isinstance(answer, bytes) or isinstance(count, int) and count >= self.replicas:
             self._answered(link, batch, answer)
         elif isinstance(count, int) and link is self._link and time.monotonic() - batch.sent < self.patience:
             link.send(self._wait(), lambda count: self._copied(link, batch, answer, count))

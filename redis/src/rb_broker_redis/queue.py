@@ -90,16 +90,17 @@ class Queue:
         """Makes these calls of `rb_calls`, in as many steps as it takes. The replies."""
         replies: list[bytes] = []
         while len(replies) < len(calls):
-            replies += self.call("rb_calls", moment, gateway, *calls[len(replies):len(replies) + CHUNK])
+            made = self.call("rb_calls", moment, gateway, *calls[len(replies):len(replies) + CHUNK])
+            replies += made.split(b"\0")
         return replies
 
     def request(self, line: str, seat: int = COMMANDS_SEAT) -> str:
         """Makes one call by the node's time, also of a Redis that is full. The reply is without its last line feed."""
         words = "", "", f"{seat} {line}"
         try:
-            (reply,) = self.call("rb_calls", *words)
+            reply = self.call("rb_calls", *words)
         except redis.ResponseError as fault:
             if not str(fault).startswith("OOM "):
                 raise
-            (reply,) = self.call("rb_spare", *words)
+            reply = self.call("rb_spare", *words)
         return str(reply.decode()[:-1])

@@ -7,6 +7,7 @@ import logging
 import re
 import time
 from collections.abc import Awaitable, Callable, Sequence
+from secrets import token_hex
 from typing import TYPE_CHECKING, Any, cast
 from uuid import uuid4
 
@@ -49,8 +50,9 @@ class Upkeep:
         """The gateway's at this queue."""
         self.clock_fault = ""
         """What was wrong with the node's clock when that was last seen."""
-        self._token = uuid4().hex
-        """What tells it from another that gets this number, if the Redis loses what it knows."""
+        self._token = token_hex(32)
+        """What tells it from another that gets this number, if the Redis loses what it knows. A value of the queue's state
+        that is so long makes that a table, in which each field is found at once."""
         self._leases, self._clock = Leases(lease / 3), NodeClock()
         self._name = f"rb_broker-{uuid4().hex}".encode()
         """That of its links, which no other gateway has."""
