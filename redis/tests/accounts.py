@@ -1,6 +1,7 @@
 """What became of each job of a hostile day: by the histories, and by what the clients noted."""
 from __future__ import annotations
 
+import json
 from collections import Counter
 from collections.abc import Iterable
 from pathlib import Path
@@ -24,6 +25,15 @@ def told_in(notes: Iterable[Path]) -> Told:
         if len(words) == 3:  # and is not cut off by a kill
             told[words[1], int(words[2])].append("DONE" if words[0] == "done" else words[0])
     return told
+
+
+def early_in(records: Iterable[Path]) -> list[str]:
+    """The payloads of jobs that were given before their delay had passed since they were offered, by these records."""
+    lines = [json.loads(line) for it in records for line in it.read_text("ascii").splitlines()]
+    offers = ((it["request"].split(" "), it["sent"]) for it in lines if it["request"].startswith("OFFER "))
+    due = {payload: sent + int(delay) for (_, delay, payload), sent in offers}
+    given = ((item.split(" "), it["received"]) for it in lines for item in it["reply"] if item.startswith("ITEM "))
+    return [words[4] for words, received in given if received < due[words[4]]]
 
 
 class Attempts(NamedTuple):

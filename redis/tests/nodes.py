@@ -232,8 +232,11 @@ class Cluster(Nodes):
         self.url = f"redis+cluster://{','.join(addresses)}"
         subprocess.run(["redis-cli", "--cluster", "create", *addresses, "--cluster-yes"], check=True,
                        stdout=subprocess.DEVNULL, timeout=PATIENCE)
-        wait_until(lambda: all(b"cluster_state:ok" in it.ask("CLUSTER", "INFO") for it in self.nodes),
-                   "the Cluster is not ready")
+        wait_until(self.is_ready, "the Cluster is not ready")
+
+    def is_ready(self) -> bool:
+        """Whether all nodes say so."""
+        return all(b"cluster_state:ok" in it.ask("CLUSTER", "INFO") for it in self.nodes)
 
     def slot_of(self, queue: str) -> int:
         return int(self.nodes[0].ask("CLUSTER", "KEYSLOT", f"{{{queue}}}"))

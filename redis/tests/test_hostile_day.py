@@ -1,33 +1,40 @@
-"""Days on which all goes wrong: gateways, clients, the archive and the Redis itself are killed at any moment, and a
-gateway may stand still until its lease is over.
+"""Days on which all goes wrong: gateways, clients, the archive and the Redis itself are killed at any moment, links of
+gateways are cut, and a gateway may stand still until its lease is over. The clock of one Redis is set back again and
+again, slots of a Cluster are moved, and primaries of Sentinels are replaced as planned.
 
 Afterwards the program accepts each history that was archived, with its retries. Each job that was offered is in them
 once, each of its attempts came after a failure of the one before, and its last attempt was given and did not come
 back. A worker knows that it was done, and no other knows that too; or the job is named, since its worker died or lost
-its connection before it could know. What the clients saw is what the histories tell, as tools/verify compares them.
+its connection before it could know. None came before its delay had passed. What the clients saw is what the histories
+tell, as tools/verify compares them.
 """
 from __future__ import annotations
 
 import contextlib
 import os
 import random
+import re
 import shutil
 import subprocess
 import threading
 import time
 import unittest
-from collections.abc import Callable
+from collections.abc import Callable, Sequence
 from pathlib import Path
 
-from accounts import Attempts, attempts_in, sum_up, told_in
+import redis
+
+from accounts import Attempts, attempts_in, early_in, sum_up, told_in
 from checking.testing import run_tool
 from crew import Crew, Producer, compiled_java
 from gateways import COMMAND, POLICY, Gateway
 from judging import faults_in, replay_chains
-from nodes import ALWAYS, Node, Process, Replicas, Sentinels, wait_until
+from nodes import ALWAYS, Cluster, Node, Process, Replicas, Sentinels, wait_until
 from rb_broker_redis.archive_folder import ArchiveFolder
 from rb_broker_redis.shards import shard_names
 from redis_test import RoomTest
+from serving import HOST
+from test_clock import Clock
 
 JOBS = int(os.environ.get("RB_BROKER_JOBS", 1_000))
 PATIENCE = 600 + JOBS / 10  # seconds until all jobs are done
@@ -37,6 +44,10 @@ EACH = 2  # workers of each kind
 LEASE = 4  # seconds, which a busy machine may well let pass: then sessions lose their jobs while their gateway lives
 SERVING = (*POLICY, "--wait", "200ms", "--lease", f"{LEASE}s")
 QUEUE = "jobs"
+
+WEIGHTS = {"gateway": 2, "worker": 5, "producer": 1, "archive": 1, "lease": 0.5, "redis": 1, "links": 1, "clock": 0.5,
+           "slot": 1, "planned": 0.5}
+"""How often something befalls something, beside the others."""
 
 
 class Day(RoomTest):
@@ -50,13 +61,21 @@ class Day(RoomTest):
         self.draw = random.Random()
         self.pauses: list[threading.Timer] = []
         self.slow: list[tuple[int, str]] = []
-        self.kills = {it: 0 for it in ("gateway", "worker", "producer", "archive", "redis", "lease")}
+        self.strikes: dict[str, Callable[[], None]] = {
+            "gateway": lambda: self.kill(self.gateways), "worker": self.kill_worker,
+            "producer": lambda: self.kill(self.producers), "archive": lambda: self.kill([self.archiving]),
+            "lease": self.let_lease_pass, "links": self.cut_links}
 
-    def run_day(self, redis: str, kill_redis: Callable[[], None], primary: Callable[[], Node],
-                serving: tuple[object, ...] = SERVING) -> None:
-        """Lets the day pass, and judges it."""
+    def nodes(self) -> list[Node]:
+        """The nodes that gateways use."""
+        raise NotImplementedError
+
+    def run_day(self, url: str, serving: tuple[object, ...] = SERVING, **strikes: Callable[[], None]) -> None:
+        """Lets the day pass, and judges it. `strikes` befall the Redis."""
+        self.strikes |= strikes
+        self.kills = dict.fromkeys(self.strikes, 0)
         serving = (*serving, "--shards", self.shards)
-        self.gateways = [self.till_end(Gateway(self.room, redis, QUEUE, serving)) for _ in range(GATEWAYS)]
+        self.gateways = [self.till_end(Gateway(self.room, url, QUEUE, serving)) for _ in range(GATEWAYS)]
         self.crew = Crew(self.room, [it.port for it in self.gateways], compiled_java(self.room / "java"))
         for it in self.gateways:
             it.wait()
@@ -65,43 +84,47 @@ class Day(RoomTest):
         payloads = [str(it) for it in range(JOBS)]
         self.producers = [self.till_end(Producer(self.crew, f"producer-{it}", payloads[it::PRODUCERS]))
                           for it in range(PRODUCERS)]
-        self.take_events = [*COMMAND, "archive", str(self.archive), "--redis", redis, "--queue", QUEUE,
+        self.take_events = [*COMMAND, "archive", str(self.archive), "--redis", url, "--queue", QUEUE,
                             "--shards", str(self.shards)]
         self.archiving = self.till_end(Process([*self.take_events, "--every", "300ms"], self.room / "archive.log"))
         self.archiving.start()
-        self.let_all_go_wrong(kill_redis)
+        self.let_all_go_wrong()
         self.end_in_good_order()
-        self.note_slow(primary())
+        for it in self.nodes():
+            self.note_slow(it)
         self.judge()
 
-    def let_all_go_wrong(self, kill_redis: Callable[[], None]) -> None:
+    def let_all_go_wrong(self) -> None:
         """Kills one after the other until all offers are made, and then waits until all jobs are done."""
         began = time.monotonic()
         while any(it.is_alive for it in self.producers):
             self.assertLess(time.monotonic(), began + PATIENCE, "the offers are not made in time")
             time.sleep(self.draw.uniform(0.1, 0.8))
             self.start_what_has_ended()
-            what = self.draw.choices([*self.kills], [2, 5, 1, 1, 1, 0.5])[0]
+            what = self.draw.choices([*self.kills], [WEIGHTS[it] for it in self.kills])[0]
             self.kills[what] += 1
-            if what == "lease":
-                self.let_lease_pass(self.draw.choice(self.gateways))
-            elif what == "worker":
-                self.kill_worker()
-            elif what == "redis":
-                kill_redis()
-            else:
-                killed = self.draw.choice(
-                    {"gateway": self.gateways, "producer": self.producers, "archive": [self.archiving]}[what])
-                killed.kill()
-                killed.start()
+            self.strikes[what]()
         self.took = time.monotonic() - began
         for pause in self.pauses:
             pause.join()
         wait_until(self.all_listen, "the gateways do not listen")
         wait_until(self.is_empty, "the jobs are not done in time", PATIENCE)
 
-    def let_lease_pass(self, gateway: Gateway) -> None:
+    def kill(self, some: Sequence[Process]) -> None:
+        """Kills one of these, and starts it again."""
+        killed = self.draw.choice(some)
+        killed.kill()
+        killed.start()
+
+    def cut_links(self) -> None:
+        """Cuts all that gateways and the archive have to a node."""
+        with self.draw.choice(self.nodes()).client() as client:
+            for kind in ("normal", "pubsub"):
+                client.execute_command("CLIENT", "KILL", "TYPE", kind)
+
+    def let_lease_pass(self) -> None:
         """Lets a gateway stand still, unless it is killed, for about as long as its lease or longer."""
+        gateway = self.draw.choice(self.gateways)
         gateway.pause()
         going_on = threading.Timer(LEASE * self.draw.uniform(0.8, 2), gateway.go_on)
         going_on.start()
@@ -168,13 +191,15 @@ class Day(RoomTest):
             self.assertEqual(attempts.given, expected, payload)
         day = sum_up(jobs, told_in(it.notes for it in self.crew.started))
         self.assertEqual(day.done_twice, [])
+        early = early_in(it for it in self.crew.records if it.exists())
+        self.assertEqual(early, [])
         self.assertEqual(day.done_once + len(day.in_doubt), day.jobs)
         self.assertLessEqual(len(day.unseen), sum(self.kills.values()), day.unseen)
         print(f"{type(self).__name__}: {JOBS} jobs in {self.took:.0f} s; killed: "
               f"{', '.join(f'{it} {count}' for it, count in self.kills.items())}; {len(offered)} offers answered, "
               f"{day.jobs} made; {day.done_once} jobs done once, {len(day.done_twice)} twice, {len(day.in_doubt)} in "
-              f"doubt, of which {len(day.unseen)} without a note; {day.handled_again} handled again, {day.late} answers "
-              f"too late; {len(histories)} histories accepted; faults of tools/verify: {faults}", flush=True)
+              f"doubt, of which {len(day.unseen)} without a note; {len(early)} early; {day.handled_again} handled again, "
+              f"{day.late} answers too late; {len(histories)} histories accepted; faults of tools/verify: {faults}", flush=True)
         self.assertEqual(faults, {}, said)
 
     def histories(self) -> list[list[Path]]:
@@ -193,40 +218,76 @@ class JavaWorkerTest(RoomTest):
 
 
 class OneNodeTest(Day):
-    def test_one_node_that_is_killed_again_and_again(self) -> None:
-        node = self.till_end(Node(self.room / "node", ALWAYS))
+    def nodes(self) -> list[Node]:
+        return [self.node]
 
-        def kill_redis() -> None:
-            self.note_slow(node)
-            node.kill()
-            time.sleep(self.draw.uniform(0, 0.5))
-            node.start()
-
-        self.run_day(node.url, kill_redis, lambda: node)
+    def test_one_node_that_is_killed_again_and_again_and_whose_clock_is_set_back(self) -> None:
+        clock = Clock(self.room, "clock")
+        self.node = self.till_end(Node(self.room / "node", ALWAYS, clock.environment))
+        self.run_day(self.node.url, redis=self.kill_redis, clock=lambda: clock.set(-self.kills["clock"]))
         self.assertEqual(list(self.archive.glob("*.lost-*")), [])
 
+    def kill_redis(self) -> None:
+        self.note_slow(self.node)
+        self.node.kill()
+        time.sleep(self.draw.uniform(0, 0.5))
+        self.node.start()
 
-class ShardsTest(OneNodeTest):
-    """The same with one name over several queues."""
+
+class ClusterTest(Day):
+    """One name over several queues."""
 
     shards = 3
 
+    def nodes(self) -> list[Node]:
+        return [*self.cluster.nodes]
+
+    def test_nodes_of_a_cluster_that_are_killed_and_between_which_slots_are_moved(self) -> None:
+        self.cluster = self.till_end(Cluster(self.room / "cluster", ALWAYS))
+        self.run_day(self.cluster.url, (*SERVING, "--timeout", "60s"), redis=self.kill_redis, slot=self.move_slot)
+        self.assertEqual(list(self.archive.glob("*.lost-*")), [])
+
+    def kill_redis(self) -> None:
+        node = self.draw.choice(self.cluster.nodes)
+        self.note_slow(node)
+        node.kill()
+        time.sleep(self.draw.uniform(0, 0.5))
+        node.start()
+        wait_until(self.cluster.is_ready, "the Cluster does not come back")
+
+    def move_slot(self) -> None:
+        slot = self.cluster.slot_of(self.draw.choice(shard_names(QUEUE, self.shards)))
+        owner = self.cluster.owner_of(slot)
+        self.cluster.move(slot, self.draw.choice([it for it in self.cluster.nodes if it is not owner]))
+
 
 class SentinelTest(Day):
+    def nodes(self) -> list[Node]:
+        return [self.sentinels.primary()]
+
     def test_fail_overs_under_sentinel(self) -> None:
-        watched = self.till_end(Replicas(self.room / "nodes", 2, ALWAYS))
-        sentinels = self.till_end(Sentinels(self.room / "sentinels", watched))
+        self.watched = self.till_end(Replicas(self.room / "nodes", 2, ALWAYS))
+        self.sentinels = self.till_end(Sentinels(self.room / "sentinels", self.watched))
+        self.run_day(self.sentinels.url, (*SERVING, "--replicas", "all"), redis=self.kill_redis, planned=self.fail_over)
 
-        def kill_redis() -> None:
-            """Kills the primary, and starts it again once another has its place. The next one is killed only once both
-            replicas have all that it has."""
-            primary = sentinels.primary()
-            self.note_slow(primary)
-            primary.kill()
-            wait_until(lambda: sentinels.primary() is not primary, "no replica takes over")
-            primary.start()
-            wait_until(lambda: sentinels.primary().replication()["connected_slaves"] == 2, "the replicas do not follow")
-            wait_until(lambda: all(it["state"] == "online" for name, it in sentinels.primary().replication().items()
-                                   if name[:5] == "slave"), "the replicas are not in step")
+    def kill_redis(self) -> None:
+        """Kills the primary, and starts it again once another has its place."""
+        primary = self.sentinels.primary()
+        self.note_slow(primary)
+        primary.kill()
+        wait_until(lambda: self.sentinels.primary() is not primary, "no replica takes over")
+        primary.start()
+        self.await_replicas()
 
-        self.run_day(sentinels.url, kill_redis, sentinels.primary, (*SERVING, "--replicas", "all"))
+    def fail_over(self) -> None:
+        before = self.sentinels.primary()
+        self.note_slow(before)
+        with contextlib.suppress(redis.ResponseError):  # the last one is not over
+            redis.Redis(HOST, self.sentinels.ports[0]).execute_command("SENTINEL", "FAILOVER", self.sentinels.name)
+            wait_until(lambda: self.sentinels.primary() is not before, "no replica takes over")
+        self.await_replicas()
+
+    def await_replicas(self) -> None:
+        """The next primary is replaced only once both replicas have all that it has."""
+        wait_until(lambda: [it["state"] for name, it in self.sentinels.primary().replication().items()
+                            if re.fullmatch(r"slave\d", name)] == ["online"] * 2, "the replicas are not in step")
