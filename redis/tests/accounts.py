@@ -28,12 +28,13 @@ def told_in(notes: Iterable[Path]) -> Told:
 
 
 def early_in(records: Iterable[Path]) -> list[str]:
-    """The payloads of jobs that were given before their delay had passed since they were offered, by these records."""
+    """The payloads of jobs that were given before their delay had passed since they were offered, by these records. Those
+    are left out whose producer was killed before it could write that."""
     lines = [json.loads(line) for it in records for line in it.read_text("ascii").splitlines()]
     offers = ((it["request"].split(" "), it["sent"]) for it in lines if it["request"].startswith("OFFER "))
     due = {payload: sent + int(delay) for (_, delay, payload), sent in offers}
     given = ((item.split(" "), it["received"]) for it in lines for item in it["reply"] if item.startswith("ITEM "))
-    return [words[4] for words, received in given if received < due[words[4]]]
+    return [words[4] for words, received in given if received < due.get(words[4], 0)]
 
 
 class Attempts(NamedTuple):
