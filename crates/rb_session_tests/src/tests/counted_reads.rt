@@ -36,6 +36,27 @@ fn expect_reads(rt: &impl Abort, alloc: Global, desk: &mut KeptDesk<'_, BinaryTi
     expect(rt, written == WriterState::Open);
 }
 
+// A session that could not write leaves a writer that tells so.
+#[test]
+fn a_session_that_could_not_write_leaves_a_failed_writer(rt: HostRuntime) -> Result<(), Fail> {
+    let alloc = rt.alloc();
+    with_kept(alloc, 1, |kept, tally| {
+        expect_failed(&rt, alloc, &mut KeptDesk::new(kept, tally))
+    })
+}
+
+fn expect_failed(rt: &impl Abort, alloc: Global, desk: &mut KeptDesk<'_, BinaryTimer>) {
+    let policy = Policy::fixed(1_000, 3).expect(rt, "a policy");
+    let (mut script, mut writer) = (b"AT 7\n".as_slice(), Sheet::new(alloc, 0));
+    let mut reader = LimitedReader::new(&mut script);
+    let outlet = LimitedWriter::new(&mut writer);
+    let delivery = Delivery::AtOnce;
+    let (outlet, ended) = run_limited(alloc, &mut reader, outlet, desk, &policy, delivery);
+    let written = outlet.state();
+    expect_end(rt, ended, Err(SessionFault::Write { lost: 0 }), 0);
+    expect(rt, written == WriterState::Failed);
+}
+
 // A reader that gives a byte at each read, never a line feed, and has no end.
 #[derive(Drop)]
 struct Endless {

@@ -2,7 +2,6 @@
 -- session's replies, one behind the other.
 use Rattle.std.proofs.Common.{rules, ◌≡◌, ◌≤◌, ℕ, List, [], Option, Result, Ok, Err, sym, ap, subst, ◌∙◌, arith, length}
 use Rattle.std.specs.Prelude.{OnOk}
-use Rattle.rb_protocol.specs.Writes.{TellsOf, WritesOn}
 use Rattle.rb_protocol.specs.declared.streams.limited_writer.LimitedWriter.{LimitedWriter}
 use Rattle.rb_protocol.specs.declared.streams.writing.WriteFault.{WriteFault}
 use Rattle.std.specs.Io.KnownBytes.{Appends, Consumes, IsAtEnd, append_known}
@@ -12,7 +11,7 @@ use Rattle.rb_session.specs.Closing.{Closes}
 use Rattle.rb_session.specs.Exchange.{Exchanges}
 use Rattle.rb_session.specs.Growth.{KeepsFront}
 use Rattle.rb_session.specs.Ran.{RanUntil}
-use Rattle.rb_session.specs.Reasons.{IsReason, IsWriteReason}
+use Rattle.rb_session.specs.Reasons.{IsReason}
 use Rattle.rb_session.specs.Rules.{SessionRules, session_rules, HadGotBehind, most_held_back}
 use Rattle.rb_session.specs.Turn.{Point, point}
 use Rattle.rb_session.specs.Progress.{Stops, end_of}
@@ -89,15 +88,6 @@ stops_by desk contents Over from to came sent stop one other same got got' same_
     (point from held) came sent stop to) same_got
     (subst (λ (d : Delivery). Stops (session_rules desk d (HadGotBehind contents got)) Over (point from held) came sent
     stop to) same stops))
-
--- why the lines stopped tells why a session could not write
-write_reason : {W : Type 0} (old new : LimitedWriter W) (stopped : Result Stop WriteFault) (lost : ℕ)
-    → TellsOf stopped old new → IsWriteReason old new (end_of stopped lost)
-write_reason old new (Ok stops.Quit) lost told = told
-write_reason old new (Ok stops.EndOfInput) lost told = told
-write_reason old new (Ok stops.Read) lost told = told
-write_reason old new (Ok stops.ReadTurns) lost told = told
-write_reason old new (Err fault) lost told = told
 
 -- the session from the caller's reader to the caller's writer
 whole : (g : Over) (c : After-end_of g)
