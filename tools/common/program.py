@@ -49,12 +49,12 @@ def add_program_option(parser: argparse.ArgumentParser, use: str = "the program 
     parser.add_argument("--program", metavar="PATH", type=program_named, help=f"{use} (default: that of ./broker)")
 
 
-def test_with(given: str | None) -> str:
+def let_tests_run(given: str | None) -> str:
     """Lets tests run the given program, or this checkout's, which is built if it has to be. Returns its path."""
     os.environ[TESTED] = built_program(given)
     return os.environ[TESTED]
 
 
 def tested_program() -> str:
-    """The program that tests run: what `test_with` chose, also in a process that began this one, or this checkout's."""
+    """The program that tests run: what `let_tests_run` chose, also in a process that began this one, or this checkout's."""
     return os.environ.get(TESTED) or PROGRAM

@@ -11,13 +11,12 @@ import re
 import shlex
 import shutil
 import subprocess
-import sys
 import tempfile
 import textwrap
 from pathlib import Path
 from typing import Any
 
-from checking.suites import tests_below, try_tests
+from checking.parts import python_with_pytest
 from checking.tally import Tally
 from common.program import TOP, tested_program
 from serving.server import Server
@@ -105,10 +104,10 @@ def run_tests(kind: str, path: str, tally: Tally) -> None:
 
 def run_day(path: str, tally: Tally) -> None:
     """Runs the hostile day of the Python package with clients of this one."""
-    sys.path[:0] = [f"{PYTHON}/{it}" for it in ("src", "tests/served", "tests/day")]
-    os.environ["RB_BROKER_CLASSES"] = path
-    os.environ.setdefault("RB_BROKER_JOBS", JOBS)
-    try_tests(tally, tests_below(str(DAY), str(DAY)))
+    modules = os.pathsep.join(f"{PYTHON}/{it}" for it in ("src", "tests/served", "tests/day"))
+    settings = {"RB_BROKER_CLASSES": path, "RB_BROKER_JOBS": os.environ.get("RB_BROKER_JOBS", JOBS)}
+    expect(tally, "day", python_with_pytest(), "-B", "-m", "pytest", str(DAY), says=".*", cwd=TOP,
+           env={**os.environ, **settings, "PYTHONPATH": modules})
 
 
 def follow_page(room: str, tally: Tally) -> None:

@@ -5,16 +5,16 @@ import subprocess
 import sys
 import tomllib
 from dataclasses import dataclass
+from importlib.util import find_spec
 from pathlib import Path
-from typing import Sequence
+from typing import Iterable, Sequence
 
-from checking.suites import add, tests_below, try_apart, try_pytest, try_side_by_side, try_tests
 from checking.tally import Tally
-from common.program import TOP, tested_program
-from side_by_side import side_by_side
+from common.program import TOP
 
-CLIENT, KINDS = f"{TOP}/clients/python", ["unit", "served", "day"]
 PROCESSORS = os.cpu_count() or 1
+DEBIANS_PYTHON = "/usr/bin/python3"  # which has pytest and the other packages, whichever is first on the path
+PATIENCE = 3_000  # seconds that a test may take, unless only some are tried
 
 
 @dataclass(frozen=True)
@@ -22,58 +22,46 @@ class Part:
     """A part, as parts.toml has it."""
 
     tries: str
-    steps: Sequence[str]
+    tests: Sequence[str] = ()
+    check: str = ""
     needs: Sequence[str] = ()
     packages: str = ""
+    at_once: int = 1
     runs_program: bool = True
     is_long: bool = False
     is_alone: bool = False
     may_skip: Sequence[str] = ()
 
-    def run(self, tally: Tally) -> None:
-        """Takes one step after the other."""
-        for step in self.steps:
-            match [it.format(processors=PROCESSORS, program=tested_program()) for it in step.split()]:
-                case ["tests", *folders]:
-                    for folder in (f"{TOP}/{it}" for it in folders):
-                        libraries = f"{TOP}/dev/lib" if folder.startswith(f"{TOP}/dev/") else os.path.dirname(folder)
-                        try_tests(tally, tests_below(f"{folder}/tests", libraries, tally.only))
-                case ["side-by-side", folder, pattern]:
-                    folder = f"{TOP}/{folder}"
-                    suite = tests_below(f"{folder}/tests", os.path.dirname(folder), tally.only, pattern)
-                    try_side_by_side(tally, suite, PROCESSORS)
-                case ["pytest", folder]:
-                    try_pytest(tally, f"{TOP}/{folder}")
-                case ["check", module]:
-                    importlib.import_module(module).check(tally)
-                case ["client"]:
-                    try_client(tally)
-                case words:
-                    try_command(tally, words)
-
-
-def try_command(tally: Tally, words: Sequence[str]) -> None:
-    """Runs a command, which must end with status 0."""
-    if tally.wants(words[0]):
+    def run(self, only: Sequence[str], is_strict: bool) -> bool:
+        """Tries what has one of these words in its name, or all, and returns whether all passed. If this is strict, no
+        test may be skipped but for a reason that the part allows."""
+        if self.check:
+            tally = Tally(only, [*self.may_skip] if is_strict else None)
+            importlib.import_module(self.check).check(tally)
+            return tally.end()
         sys.stdout.flush()
-        status = subprocess.run(words, cwd=TOP, check=False).returncode
-        tally.count(words[0], f"status {status}" if status else None)
+        return subprocess.run(self.command(only, is_strict), cwd=TOP, check=False).returncode == 0
+
+    def command(self, only: Sequence[str] = (), is_strict: bool = False) -> list[str]:
+        """The command of pytest that tries it."""
+        words = [python_with_pytest(), "-B", "-m", "pytest", *self.tests]
+        at_once = int(os.environ.get("RB_BROKER_AT_ONCE") or self.at_once or PROCESSORS)
+        if self.at_once != 1 and at_once > 1:
+            words += ["-n", str(at_once), "--dist", "loadscope"]
+        words += ["-k", " or ".join(only), "--timeout", "0"] if only else ["--timeout", str(PATIENCE)]
+        return words + ["--may-skip", "|".join(self.may_skip)] if is_strict else words
 
 
-def try_client(tally: Tally) -> None:
-    """The tests of the Python package, those of its folders side by side unless only some are wanted. The modules
-    import each other, and those of `served`, by their names alone."""
-    if not tally.only:
-        for kind, (_, said, _) in side_by_side(lambda it: try_apart(tally.part, [it]), KINDS, len(KINDS)):
-            add(tally, kind, said)
-        return
-    sys.path[:0] = [f"{CLIENT}/src", *(f"{CLIENT}/tests/{it}" for it in KINDS)]
-    os.environ.update({"PYTHONPATH": f"{CLIENT}/src", "PYTHONDONTWRITEBYTECODE": "1"})  # for workers as processes
-    only = [it for it in tally.only if it not in KINDS]
-    for kind in [it for it in KINDS if it in tally.only] or KINDS:
-        folder = f"{CLIENT}/tests/{kind}"
-        try_tests(tally, tests_below(folder, folder, only))
+def python_with_pytest() -> str:
+    """This Python, or Debian's if only that has pytest."""
+    return sys.executable if find_spec("pytest") or not os.access(DEBIANS_PYTHON, os.X_OK) else DEBIANS_PYTHON
 
 
 with Path(__file__).with_suffix(".toml").open("rb") as file:
-    PARTS = {name: Part(**told) for name, told in tomllib.load(file).items()}
+    TABLE = tomllib.load(file)
+PARTS = {name: Part(**told) for name, told in TABLE["part"].items()}
+
+
+def packages_of(names: Iterable[str]) -> list[str]:
+    """Debian's packages for all of these parts."""
+    return sorted({it for told in (TABLE["packages"], *(PARTS[name].packages for name in names)) for it in told.split()})

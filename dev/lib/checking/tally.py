@@ -1,14 +1,15 @@
-"""What passed, failed and was skipped."""
+"""What passed, failed and was skipped of a part that counts by itself."""
+import re
 import threading
 from typing import Sequence
 
 
 class Tally:
     """Counts what passes of a part, and prints what does not. If `only` has words, only what has one in its name is
-    tried."""
+    tried. What is skipped fails if there are patterns of allowed reasons, and none of them fits."""
 
-    def __init__(self, only: Sequence[str] = (), part: str = "") -> None:
-        self.only, self.part = only, part
+    def __init__(self, only: Sequence[str] = (), allowed: Sequence[str] | None = None) -> None:
+        self.only, self.allowed = only, allowed
         self.passed = self.failed = self.skipped = 0
         self._lock = threading.Lock()
 
@@ -24,7 +25,8 @@ class Tally:
 
     def skip(self, name: str, reason: str) -> None:
         """Counts what can't be tried here, and says so."""
-        self.add(skipped=1)
+        is_allowed = self.allowed is None or any(re.fullmatch(it, reason) for it in self.allowed)
+        self.add(failed=not is_allowed, skipped=is_allowed)
         print(f"{name}: skipped: {reason}", flush=True)
 
     def add(self, passed: int = 0, failed: int = 0, skipped: int = 0) -> None:

@@ -47,9 +47,9 @@ def run_tool(name: str, *words: object, given: str = "") -> subprocess.Completed
 
 
 @functools.lru_cache(None)
-def module_of(name: str) -> ModuleType:
-    """A tool as a module."""
-    loader = SourceFileLoader(f"{name}_command", f"{TOP}/tools/{name}")
+def module_of(name: str, folder: str = "tools") -> ModuleType:
+    """A tool, or another command, as a module."""
+    loader = SourceFileLoader(f"{name}_command", f"{TOP}/{folder}/{name}")
     module = ModuleType(loader.name)
     sys.modules[loader.name] = module  # where dataclasses look for it
     loader.exec_module(module)

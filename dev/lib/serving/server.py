@@ -49,7 +49,7 @@ def free_port() -> int:
 class Server:
     """A server at a port that is chosen here, unless one is given, until its end, or that of a `with`."""
 
-    patience = PATIENCE  # seconds in which it has to end
+    patience = 2 * PATIENCE  # seconds in which it has to end
 
     def __init__(
         self, options: Sequence[object] = (), program: str | None = None, port: int | None = None, **how: Any

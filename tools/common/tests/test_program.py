@@ -6,7 +6,7 @@ import sys
 from unittest import mock
 
 from checking.testing import RoomTest
-from common.program import PROGRAM, TESTED, TOP, built_program, program_named, test_with, tested_program
+from common.program import PROGRAM, TESTED, TOP, built_program, program_named, let_tests_run, tested_program
 
 
 class ProgramTest(RoomTest):
@@ -41,7 +41,7 @@ class ProgramTest(RoomTest):
         with mock.patch.dict(os.environ):
             os.environ.pop(TESTED, None)
             self.assertEqual(tested_program(), PROGRAM)
-            self.assertEqual(test_with("/bin/other"), "/bin/other")
+            self.assertEqual(let_tests_run("/bin/other"), "/bin/other")
             self.assertEqual(tested_program(), "/bin/other")
             code = "from common.program import tested_program; print(tested_program())"
             told = subprocess.run([sys.executable, "-B", "-c", code], cwd=f"{TOP}/tools", stdout=subprocess.PIPE,

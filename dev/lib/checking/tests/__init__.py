@@ -1,1 +1,1 @@
-"""The tests of dev/check itself: what is counted, how parts run, and what is left."""
+"""The tests of dev/check, dev/test and dev/setup themselves."""

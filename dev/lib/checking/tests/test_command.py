@@ -1,42 +1,99 @@
-"""dev/check as a command: one part or several, and its refusals."""
+"""dev/check as a command: one part or several, its refusals, skipped tests, and what a signal leaves."""
 import os
+import re
+import signal
 import subprocess
 import sys
+import time
+from pathlib import Path
 
-from checking.testing import PATIENCE, RoomTest
+import pytest
+
+from checking.tally import Tally
+from checking.testing import PATIENCE
 from common.program import TOP
 
 CHECK = [sys.executable, "-B", f"{TOP}/dev/check"]
 
 
-class Command(RoomTest):
-    def ran(self, *words: str, **settings: str) -> subprocess.CompletedProcess[str]:
-        environment: dict[str, str] = {**os.environ, "TMPDIR": self.room, **settings}
-        return subprocess.run([*CHECK, *words], capture_output=True, text=True, timeout=PATIENCE, env=environment)
+def check(room: Path, *words: str, **settings: str) -> subprocess.CompletedProcess[str]:
+    environment = {**os.environ, "TMPDIR": str(room), **settings}
+    return subprocess.run([*CHECK, *words], capture_output=True, text=True, timeout=PATIENCE, env=environment, check=False)
 
-    def test_one_part(self) -> None:
-        ran = self.ran("docs", "--only", "picture")
-        self.assertEqual((ran.returncode, ran.stderr), (0, ""), ran.stdout)
-        self.assertRegex(ran.stdout, r"\Apicture: \d+ right, 0 wrong\n\d+ passed, 0 failed\n\Z")
-        self.assertEqual(os.listdir(self.room), [])
 
-    def test_several_parts_of_which_one_fails(self) -> None:
-        ran = self.ran("docs", "tools", "--only", "picture")
-        self.assertEqual((ran.returncode, ran.stderr), (1, ""), ran.stdout)
-        self.assertRegex(ran.stdout, r"(?m)^docs: passed, \d+ s: \d+ passed, 0 failed$")
-        self.assertRegex(ran.stdout, r"(?m)^tools: FAILED with status 1, \d+ s: 0 passed, 0 failed$")
-        self.assertEqual(ran.stdout.splitlines()[-1], "1 parts passed, 1 failed")
+def test_one_part(tmp_path: Path) -> None:
+    ran = check(tmp_path, "tools", "--only", "columns")
+    assert (ran.returncode, ran.stderr) == (0, ""), ran.stdout
+    assert re.search(r"^\d+ passed.* in \S+s\n\Z", ran.stdout, re.M) and os.listdir(tmp_path) == []
 
-    def test_words_that_are_refused(self) -> None:
-        for words, said in (
-            (["docs", "no-such-part"], "no part is named no-such-part"),
-            (["program", "--program", f"{self.room}/none"], "none is no command\n"),
-        ):
-            ran = self.ran(*words)
-            self.assertEqual((ran.returncode, ran.stdout), (2, ""))
-            self.assertIn(said, ran.stderr)
 
-    def test_a_command_that_is_missing(self) -> None:
-        ran = self.ran("worker", "--program", sys.executable, PATH=self.room)
-        said = "check: there is no perl on the path, which worker needs\n"
-        self.assertEqual((ran.returncode, ran.stdout, ran.stderr), (2, "", said))
+def test_several_parts_of_which_one_fails(tmp_path: Path) -> None:
+    ran = check(tmp_path, "docs", "tools", "--only", "way")
+    assert (ran.returncode, ran.stderr) == (1, ""), ran.stdout
+    assert re.search(r"^docs: passed, \d+ s: \d+ passed", ran.stdout, re.M)
+    assert re.search(r"^tools: FAILED with status 1, \d+ s: \d+ deselected", ran.stdout, re.M)
+    assert ran.stdout.splitlines()[-1] == "1 parts passed, 1 failed"
+
+
+@pytest.mark.parametrize(("words", "said"), [
+    (["docs", "no-such-part"], "no part is named no-such-part"),
+    (["program", "--program", "/nowhere/none"], "/nowhere/none is no command\n"),
+])
+def test_words_that_are_refused(tmp_path: Path, words: list[str], said: str) -> None:
+    ran = check(tmp_path, *words)
+    assert (ran.returncode, ran.stdout) == (2, "") and said in ran.stderr
+
+
+def test_a_command_that_is_missing(tmp_path: Path) -> None:
+    ran = check(tmp_path, "worker", "--program", sys.executable, PATH=str(tmp_path))
+    said = "check: there is no perl on the path, which worker needs\n"
+    assert (ran.returncode, ran.stdout, ran.stderr) == (2, "", said)
+
+
+@pytest.mark.parametrize(("allowed", "status"), [([], 0), (["--may-skip", ""], 1), (["--may-skip", "no .*|x"], 0)])
+def test_a_test_that_is_skipped(tmp_path: Path, allowed: list[str], status: int) -> None:
+    file = tmp_path / "test_moon.py"
+    file.write_text("import pytest\ndef test_moon(): pytest.skip('no moon')\ndef test_sun(): pass\n")
+    words = [sys.executable, "-B", "-m", "pytest", "-c", f"{TOP}/pytest.ini", "-p", "conftest", *allowed, file]
+    ran = subprocess.run(words, cwd=TOP, env={**os.environ, "PYTHONPATH": TOP}, capture_output=True, text=True, check=False)
+    assert (ran.returncode, "no moon" in ran.stdout) == (status, True), ran.stdout
+
+
+def processes_in(room: Path) -> list[str]:
+    """The processes whose folder for temporary files is below this one."""
+    found = []
+    for process in Path("/proc").glob("[0-9]*"):
+        try:
+            found += [process.name] if f"TMPDIR={room}/".encode() in (process / "environ").read_bytes() else []
+        except OSError:
+            continue  # it has ended, or is another user's
+    return found
+
+
+@pytest.mark.parametrize("parts", [["verify"], ["docs", "tools"]])
+def test_a_signal_leaves_neither_a_process_nor_a_file(tmp_path: Path, parts: list[str]) -> None:
+    environment = {**os.environ, "TMPDIR": str(tmp_path), "RB_BROKER_AT_ONCE": "2"}
+    with subprocess.Popen([*CHECK, *parts, "--program", sys.executable], stdout=subprocess.PIPE, stderr=subprocess.PIPE,
+                          text=True, env=environment) as process:
+        until = time.monotonic() + PATIENCE
+        while len(processes_in(tmp_path)) < 2 and time.monotonic() < until:
+            time.sleep(0.05)
+        process.send_signal(signal.SIGTERM)
+        _, said = process.communicate(timeout=PATIENCE)
+    assert (process.returncode, said.splitlines()[-1]) == (128 + 15, "check: it was broken off")
+    assert processes_in(tmp_path) == [] and os.listdir(tmp_path) == []
+
+
+def test_a_tally(capsys: pytest.CaptureFixture[str]) -> None:
+    some = Tally(["day", "unit"], ["no moon"])
+    assert [some.wants(it) for it in ("hostile_day", "units", "queues")] == [True, True, False]
+    some.count("a", None)
+    some.skip("b", "no moon")
+    assert some.end()
+    some.count("c", "it is late")
+    some.skip("d", "no sun")
+    assert not some.end()
+    assert capsys.readouterr().out.splitlines() == [
+        "b: skipped: no moon", "1 passed, 0 failed, 1 skipped", "c: it is late", "d: skipped: no sun",
+        "1 passed, 2 failed, 1 skipped",
+    ]
