@@ -1,1 +1,0 @@
-"""The test of dev/check program, with a program that is wrong on purpose."""
