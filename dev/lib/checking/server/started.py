@@ -1,4 +1,4 @@
-"""Servers with the words that attend them, and what is compared of them."""
+"""Servers with the words that attend them, and what tests compare of them."""
 import contextlib
 import socket
 import subprocess
@@ -8,8 +8,6 @@ from typing import Any, Callable, Iterator
 from serving import HOST
 from serving.server import Server
 from serving.session import Session
-
-Faults = Iterator[tuple[str, str | None]]  # what was compared, each with what is wrong with it, if anything is
 
 SECOND, MILLISECOND = 10**9, 10**6  # in nanoseconds, as the server counts
 MANY = "--sessions 1000 --calls 100000 --workers 16"
@@ -66,11 +64,6 @@ def without_moments(told: list[str]) -> list[str]:
 def attempts(told: list[str]) -> list[str]:
     """The attempts in which jobs were given."""
     return [it.split(" ")[3] for it in told if it.startswith("ITEM ")]
-
-
-def differ(told: object, wanted: object) -> str | None:
-    """What was told, if it is not what was wanted."""
-    return None if told == wanted else f"{told}, not {wanted}"
 
 
 def seconds_of(does: Callable[[], object]) -> float:

@@ -10,13 +10,14 @@ import subprocess
 import threading
 import time
 from pathlib import Path
+from typing import Any, Callable
+
+import pytest
 
 from checking.server.started import (
     MANY,
     SECOND,
-    Faults,
     attended,
-    differ,
     drain,
     end_input,
     handed,
@@ -26,6 +27,7 @@ from checking.server.started import (
 )
 from common.program import tested_program
 from serving import HOST, PATIENCE
+from serving.server import Server
 from serving.session import Session
 
 NOBODY = "history 3\nopen 0 0 0\nend 0\n"  # the history of a run in which nobody called
@@ -37,7 +39,7 @@ def is_legal(history: Path, *words: str) -> bool:
     return subprocess.run(replay, capture_output=True, check=False).returncode == 0
 
 
-def listener_that_is_handed_on(_: Path) -> Faults:
+def test_a_listener_that_is_handed_on() -> None:
     """Servers that are handed one listener, one after the other, serve all who connect, before and between them too."""
     with listener() as it, Session(it.getsockname()[1]) as first, Session(it.getsockname()[1]) as second:
         second.send("SIZE")
@@ -45,12 +47,12 @@ def listener_that_is_handed_on(_: Path) -> Faults:
             told = [first.ask("SIZE"), first.ask("QUIT"), server.end().status]
         with handed(it, "--sessions 1") as server:
             told += [second.reply()[0], second.ask("QUIT"), server.end().status]
-    yield "a listener that is handed on", differ(told, ["SIZE 0", "BYE", 0] * 2)
+    assert told == ["SIZE 0", "BYE", 0] * 2
 
 
-def what_is_no_listener(room: Path) -> Faults:
+def test_what_is_no_listener(tmp_path: Path) -> None:
     """What is no listener at the server's address is refused, and the history before is kept."""
-    history = room / "kept"
+    history = tmp_path / "kept"
     history.write_text("as it was")
     with contextlib.ExitStack() as stack:
         enter = stack.enter_context
@@ -73,13 +75,13 @@ def what_is_no_listener(room: Path) -> Faults:
             passed = [number] if number < 1000 else []
             ran = subprocess.run([tested_program(), "serve", *words], pass_fds=passed, capture_output=True, check=False)
             told = (ran.returncode, ran.stdout, ran.stderr, history.read_text())
-            yield f"{name} as a listener", differ(told, (3, b"", b"rb_broker: cannot listen\n", "as it was"))
+            assert told == (3, b"", b"rb_broker: cannot listen\n", "as it was"), f"{name} as a listener"
 
 
-def draining(room: Path) -> Faults:
+def test_draining(tmp_path: Path) -> None:
     """Something comes on the input: nobody else is let in, and a session ends once it holds no job."""
     with listener() as it:
-        port, history = it.getsockname()[1], room / "drained"
+        port, history = it.getsockname()[1], tmp_path / "drained"
         words = f"--until-input-ends {MANY} --history {history}"
         with handed(it, words, stdin=subprocess.PIPE) as server, contextlib.ExitStack() as stack:
             idle, other, holder, waits = (stack.enter_context(Session(port)) for _ in range(4))
@@ -92,29 +94,29 @@ def draining(room: Path) -> Faults:
             time.sleep(0.1)
             drain(server)
             told = [idle.rest(), other.rest(), waits.line()]
-            yield "sessions without jobs, and a wait", differ(told, [b"", b"", "STOPPED"])
+            assert told == [b"", b"", "STOPPED"]
             time.sleep(0.5)  # until no worker waits for a client any longer
             late = Session(port)
             late.send("SIZE")
             told = [holder.ask("OFFER 0 third"), holder.ask("TAKE"), holder.ask("SIZE"), holder.ask("POLL")]
             wanted = ["OFFERED 2", "STOPPED", "SIZE 1", "ITEM 2"]
-            yield "a session with jobs", differ(without_moments(told), wanted)
+            assert without_moments(told) == wanted
             told = [waits.ask("FAIL 1"), waits.rest().decode()]
-            yield "a session whose job failed", differ(without_moments(told), ["AGAIN 3", ""])
+            assert without_moments(told) == ["AGAIN 3", ""]
             drain(server)  # which changes nothing
             time.sleep(0.1)
             told = [server.process.poll(), holder.ask("DONE 0"), holder.ask("SIZE"), holder.ask("DONE 2")]
             told += [holder.rest(), server.process.wait(PATIENCE)]
-            yield "the last session", differ(told, [None, "DONE 0", "SIZE 1", "DONE 2", b"", 0])
-            yield "a server that has drained", differ(status_and_counts(server), (0, "sessions 4 faults 0 lost 0", ""))
+            assert told == [None, "DONE 0", "SIZE 1", "DONE 2", b"", 0]
+            assert status_and_counts(server) == (0, "sessions 4 faults 0 lost 0", "")
         with handed(it, f"--sessions 1 --from {history}") as server, late:
             told = [late.reply()[0], late.ask("QUIT"), server.end().status]
-            yield "who was not let in", differ(told, ["SIZE 1", "BYE", 0])
+            assert told == ["SIZE 1", "BYE", 0]
 
 
-def ending(room: Path) -> Faults:
+def test_ending(tmp_path: Path) -> None:
     """The input ends: what was sent is answered, jobs come back, and who reads nothing is left after a second."""
-    history = room / "ended"
+    history = tmp_path / "ended"
     with attended(f"--delay {SECOND} --history {history}") as server, contextlib.ExitStack() as stack:
         holder, waits, deaf = (stack.enter_context(Session(server.port)) for _ in range(3))
         holder.ask("OFFER 0 job")
@@ -123,26 +125,27 @@ def ending(room: Path) -> Faults:
         deaf.fill()
         end_input(server)
         began = time.monotonic()
-        yield "what was sent", differ(waits.rest(), b"STOPPED\nREMOVED no\nSTOPPED\n")
-        yield "a session that holds a job", differ(holder.rest(), b"")
+        assert waits.rest() == b"STOPPED\nREMOVED no\nSTOPPED\n"
+        assert holder.rest() == b""
         server.process.wait(PATIENCE)
         lasted = time.monotonic() - began
-        yield "who reads nothing", None if lasted > 0.9 else f"it was left after {lasted}"
+        assert lasted > 0.9, f"it was left after {lasted}"
         end = server.end()
-        yield "a server whose input has ended", differ((end.status, end.lines[0]), (0, "sessions 3 faults 1 lost 0"))
+        assert (end.status, end.lines[0]) == (0, "sessions 3 faults 1 lost 0")
         told = ('"offered":2,' in end.lines[1], '"left":1,' in end.lines[1], is_legal(history, "--delay", str(SECOND)))
-        yield "its history", differ(told, (True, True, True))
+        assert told == (True, True, True)
 
 
-def input_of_each_kind(room: Path) -> Faults:
-    """Input that ends before anybody comes ends the run, and input that does not wait is no end."""
-    closed = {"stdin": None, "preexec_fn": lambda: os.close(0)}
-    for name, how in {"no input": {"stdin": subprocess.DEVNULL}, "closed input": closed}.items():
-        history = room / "nobody"
-        with attended(f"--history {history}", **how) as server:
-            server.process.wait(PATIENCE)
-            told = (*status_and_counts(server), history.read_text())
-            yield name, differ(told, (0, "sessions 0 faults 0 lost 0", "", NOBODY))
+@pytest.mark.parametrize("how", [{"stdin": subprocess.DEVNULL}, {"stdin": None, "preexec_fn": lambda: os.close(0)}])
+def test_input_that_ends_before_anybody_comes(how: dict[str, Any], tmp_path: Path) -> None:
+    history = tmp_path / "nobody"
+    with attended(f"--history {history}", **how) as server:
+        server.process.wait(PATIENCE)
+        told = (*status_and_counts(server), history.read_text())
+        assert told == (0, "sessions 0 faults 0 lost 0", "", NOBODY)
+
+
+def test_input_that_does_not_wait_is_no_end() -> None:
     read, write = os.pipe()
     os.set_blocking(read, False)
     with attended(stdin=read) as server, Session(server.port) as client:
@@ -151,25 +154,24 @@ def input_of_each_kind(room: Path) -> Faults:
         told = [client.ask("SIZE")]
         os.close(write)
         told += [client.rest(), server.process.wait(PATIENCE)]
-        yield "input that does not wait", differ(told, ["SIZE 0", b"", 0])
+        assert told == ["SIZE 0", b"", 0]
 
 
-def killed_attendants(room: Path) -> Faults:
-    """An attendant that is killed ends the run in good order, whatever its clients do."""
-    clients = {"says nothing": "SIZE", "holds a job": "TAKE", "has a job done": "TAKE, DONE 0"}
-    for name, requests in clients.items():
-        read, write = os.pipe()
-        attendant = subprocess.Popen(["sleep", "1000"], pass_fds=[write])
-        os.close(write)
-        history = room / "killed"
-        with attended(f"--history {history}", stdin=read) as server, Session(server.port) as client:
-            os.close(read)
-            for request in ("OFFER 0 job", *requests.split(", ")):
-                client.ask(request)
-            attendant.kill()
-            attendant.wait()
-            told = [client.rest(), server.process.wait(PATIENCE), is_legal(history)]
-            yield f"a killed attendant, and a client that {name}", differ(told, [b"", 0, True])
+@pytest.mark.parametrize("requests", [["SIZE"], ["TAKE"], ["TAKE", "DONE 0"]])
+def test_an_attendant_that_is_killed(requests: list[str], tmp_path: Path) -> None:
+    """It ends the run in good order, whether a client says nothing, holds a job, or has it done."""
+    read, write = os.pipe()
+    attendant = subprocess.Popen(["sleep", "1000"], pass_fds=[write])
+    os.close(write)
+    history = tmp_path / "killed"
+    with attended(f"--history {history}", stdin=read) as server, Session(server.port) as client:
+        os.close(read)
+        for request in ("OFFER 0 job", *requests):
+            client.ask(request)
+        attendant.kill()
+        attendant.wait()
+        told = [client.rest(), server.process.wait(PATIENCE), is_legal(history)]
+        assert told == [b"", 0, True]
 
 
 class Producer(threading.Thread):
@@ -199,32 +201,23 @@ class Producer(threading.Thread):
         return True
 
 
-def requests_without_replies(room: Path) -> Faults:
-    """A request that got no reply was not carried out: as many elements were offered as there are replies."""
-    for asks in (drain, end_input):
-        for piece in (1, 7, 500):
-            with attended(f"--history {room}/counted") as server:
-                producers = [Producer(server.port, piece) for _ in range(8)]
-                for it in producers:
-                    it.start()
-                time.sleep(0.2)
-                asks(server)
-                for it in producers:
-                    it.join()
-                server.process.wait(PATIENCE)
-                end = server.end()
-            replies, faults = sum(it.replies for it in producers), [it.fault for it in producers if it.fault]
-            told = (end.status, end.lines[0], f'"offered":{replies},' in end.lines[1], replies > 0, faults)
-            wanted = (0, "sessions 8 faults 0 lost 0", True, True, [])
-            yield f"{asks.__name__}, requests in pieces of {piece}", differ(told, wanted)
-
-
-CHECKS = (
-    listener_that_is_handed_on,
-    what_is_no_listener,
-    draining,
-    ending,
-    input_of_each_kind,
-    killed_attendants,
-    requests_without_replies,
-)
+@pytest.mark.parametrize("piece", [1, 7, 500])
+@pytest.mark.parametrize("asks", [drain, end_input])
+def test_a_request_without_a_reply_was_not_carried_out(
+    asks: Callable[[Server], None], piece: int, tmp_path: Path
+) -> None:
+    """As many elements were offered as there are replies, in whatever pieces requests are sent."""
+    with attended(f"--history {tmp_path}/counted") as server:
+        producers = [Producer(server.port, piece) for _ in range(8)]
+        for it in producers:
+            it.start()
+        time.sleep(0.2)
+        asks(server)
+        for it in producers:
+            it.join()
+        server.process.wait(PATIENCE)
+        end = server.end()
+    replies = sum(it.replies for it in producers)
+    assert not [it.fault for it in producers if it.fault]
+    assert (end.status, end.lines[0]) == (0, "sessions 8 faults 0 lost 0")
+    assert replies > 0 and f'"offered":{replies},' in end.lines[1]
