@@ -6,24 +6,7 @@
     uncited    each lemma and definition is named somewhere
     way        each call on the way of a request in docs/ARCHITECTURE.md is made by the one before, and they are counted
 """
-from pathlib import Path
-
 from checking.docs import clauses, links, quotes, uncited, way
-from checking.tally import Tally
-from common.program import TOP
-from defining.tree import Unknown
 
 # Each has a function `find`, which gives for all that it looks at below a folder what is wrong with it, or nothing.
-PARTS = {"links": links, "clauses": clauses, "quotes": quotes, "uncited": uncited, "way": way}
-
-
-def check(tally: Tally, folder: Path = Path(TOP)) -> None:
-    """Counts what each part finds in a folder, and prints how much that is."""
-    for name in filter(tally.wants, PARTS):
-        try:
-            found = [*PARTS[name].find(folder)] or [f"{name}: nothing was found"]
-        except (Unknown, OSError) as fault:
-            found = [f"{name}: {fault}"]
-        faults = [it for it in found if it]
-        tally.add(found.count(None), len(faults))
-        print("\n".join([*faults, f"{name}: {found.count(None)} right, {len(faults)} wrong"]))
+COMPARED = {"links": links, "clauses": clauses, "quotes": quotes, "uncited": uncited, "way": way}

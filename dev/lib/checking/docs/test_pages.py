@@ -1,0 +1,13 @@
+"""The pages of this repository, compared."""
+from pathlib import Path
+
+import pytest
+
+from checking.docs import COMPARED
+from common.program import TOP
+
+
+@pytest.mark.parametrize("part", COMPARED)
+def test_pages(part: str) -> None:
+    found = [*COMPARED[part].find(Path(TOP))]
+    assert found and not [it for it in found if it]
