@@ -1,10 +1,10 @@
-"""What dev/check is made of.
+"""What dev/check is made of, and what it tries that belongs to no other folder.
 
-    parts.py, parts.toml      how parts run, and the table of all
-    together.py, tally.py     several parts; what passed, failed and was skipped of one that counts by itself
-    marked.py                 tables of text
-    testing.py, trying.py     what tests share: a folder, tools; programs that `rt try` builds
-    docs/, program/, server/, rows.py, java.py   parts that count by themselves
+    parts.py, parts.toml, together.py   the table of all parts, and how they run, one or several
+    testing.py, trying.py, tally.py     what tests share: tools as commands; programs that `rt try` builds; counts
+    docs/, pages/                       the pages, against each other and the sources, and by what they describe
+    program/, server/                   the program, as a command and as a server
+    rows/, java.py                      rb_cases' tables; the package for Java
 
-The tests are below tests/; `dev/check dev` runs them.
+The tests of dev/check itself are below tests/; `dev/check dev` runs them.
 """

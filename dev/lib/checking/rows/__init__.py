@@ -1,0 +1,36 @@
+"""rb_cases, its program and its tables of rows."""
+import os
+import shutil
+import sys
+from pathlib import Path
+
+from checking.trying import built
+from common.program import TOP
+
+CRATE = Path(TOP, "crates/rb_cases")
+PROVED, UNPROVED = CRATE / "out/rb_cases", CRATE / "out/unproved"
+
+
+def rb_cases(room: str) -> Path:
+    """The program that the gate left, or an earlier call of this. If there is none, or a source is newer, `rt try` makes
+    one without proofs, which takes some minutes."""
+    newest = max(it.stat().st_mtime for it in (CRATE / "src").rglob("*.rt"))
+    for path in (PROVED, UNPROVED):
+        if os.access(path, os.X_OK) and path.stat().st_mtime > newest:
+            return path
+    print("cases: making rb_cases without proofs", file=sys.stderr)
+    UNPROVED.parent.mkdir(exist_ok=True)
+    shutil.move(built(str(CRATE), room), UNPROVED)
+    os.utime(UNPROVED)
+    return UNPROVED
+
+
+def tables_of(path: Path) -> list[list[str]]:
+    """The lines of each table of a file, without comments."""
+    tables: list[list[str]] = []
+    for line in path.read_text("utf-8").splitlines():
+        if line.startswith("table "):
+            tables.append([])
+        if line.strip() and not line.startswith("#"):
+            tables[-1].append(line)
+    return tables

@@ -1,0 +1,62 @@
+"""rb_cases finds what is wrong in tables of rows.
+
+Each row of each table is given another answer, one at a time, and the program must then name that row: what it was
+given in place of which answer. Malformed tables must each be an error, with the line and the reason.
+"""
+import re
+import subprocess
+from pathlib import Path
+from typing import Callable
+
+import pytest
+
+from checking.rows import CRATE, rb_cases, tables_of
+
+OTHER = " @"  # what is put behind an answer, which no answer ends with
+PATIENCE = 600  # seconds that a run may take
+# Malformed tables, each with the line and the reason by which it has to be refused.
+_, *PIECES = re.split(r"^== (.*)\n", Path(__file__).with_name("malformed.txt").read_text("utf-8"), flags=re.M)
+
+Reads = Callable[[str], subprocess.CompletedProcess[str]]
+
+
+@pytest.fixture(scope="module")
+def reads(tmp_path_factory: pytest.TempPathFactory) -> Reads:
+    """Runs the program on a file of this text."""
+    room = tmp_path_factory.mktemp("rows")
+    program = rb_cases(str(room))
+
+    def read(text: str) -> subprocess.CompletedProcess[str]:
+        (room / "tried.rows").write_text(text, "utf-8")
+        how = {"cwd": room, "capture_output": True, "encoding": "utf-8", "timeout": PATIENCE, "check": False}
+        return subprocess.run([program, "tried.rows"], **how)
+
+    return read
+
+
+def with_other_answer(row: str) -> str:
+    command, _, answers = row.rpartition(" = ")
+    return f"{command} = {' or '.join(answer + OTHER for answer in answers.split(' or '))}"
+
+
+@pytest.mark.parametrize("path", sorted(CRATE.glob("data/*.rows")), ids=lambda path: path.name)
+def test_each_row_with_another_answer_is_named(reads: Reads, path: Path) -> None:
+    tried: list[str] = []
+    wanted: list[str] = []
+    for table in tables_of(path):
+        name = re.escape(table[0].split(" ", 2)[2])
+        for at, line in enumerate(table):
+            if " = " in line:
+                over, place = r"(kept, |shared, )?(over \w+, )?", len(tried) + at + 1
+                wanted.append(rf"tried\.rows: {name}, wrong at {at}: {over}line {place}: .* in place of .*")
+                tried += [f"{table[0]}, wrong at {at}", *table[1:at], with_other_answer(line), *table[at + 1:]]
+    ran = reads("".join(f"{line}\n" for line in tried))
+    *told, _counts = ran.stdout.splitlines()
+    assert (ran.returncode, ran.stderr, len(told)) == (1, "", len(wanted))
+    assert not [line for line, pattern in zip(told, wanted) if not re.fullmatch(pattern, line)]
+
+
+@pytest.mark.parametrize(("told", "text"), zip(PIECES[::2], PIECES[1::2]))
+def test_a_malformed_table(reads: Reads, told: str, text: str) -> None:
+    ran = reads(text)
+    assert (ran.returncode, ran.stderr) == (2, f"tried.rows:{told}\n"), ran.stdout
