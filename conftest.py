@@ -28,7 +28,8 @@ def pytest_addoption(parser: pytest.Parser) -> None:
 
 
 def pytest_sessionfinish(session: pytest.Session) -> None:
-    allowed, reporter = session.config.getoption("--may-skip"), session.config.pluginmanager.getplugin("terminalreporter")
+    allowed = session.config.getoption("--may-skip")
+    reporter = session.config.pluginmanager.getplugin("terminalreporter")
     if allowed is not None and reporter:
         reasons = [it.longrepr[2].removeprefix("Skipped: ") for it in reporter.stats.get("skipped", [])]
         if not all(re.fullmatch(allowed, it) for it in reasons):

@@ -64,4 +64,5 @@ PARTS = {name: Part(**told) for name, told in TABLE["part"].items()}
 
 def packages_of(names: Iterable[str]) -> list[str]:
     """Debian's packages for all of these parts."""
-    return sorted({it for told in (TABLE["packages"], *(PARTS[name].packages for name in names)) for it in told.split()})
+    told = [TABLE["packages"], *(PARTS[name].packages for name in names)]
+    return sorted({package for packages in told for package in packages.split()})

@@ -7,21 +7,12 @@ from typing import Callable
 
 import pytest
 
-HERE = Path(__file__).resolve()
-# Behind all others, since pytest needs another package of the name `packaging`.
-sys.path += [str(HERE.parents[2]), str(HERE.parents[4] / "tools")]
-
-from common.program import TOP, tested_program  # noqa: E402
+from common.program import TOP
 
 PATIENCE = 120  # seconds
 
 Ended = subprocess.CompletedProcess[str]
 Run = Callable[..., Ended]
-
-
-@pytest.fixture
-def program() -> str:
-    return tested_program()
 
 
 @pytest.fixture
@@ -31,7 +22,7 @@ def run(tmp_path: Path, program: str) -> Run:
 
     def ran(line: str, given: str = "") -> Ended:
         line = line.replace("./broker ", "rb_broker ").replace("tools/", f"{sys.executable} -B {TOP}/tools/")
-        words = ["sh", "-c", f'rb_broker() {{ "{program}" "$@"; }}\n{line}']
+        words = ["sh", "-c", f'program="{program}"; rb_broker() {{ "$program" "$@"; }}\n{line}']
         how = {"cwd": tmp_path, "input": given, "capture_output": True, "timeout": PATIENCE, "encoding": "utf-8"}
         return subprocess.run(words, check=False, **how)
 

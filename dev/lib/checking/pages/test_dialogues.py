@@ -1,6 +1,7 @@
 """Dialogues, commands and texts of the pages, run as they stand."""
 import re
 import socket
+import subprocess
 from pathlib import Path
 from typing import Iterator
 
@@ -127,11 +128,67 @@ def test_a_line_of_the_greatest_length_is_no_fault(run: Run) -> None:
 
 
 def test_the_examples_that_the_protocol_names(run: Run) -> None:
-    assert "`examples/refusals.txt` shows refusals 1 to 4 and 8, `examples/retries.txt` failures and a `DRAIN`." in page(PROTOCOL)
+    told = "`examples/refusals.txt` shows refusals 1 to 4 and 8, `examples/retries.txt` failures and a `DRAIN`."
+    assert told in page(PROTOCOL)
     refusals, retries = (run(f"./broker script < examples/{it}.txt").stdout for it in ("refusals", "retries"))
     assert {*re.findall(r"^ERR (\d)", refusals, re.M)} == {"1", "2", "3", "4", "8"}
     words = [it.split()[0] for it in retries.splitlines() if it.split()[0] != "NOW"]
     assert words == "OFFERED ITEM AGAIN ITEM AGAIN ITEM DONE OFFERED OFFERED DRAINED ITEM ITEM DONE AGAIN BYE".split()
+
+
+def test_another_program_that_speaks_the_protocol(run: Run, tmp_path: Path, program: str) -> None:
+    """The command of the page, with one file of cases."""
+    (tmp_path / "my_broker.py").write_text(f"import os, sys\nos.execv({program!r}, [{program!r}, *sys.argv[1:]])\n")
+    [command] = [line for line in blocks(page(PROTOCOL)) if line.startswith("tools/conform")]
+    ran = run(command.replace("tools/conform", "tools/conform --only refusals.case"))
+    assert ran.returncode == 0 and re.search(r"^[1-9]\d* passed, 0 failed, 0 skipped$", ran.stdout, re.M), ran
+
+
+def test_the_cases_of_a_file(run: Run, tmp_path: Path) -> None:
+    """The first command that EXTENDING names for a changed case."""
+    command = blocks(section("docs/EXTENDING.md", "A case or a row"))[0].splitlines()[0]
+    (tmp_path / "crates").symlink_to(f"{TOP}/crates")
+    ran = run(f"{command} $program")
+    assert ran.returncode == 0 and re.search(r"^[1-9]\d* passed, 0 failed", ran.stdout, re.M), ran
+
+
+@pytest.mark.parametrize("line", blocks(section("docs/TESTING.md", "Where a behaviour is tested"))[0].splitlines())
+def test_the_lists_of_tests(line: str) -> None:
+    ran = subprocess.run(["bash", "-c", line], cwd=TOP, capture_output=True, text=True, check=False)
+    assert (ran.returncode, ran.stderr) == (0, "") and ran.stdout
+
+
+# The blocks of these pages by how they begin, each with the test that runs it. Others are forms, not dialogues; some do
+# what costs hours, changes the machine, or takes a compiler.
+TRIED = {
+    "README.md": {
+        "$ printf": "test_the_first_screen", "./broker script": "test_the_first_look",
+        "tools/service": "test_five_minutes_as_a_service", "def deliver": "test_five_minutes_as_a_service",
+        "PYTHONPATH=": "test_five_minutes_as_a_service", "sudo apt": "dev/check package", "(cd crates": "rt",
+    },
+    PROTOCOL: {
+        "rb_broker script": "test_a_synopsis", "rb_broker serve": "test_a_synopsis",
+        "AT 100": "test_the_dialogue_of_the_protocol", "sessions 2": "test_the_end_of_a_run_with_two_clients",
+        "tools/conform": "test_another_program_that_speaks_the_protocol",
+        "requests  =": "test_a_case", "replies   =": "test_a_case", "id        =": "test_a_case",
+    },
+    HISTORY: {
+        "./broker script": "test_the_commands_of_histories", "tools/report": "test_the_commands_of_reports",
+        "tools/service": "test_a_run_judged_from_outside", '{"session"': "test_the_record_of_the_page",
+        "history 3": "test_a_history_of_the_page",
+    },
+    "docs/EXTENDING.md": {"tools/conform": "test_the_cases_of_a_file"},
+    "docs/TESTING.md": {"dev/test": "dev/test", "ls crates": "test_the_lists_of_tests", "file: ": "dev/attack"},
+}
+
+
+@pytest.mark.parametrize("name", TRIED)
+def test_each_block_is_tried(name: str) -> None:
+    begins, files = tuple(TRIED[name]), Path(__file__).parent.glob("test_*.py")
+    tests = {*re.findall(r"^def (test_\w+)", "\n".join(it.read_text("utf-8") for it in files), re.M)}
+    assert {it for it in TRIED[name].values() if it.startswith("test_")} <= tests
+    text = re.sub(r"^```.*?^```", "", page(name), flags=re.M | re.S)
+    assert not [it for it in blocks(text) if not it.startswith(begins)]
 
 
 def test_the_end_of_a_run_with_two_clients(program: str) -> None:

@@ -36,12 +36,24 @@ PLANTED = [
     (JAVA, "| `patience` | 30 s |", "| `patience` | 31 s |", "test_the_settings_in_java"),
     (PYTHON, "raises `NotOfferedError`", "raises `UnofferedError`", "test_each_name_of_a_client_is_there"),
     ("README.md", "ITEM 0 5 1 letter-17", "ITEM 0 6 1 letter-17", "test_the_first_screen"),
+    ("README.md", "`deliver letter-17 attempt 1`", "`deliver letter-17 attempt 2`", "test_five_minutes_as_a_service"),
+    ("README.md", "serves 127.0.0.1:7011", "serves 127.0.0.1:7012", "test_the_default_port_and_delay"),
+    (PROTOCOL, "%x31-39 *19DIGIT", "%x31-39 *9DIGIT", "test_a_case"),
+    (PROTOCOL, '%s"AGAIN" SP id SP expiry', '%s"AGAIN" SP id', "test_a_case"),
+    (PROTOCOL, "the second `SIZE` with `--calls 1`", "the second `SIZE` with `--calls 2`", "test_a_refusal"),
+    (PROTOCOL, "tools/conform python3 my_broker.py", "tools/conform my_broker.py",
+     "test_another_program_that_speaks_the_protocol"),
+    (HISTORY, '"reply": ["OFFERED 0 5000"]', '"reply": ["OFFERED 0 5001"]', "test_the_record_of_the_page"),
+    (HISTORY, "--chains --delay 1000", "--chains --delay 100", "test_the_commands_of_histories"),
+    (HISTORY, "load.jsonl            once", "load.json             once", "test_a_run_judged_from_outside"),
+    ("docs/TESTING.md", "grep -hE '^(case|table) '", "grep -hE '^(cases|tables) '", "test_the_lists_of_tests"),
     ("docs/TESTING.md", "(`dev/check server`, and", "(`dev/check servers`, and", "test_each_part_is_there"),
     ("docs/EXTENDING.md", "rb_cases/data/scripts.case", "rb_cases/data/script.case", "test_each_file_is_there"),
 ]
 LINKS = [
     (OPERATING, "(PROTOCOL.md#served-sessions)", "(PROTOCOL.md#served-session)"),
     ("README.md", "(docs/HEADLINE.md)", "(docs/HEADLINES.md)"),
+    ("README.md", "(docs/PROVED.md#the-guarantee)", "(docs/PROVED.md#a-guarantee)"),
     (REDIS, "(#several-queues-as-one)", "(#many-queues-as-one)"),
 ]
 
@@ -57,10 +69,11 @@ def plant(top: Path, name: str, old: str, new: str) -> None:
 
 
 @pytest.mark.skipif(TESTED in os.environ, reason="faults are planted in the pages of the checkout")
-@pytest.mark.parametrize(("name", "old", "new", "test"), PLANTED, ids=[it[2] for it in PLANTED])
+@pytest.mark.parametrize(("name", "old", "new", "test"), PLANTED, ids=[new for _, _, new, _ in PLANTED])
 def test_a_planted_fault(tmp_path: Path, name: str, old: str, new: str, test: str) -> None:
     plant(tmp_path, name, old, new)
-    words = [sys.executable, "-B", "-m", "pytest", "-q", "-p", "no:cacheprovider", "-k", test, Path(__file__).parent]
+    [file] = [it for it in Path(__file__).parent.glob("test_*.py") if f"def {test}(" in it.read_text("utf-8")]
+    words = [sys.executable, "-B", "-m", "pytest", "-rf", "-k", test, file]
     ran = subprocess.run(words, env={**os.environ, TESTED: str(tmp_path)}, capture_output=True, text=True, check=False)
     assert ran.returncode == 1 and f"::{test}" in ran.stdout, ran.stdout
 

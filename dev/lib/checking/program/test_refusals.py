@@ -96,10 +96,11 @@ def test_refused_calls(
         refusing = {"LD_PRELOAD": str(library), "RB_REFUSED": str(number), "RB_TOLD": str(tell)}
         pipe, how = subprocess.PIPE, {"cwd": tmp_path, "env": {**os.environ, **refusing}, "pass_fds": [tell]}
         command = [program, *words.format(port=port).split()]
-        with os.fdopen(told, "rb") as reading, subprocess.Popen(command, stdin=pipe, stdout=pipe, stderr=pipe, **how) as it:
-            os.close(tell)
-            replies = visit(it, port)
-            return Refused(bool(reading.read()), it.returncode, replies.decode("ascii"))
+        process = subprocess.Popen(command, stdin=pipe, stdout=pipe, stderr=pipe, **how)
+        os.close(tell)
+        with os.fdopen(told, "rb") as reading, process:
+            replies = visit(process, port)
+            return Refused(bool(reading.read()), process.returncode, replies.decode("ascii"))
 
     number, was_refused = 0, True
     while was_refused:

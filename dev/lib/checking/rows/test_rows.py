@@ -10,7 +10,9 @@ from typing import Callable
 
 import pytest
 
+from checking.pages.reading import blocks, section
 from checking.rows import CRATE, rb_cases, tables_of
+from common.program import TOP
 
 OTHER = " @"  # what is put behind an answer, which no answer ends with
 PATIENCE = 600  # seconds that a run may take
@@ -60,3 +62,26 @@ def test_each_row_with_another_answer_is_named(reads: Reads, path: Path) -> None
 def test_a_malformed_table(reads: Reads, told: str, text: str) -> None:
     ran = reads(text)
     assert (ran.returncode, ran.stderr) == (2, f"tried.rows:{told}\n"), ran.stdout
+
+
+def cases(path: str) -> subprocess.CompletedProcess[str]:
+    """Runs dev/cases on a file, from the top folder."""
+    return subprocess.run([f"{TOP}/dev/cases", path], cwd=TOP, capture_output=True, encoding="utf-8", check=False)
+
+
+def test_the_command_of_the_page() -> None:
+    """The second command that EXTENDING names for a changed row."""
+    command, path = blocks(section("docs/EXTENDING.md", "A case or a row"))[0].splitlines()[1].split(" ")
+    ran = cases(path)
+    assert (command, ran.returncode, ran.stderr) == ("dev/cases", 0, "")
+    assert re.search(r"^0 cases and \d+ tables, 0 not as they must be\n\Z", ran.stdout, re.M)
+
+
+@pytest.mark.parametrize(("name", "text", "told"), [
+    ("a.rows", "table queue a\nbegin 1 = begun\n0 0 sise = size 0\n", "3: no such command"),
+    ("a.case", "case a\n> SIZE\nend input 0\n", "3: no word of a case"),
+])
+def test_a_misspelt_word(tmp_path: Path, name: str, text: str, told: str) -> None:
+    (tmp_path / name).write_text(text)
+    ran = cases(str(tmp_path / name))
+    assert (ran.returncode, ran.stdout, ran.stderr) == (2, "", f"{tmp_path}/{name}:{told}\n")

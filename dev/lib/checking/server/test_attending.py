@@ -109,7 +109,8 @@ def test_draining(tmp_path: Path) -> None:
             told += [holder.rest(), server.process.wait(PATIENCE)]
             assert told == [None, "DONE 0", "SIZE 1", "DONE 2", b"", 0]
             assert status_and_counts(server) == (0, "sessions 4 faults 0 lost 0", "")
-        with handed(it, f"--sessions 1 --from {history}") as server, late:
+        words = f"--until-input-ends --sessions 1 --from {history}"
+        with handed(it, words, stdin=subprocess.PIPE) as server, late:
             told = [late.reply()[0], late.ask("QUIT"), server.end().status]
             assert told == ["SIZE 1", "BYE", 0]
 

@@ -18,7 +18,8 @@ CHECK = [sys.executable, "-B", f"{TOP}/dev/check"]
 
 def check(room: Path, *words: str, **settings: str) -> subprocess.CompletedProcess[str]:
     environment = {**os.environ, "TMPDIR": str(room), **settings}
-    return subprocess.run([*CHECK, *words], capture_output=True, text=True, timeout=PATIENCE, env=environment, check=False)
+    how = {"capture_output": True, "text": True, "timeout": PATIENCE, "env": environment}
+    return subprocess.run([*CHECK, *words], check=False, **how)
 
 
 def test_one_part(tmp_path: Path) -> None:
@@ -55,7 +56,8 @@ def test_a_test_that_is_skipped(tmp_path: Path, allowed: list[str], status: int)
     file = tmp_path / "test_moon.py"
     file.write_text("import pytest\ndef test_moon(): pytest.skip('no moon')\ndef test_sun(): pass\n")
     words = [sys.executable, "-B", "-m", "pytest", "-c", f"{TOP}/pytest.ini", "-p", "conftest", *allowed, file]
-    ran = subprocess.run(words, cwd=TOP, env={**os.environ, "PYTHONPATH": TOP}, capture_output=True, text=True, check=False)
+    environment = {**os.environ, "PYTHONPATH": TOP}
+    ran = subprocess.run(words, cwd=TOP, env=environment, capture_output=True, text=True, check=False)
     assert (ran.returncode, "no moon" in ran.stdout) == (status, True), ran.stdout
 
 
