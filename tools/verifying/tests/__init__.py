@@ -1,6 +1,3 @@
 """The tests of tools/verify, which `dev/check verify` runs. What they expect follows from docs/HISTORY.md and
 docs/PROTOCOL.md, from runs that were written by hand, and from runs of a simulated queue that were changed on purpose.
 """
-import os
-
-EVENTS = int(os.environ.get("RB_BROKER_EVENTS", 200_000))  # of the large run

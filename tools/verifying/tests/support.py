@@ -6,7 +6,7 @@ import subprocess
 from pathlib import Path
 from typing import Any, Iterable, Sequence
 
-from checking.testing import RoomTest, run_tool
+from checking.testing import run_tool
 from verifying.history import History
 from verifying.judge import Verdict
 from verifying.record import read_record
@@ -46,7 +46,7 @@ def texts_of(lines: list[str]) -> list[str]:
     lines = lines if lines[0].startswith("history") else ["history 3", "open 0 0 0", *lines]
     firsts = [number for number, it in enumerate(lines) if it.startswith("history")]
     files = [lines[first:end] for first, end in zip(firsts, [*firsts[1:], len(lines)])]
-    return ["\n".join([*it, f"end {sum(line[0].isdigit() for line in it)}", ""]) for it in files]
+    return ["\n".join([*file, f"end {sum(line[0].isdigit() for line in file)}", ""]) for file in files]
 
 
 def line_of(told: str) -> Line:
@@ -79,16 +79,14 @@ def counts_in(said: str) -> dict[str, int]:
     return {kind: count for kind, count in counts.items() if count}
 
 
-class RunTest(RoomTest):
-    """A test of runs that are files in its folder, or texts of histories and lines of records."""
+def verify(*words: object) -> subprocess.CompletedProcess[str]:
+    return run_tool("verify", *words)
 
-    def verify(self, *words: str) -> subprocess.CompletedProcess[str]:
-        return run_tool("verify", *words)
 
-    def judged(
-        self, histories: Sequence[History], record: list[Line], is_whole: bool = True, has_leases: bool = False
-    ) -> tuple[dict[str, int], list[str]]:
-        """The number of faults of each kind that has any, and the lines of the faults."""
-        exchanges = (("record.jsonl", it) for it in read_record(io.BytesIO(record_of(record).encode())))
-        lines = Verdict(histories, exchanges, is_whole, has_leases).lines()
-        return counts_in("\n".join(lines)), [it for it in lines if re.search(r": (%s): " % "|".join(KINDS), it)]
+def judged(
+    histories: Sequence[History], record: list[Line], is_whole: bool = True, has_leases: bool = False
+) -> tuple[dict[str, int], list[str]]:
+    """The number of faults of each kind that has any, and the lines of the faults."""
+    exchanges = (("record.jsonl", it) for it in read_record(io.BytesIO(record_of(record).encode())))
+    lines = Verdict(histories, exchanges, is_whole, has_leases).lines()
+    return counts_in("\n".join(lines)), [line for line in lines if re.search(r": (%s): " % "|".join(KINDS), line)]

@@ -4,8 +4,10 @@ import re
 from fnmatch import fnmatchcase
 from typing import Iterator, NamedTuple
 
+import pytest
+
 from histories.tests.support import text_of
-from verifying.tests.support import RUNS, Run, RunTest, history_of, line_of
+from verifying.tests.support import RUNS, Run, history_of, judged, line_of
 
 FAULTS = re.compile(r"(|--all |--leases )= ([^:]+)(?:: (.*))?")
 
@@ -22,7 +24,7 @@ class Case(NamedTuple):
 
     def variants(self) -> Iterator[Run]:
         """The run with each of the changes between which `|` stands."""
-        for changes in itertools.product(*(alternatives(it) for it in self.changes)):
+        for changes in itertools.product(*(alternatives(change) for change in self.changes)):
             yield Run(changed(self.run, changes))
 
     def fits(self, found: dict[str, int]) -> bool:
@@ -53,7 +55,7 @@ def alternatives(change: str) -> list[str]:
     """The changes between which `|` stands in one."""
     first, *others = change.split(" | ")
     front = "+ " if first.startswith("+ ") else first[:first.index(" -> ") + 4] if " -> " in first else ""
-    return [first, *(front + it for it in others)]
+    return [first, *(front + other for other in others)]
 
 
 def changed(run: list[str], changes: tuple[str, ...]) -> Iterator[str]:
@@ -77,28 +79,28 @@ def changed(run: list[str], changes: tuple[str, ...]) -> Iterator[str]:
     return itertools.chain.from_iterable(lines)
 
 
-class RunsTest(RunTest):
-    def test_what_is_found_in_each(self) -> None:
-        tried = 0
-        for case in cases():
-            for run in case.variants():
-                with self.subTest(case.name, changes=case.changes):
-                    self.expect(case, run)
-                tried += 1
-        self.assertGreater(tried, 120)
+CASES = [*cases()]
 
-    def expect(self, case: Case, run: Run) -> None:
-        found, faults = self.judged(run.histories(), run.record, "--all" in case.options, "--leases" in case.options)
-        self.assertTrue(case.fits(found), f"{found} in place of {case.kinds}: {faults}")
+
+@pytest.mark.parametrize("case", CASES, ids=lambda case: f"{case.name}: {case.changes}")
+def test_what_is_found(case: Case) -> None:
+    for run in case.variants():
+        found, faults = judged(run.histories(), run.record, "--all" in case.options, "--leases" in case.options)
+        assert case.fits(found), f"{found} in place of {case.kinds}: {faults}"
         first = re.split(r"\W", case.kinds)[0]
-        self.assertTrue(case.says is None or any(f": {first}: {case.says}" in it for it in faults), faults)
+        assert case.says is None or any(f": {first}: {case.says}" in fault for fault in faults), faults
 
-    def test_more_jobs_than_a_session_holds(self) -> None:
-        """A client that holds 63 jobs may be given one more, and with 64 none."""
-        for count, faults in [(63, {}), (64, {"gap": 1})]:
-            jobs = range(count + 1)
-            events = [f"1 {it} {it} offer {it} {it} {it} {it} 1 x" for it in jobs]
-            events += [f"2 {100 + it} {100 + it} take {it}" for it in jobs]
-            events += [f"2 200 200 offer {count + 1 + it} 300 {it} {it} 2 x" for it in jobs]
-            record = [line_of(f"killed {100 + it} {100 + it} TAKE = ITEM {it} {it} 1 x") for it in jobs[:-1]]
-            self.assertEqual(self.judged([history_of(text_of(*events))], record, is_whole=False)[0], faults)
+
+def test_all_cases_are_read() -> None:
+    assert sum(len([*case.variants()]) for case in CASES) > 120
+
+
+@pytest.mark.parametrize(("count", "faults"), [(63, {}), (64, {"gap": 1})])
+def test_more_jobs_than_a_session_holds(count: int, faults: dict[str, int]) -> None:
+    """A client that holds 63 jobs may be given one more, and with 64 none."""
+    jobs = range(count + 1)
+    events = [f"1 {job} {job} offer {job} {job} {job} {job} 1 x" for job in jobs]
+    events += [f"2 {100 + it} {100 + it} take {it}" for it in jobs]
+    events += [f"2 200 200 offer {count + 1 + it} 300 {it} {it} 2 x" for it in jobs]
+    record = [line_of(f"killed {100 + it} {100 + it} TAKE = ITEM {it} {it} 1 x") for it in jobs[:-1]]
+    assert judged([history_of(text_of(*events))], record, is_whole=False)[0] == faults
