@@ -24,10 +24,10 @@ def counts_of(line: str) -> list[int]:
 
 class ProgramTest(RoomTest):
     def test_our_program_passes(self):
-        status, lines, errors = conform("--timers", "--only", "s.case", tested_program())
+        status, lines, errors = conform("--timers", tested_program())
         passed, failed, skipped = counts_of(lines[-1])
         self.assertEqual((status, failed, errors), (0, 0, ""), lines)
-        texts = [path.read_text(encoding="utf-8") for path in Path(TOP, "crates/rb_cases/data").glob("*s.case")]
+        texts = [path.read_text(encoding="utf-8") for path in Path(TOP, "crates/rb_cases/data").glob("*.case")]
         self.assertEqual(passed + skipped, sum(f"\n{text}".count("\ncase ") for text in texts))
         self.assertEqual(sum("skipped: " in line for line in lines), skipped)
 
