@@ -32,7 +32,7 @@ def pytest_sessionfinish(session: pytest.Session) -> None:
     reporter = session.config.pluginmanager.getplugin("terminalreporter")
     if allowed is not None and reporter:
         reasons = [it.longrepr[2].removeprefix("Skipped: ") for it in reporter.stats.get("skipped", [])]
-        if not all(re.fullmatch(allowed, it) for it in reasons):
+        if not all(re.fullmatch(allowed, reason) for reason in reasons):
             session.exitstatus = pytest.ExitCode.TESTS_FAILED
 
 
@@ -67,5 +67,5 @@ def serve() -> Iterator[Callable[..., Server]]:
         return servers[-1]
 
     yield started
-    for it in servers:
-        it.kill()
+    for server in servers:
+        server.kill()

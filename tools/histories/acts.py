@@ -22,4 +22,4 @@ IDS: dict[str, slice] = {"poll": slice(1, 2), "take": slice(1, 2), "pollfor": sl
 
 def given_ids(act: Sequence[str]) -> list[int]:
     """The ids of the elements that an act gave, in their order."""
-    return [int(it) for it in act[IDS.get(act[0], slice(0))] if it != "none"]
+    return [int(word) for word in act[IDS.get(act[0], slice(0))] if word != "none"]

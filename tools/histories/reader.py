@@ -63,7 +63,7 @@ class Reader:
         """What tests the `keep` lines of a run that continues. There are as many as elements in the queue."""
         rows, element = self._queue.rows(), self.history.elements.element
         # A first expiry that a text leaves out is that of the text's earliest line, which need not be the job's.
-        tells_first = all(it == 3 for it in (version, *(run.version for run in self.history.runs)))
+        tells_first = all(number == 3 for number in (version, *(run.version for run in self.history.runs)))
 
         def keep(line: Match[bytes]) -> None:
             here, there = [word.decode() for word in line.groups() if word], [*map(str, element(next(rows)))]

@@ -35,7 +35,7 @@ class Counts:
     @property
     def ahead(self) -> int:
         """How far the server's clock is ahead: the middle between the bounds, or the only bound there is."""
-        bounds = [int(it) for it in (self.least, self.most) if math.isfinite(it)]
+        bounds = [int(bound) for bound in (self.least, self.most) if math.isfinite(bound)]
         return sum(bounds) // len(bounds) if bounds else 0
 
     def lateness(self) -> list[int]:
@@ -43,17 +43,17 @@ class Counts:
         come, in microseconds; nothing if no job came."""
         times = sorted(self.times)
         places = [int(len(times) * share) for share in (0.5, 0.99)] + [-1]
-        return [(times[it] + self.ahead) // 1000 for it in places] if times else []
+        return [(times[place] + self.ahead) // 1000 for place in places] if times else []
 
 
 def total(each: Iterable[Counts]) -> Counts:
     """What several have counted together."""
     all_of_them = Counts()
-    for it in each:
-        all_of_them.numbers += it.numbers
-        all_of_them.errors += it.errors
-        all_of_them.times += it.times
-        all_of_them.least, all_of_them.most = max(all_of_them.least, it.least), min(all_of_them.most, it.most)
+    for counts in each:
+        all_of_them.numbers += counts.numbers
+        all_of_them.errors += counts.errors
+        all_of_them.times += counts.times
+        all_of_them.least, all_of_them.most = max(all_of_them.least, counts.least), min(all_of_them.most, counts.most)
     return all_of_them
 
 

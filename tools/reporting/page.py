@@ -24,10 +24,11 @@ MOST_ELEMENTS = 20_000
 
 def page(figures: Figures) -> str:
     """The page."""
-    body, *scripts = (Path(__file__).with_name(it).read_text("utf-8") for it in ("page.html", "readings.js", "page.js"))
+    parts = "page.html", "readings.js", "page.js"
+    body, *scripts = (Path(__file__).with_name(name).read_text("utf-8") for name in parts)
     script, chosen, plots = '"use strict";\n' + "".join(scripts), chosen_jobs(figures), plots_of(figures)
     return head(f"{os.path.basename(figures.name)}: report", STYLE, script) + Template(body).substitute(
-        name=escape(figures.name), lines="".join(f"<p>{escape(it)}</p>" for it in head_of(figures)),
+        name=escape(figures.name), lines="".join(f"<p>{escape(line)}</p>" for line in head_of(figures)),
         findings=f"<ul>{''.join(map(_finding, figures.findings))}</ul>" if figures.findings else "<p>Nothing.</p>",
         plots="".join(map(_plot, plots)), tables="".join(map(_table, tables_of(figures))),
         has=f"{number(len(chosen))} of {counted(len(figures.jobs.roots), 'job')}", script=script,
@@ -87,5 +88,5 @@ def _table(told: Table) -> str:
     if told.is_of_jobs:
         rows = ([_link(origin), f"<code>{payload}</code>", *others] for origin, payload, *others in rows)
     cells = grid(told.heading, rows, f' class="words-{told.left}"') if told.rows else ""
-    notes = "".join(f'<p class="note">{escape(it)}</p>' for it in told.notes)
+    notes = "".join(f'<p class="note">{escape(note)}</p>' for note in told.notes)
     return f"<section><h2>{escape(told.title)}</h2>{cells}{notes}</section>\n"

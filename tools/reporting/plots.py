@@ -64,17 +64,17 @@ def lateness_in(axis: TimeAxis, history: History) -> list[Late | None]:
     found = [array("Q") for _ in range(axis.count)]
     for _, event, late in history.gifts():
         found[axis.bucket(history.events.moments[event])].append(late)
-    return [Late(rank(sorted(it), 0.5), max(it), len(it)) if it else None for it in found]
+    return [Late(rank(sorted(times), 0.5), max(times), len(times)) if times else None for times in found]
 
 
 def lateness_plot(late: Sequence[Late | None], axis: TimeAxis) -> Plot:
     """How late elements were given: the median and the greatest of each bucket."""
-    y = svg.count_scale(it.greatest for it in late if it)
+    y = svg.count_scale(bucket.greatest for bucket in late if bucket)
     return Plot(
         "lateness", "Lateness over time",
-        {"median": ("median", [y.at(it.median) if it else None for it in late]),
-         "greatest": ("greatest", [y.at(it.greatest) if it else None for it in late])},
+        {"median": ("median", [y.at(bucket.median) if bucket else None for bucket in late]),
+         "greatest": ("greatest", [y.at(bucket.greatest) if bucket else None for bucket in late])},
         svg.y_axis(svg.round_ticks(y, DATE_STEPS, mark), "lateness"), axis,
         f"Of what was given in each {span(round(axis.width))}.",
-        axis.readings([f"median {span(it.median)}", f"greatest {span(it.greatest)}", f"of {counted(it.gifts, 'gift')}"]
-                      if it else ["nothing was given"] for it in late))
+        axis.readings([f"median {span(bucket.median)}", f"greatest {span(bucket.greatest)}",
+                       f"of {counted(bucket.gifts, 'gift')}"] if bucket else ["nothing was given"] for bucket in late))

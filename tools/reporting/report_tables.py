@@ -48,7 +48,7 @@ def tables_of(figures: Figures) -> Iterator[Table]:
                 [(name, span(it), f"{it} ns") for name, it in ranks(figures.lateness).items()],
                 notes=() if figures.lateness else ("nothing was given",))
     yield Table("Attempts", ("attempt", "offered or kept", "given"),
-                [[*map(number, it)] for it in jobs.attempts[:MOST_ATTEMPTS]], 0,
+                [[*map(number, attempt)] for attempt in jobs.attempts[:MOST_ATTEMPTS]], 0,
                 _more(len(jobs.attempts) - MOST_ATTEMPTS, "attempt"))
     yield jobs_table(f"Jobs: {len(jobs.roots):,}; offered again: {len(jobs.again):,} "
                      f"({percent(len(jobs.again), len(jobs.roots))})", history, jobs.again, clock, MOST_JOBS)
@@ -81,7 +81,7 @@ def jobs_table(title: str, history: History, roots: Sequence[int], clock: Clock,
 def _job(history: History, rows: Sequence[int], clock: Clock) -> list[str]:
     """What a table tells of the job of which these are the rows."""
     elements, events, left = history.elements, history.events, history.elements.left_in[rows[-1]]
-    late = [it for it in map(history.late, rows) if it is not None]
+    late = [lateness for lateness in map(history.late, rows) if lateness is not None]
     by, at = "in the queue", ""
     if left != NONE:
         by, at = acts.KEYWORDS[events.acts[left]], clock.text(events.moments[left])

@@ -38,7 +38,7 @@ class Tick(NamedTuple):
 
 def round_values(high: int, steps: Iterable[int]) -> range:
     """Values from 0 to `high`, one of these steps apart, so that they are few."""
-    step = next(it for it in steps if it * MOST_STEPS >= high)
+    step = next(step for step in steps if step * MOST_STEPS >= high)
     return range(0, high + 1, step)
 
 
@@ -49,7 +49,7 @@ def count_scale(values: Iterable[int]) -> Scale:
 
 def round_ticks(scale: Scale, steps: Iterable[int], label: Callable[[int], str]) -> list[Tick]:
     """Some round values of a scale from 0 on."""
-    return [Tick(scale.at(it), label(it)) for it in round_values(int(scale.high), steps)]
+    return [Tick(scale.at(value), label(value)) for value in round_values(int(scale.high), steps)]
 
 
 def text(x: float | str, y: float, words: str, kind: str) -> str:

@@ -50,7 +50,7 @@ class TimeAxis:
     def drawn(self) -> str:
         """The axis, with round times since the first event."""
         values = svg.round_values(self._end - self._start, DATE_STEPS)
-        ticks = (Tick(self._scale.at(self._start + it), f"{it / self._size:g}") for it in values)
+        ticks = (Tick(self._scale.at(self._start + value), f"{value / self._size:g}") for value in values)
         start = "the first event" if self._clock.offset is None else f"{self._clock.text(self._start, 0)} UTC"
         return svg.x_axis(ticks, f"time since {start} ({self._unit})")
 

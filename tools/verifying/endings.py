@@ -123,7 +123,8 @@ class Ending:
     def _is_gone(self, id: int, event: int) -> bool:
         """Whether replies say that a job which this event gave could not come back: its attempt was the last, or the
         run was full."""
-        element, accounts = self._history.element(id), [it.account for it in self._calls.sessions]
-        if element is not None and any(it.last_attempt == element.attempt for it in accounts):
+        element, accounts = self._history.element(id), [session.account for session in self._calls.sessions]
+        if element is not None and any(account.last_attempt == element.attempt for account in accounts):
             return True
-        return any(it.was_full for it in accounts) and self._history.last_beside(event) in (event, *self._returns)
+        was_full = any(account.was_full for account in accounts)
+        return was_full and self._history.last_beside(event) in (event, *self._returns)

@@ -56,6 +56,6 @@ class Faults:
     def sentences(self, is_whole: bool) -> list[str]:
         """Each sentence with the number of its faults, and their sum. Unless all clients have a record, other events
         are right."""
-        kinds = [it for it in KINDS if is_whole or it != "unrecorded"]
+        kinds = [kind for kind in KINDS if is_whole or kind != "unrecorded"]
         told = [f"{kind + ':':<11} {counted(self._counts[kind], 'fault')}: {KINDS[kind]}" for kind in kinds]
         return [*told, counted(self.total, "fault")]

@@ -84,7 +84,8 @@ class History:
         if act == expected:
             return True
         words, wanted = act.split(" "), expected.split(" ")
-        return ANY in wanted and len(words) == len(wanted) and all(it in (word, ANY) for word, it in zip(words, wanted))
+        is_alike = len(words) == len(wanted) and all(one in (word, ANY) for word, one in zip(words, wanted))
+        return ANY in wanted and is_alike
 
     def asked(self, event: int) -> int:
         """The moment that was handed in."""

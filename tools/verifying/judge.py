@@ -26,7 +26,7 @@ class Verdict:
         """Compares the history of a queue, or those of its shards, with the exchanges of its clients, each with the
         path of its record. If the records are those of all clients, an event of none of them is a fault."""
         self.faults, self._is_whole = Faults(), is_whole
-        self._queues = [Calls(it, self.faults, Rules(has_leases, len(histories) > 1)) for it in histories]
+        self._queues = [Calls(history, self.faults, Rules(has_leases, len(histories) > 1)) for history in histories]
         self._sessions: set[tuple[str, str]] = set()
         self._counts: Counter[str] = Counter()
         for path, exchange in exchanges:
@@ -61,8 +61,8 @@ class Verdict:
 
     def lines(self) -> list[str]:
         """The lines that are printed: faults, what was compared, and each sentence with the number of its faults."""
-        counts, histories = self._counts, [it.history for it in self._queues]
-        events, seats = sum(map(len, histories)), sum(len(it.rows) for it in histories)
+        counts, histories = self._counts, [queue.history for queue in self._queues]
+        events, seats = sum(map(len, histories)), sum(len(history.rows) for history in histories)
         return [
             *self.faults.lines(),
             f"{counted(events, 'event')} at {counted(seats, 'seat')}; "

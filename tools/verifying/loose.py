@@ -38,12 +38,12 @@ class Times:
         """Between which two values the clients' clock is ahead of the server's, by those of a file's events that have
         their call."""
         calls, asked = self._calls, self._calls.history.asked
-        known = [it for it in events if calls.claims[it] != NONE]
+        known = [event for event in events if calls.claims[event] != NONE]
         some = known[::len(known) // LOOKS + 1]
         if not some:
             return None
-        least = max(calls.sent[calls.claims[it]] - asked(it) for it in some)
-        most = min(calls.received[calls.claims[it]] - asked(it) for it in some)
+        least = max(calls.sent[calls.claims[event]] - asked(event) for event in some)
+        most = min(calls.received[calls.claims[event]] - asked(event) for event in some)
         return min(least, most), max(least, most)
 
     def is_right(self, call: int, event: int) -> bool:
@@ -96,7 +96,7 @@ class Arrangement:
             if self._tries == 0:
                 return False
             self._tries -= 1
-            moved = [(it, self._lift(it)) for it in rivals]
+            moved = [(rival, self._lift(rival)) for rival in rivals]
             self._put(session, first)
             if self._arrange(rivals + rest, fixed | {session}):
                 return True
@@ -107,11 +107,11 @@ class Arrangement:
 
     def _choices(self, session: Session, fixed: frozenset[Session]) -> Iterator[tuple[int, list[Session]]]:
         """The rows of a session by their first events, each with the sessions that it moves: the fewest first."""
-        yield from (it for it in self._rows(session, self._calls) if not it[1])
+        yield from (row for row in self._rows(session, self._calls) if not row[1])
         looked_at = list(islice(self._rows(session, ()), self._tries // 2))
         self._tries -= len(looked_at)
-        crowded = [it for it in looked_at if it[1] and fixed.isdisjoint(it[1])]
-        yield from sorted(crowded, key=lambda it: len(it[1]))
+        crowded = [row for row in looked_at if row[1] and fixed.isdisjoint(row[1])]
+        yield from sorted(crowded, key=lambda row: len(row[1]))
 
     def _rows(self, session: Session, but: Container[int]) -> Iterator[tuple[int, list[Session]]]:
         """The rows of a session, each of events that are what its replies say, at one seat and at their times: by their
@@ -140,10 +140,10 @@ class Arrangement:
     def _in_the_way(self, call: int, event: int) -> Iterator[int]:
         """The call that is put at an event, and those that are out of order with another call there."""
         within = self._times.disputed(call, event) if self._keeps_time else range(event, event + 1)
-        for it in self._events[bisect_left(self._events, within.start):bisect_left(self._events, within.stop)]:
-            other = self._calls[it]
-            before, behind = (call, other) if event < it else (other, call)
-            if it == event or self._all.sent[before] > self._all.received[behind]:
+        for place in self._events[bisect_left(self._events, within.start):bisect_left(self._events, within.stop)]:
+            other = self._calls[place]
+            before, behind = (call, other) if event < place else (other, call)
+            if place == event or self._all.sent[before] > self._all.received[behind]:
                 yield other
 
     def _put(self, session: Session, first: int) -> None:
@@ -171,9 +171,9 @@ def place_loose(calls: Calls, sessions: list[Session]) -> None:
     if not sessions:
         return
     arrangement = Arrangement(calls)
-    left = sorted(sessions, key=lambda it: (-len(it.calls), calls.received[it.calls[-1]]))
+    left = sorted(sessions, key=lambda session: (-len(session.calls), calls.received[session.calls[-1]]))
     for keeps_time in (True, False):
-        left = [it for it in left if not arrangement.add(it, keeps_time)]
+        left = [session for session in left if not arrangement.add(session, keeps_time)]
     for session, first in arrangement.firsts.items():
         session.seat = calls.history.seats[first]
         session.end = calls.history.places[first] + len(session.calls)

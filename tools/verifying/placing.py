@@ -15,7 +15,7 @@ def place_named(calls: Calls) -> list[Session]:
     """Places the sessions that name an element somewhere. Returns the others."""
     for session in calls.sessions:
         _claim(calls, session)
-    return [it for it in calls.sessions if it.calls and not _place(calls, it)]
+    return [session for session in calls.sessions if session.calls and not _place(calls, session)]
 
 
 def _claim(calls: Calls, session: Session) -> None:
@@ -32,18 +32,18 @@ def _claim(calls: Calls, session: Session) -> None:
             calls.tell("twice", call, f"{calls.history.told(event)} is the call of {first} too")
             twice.add(call)
     if twice:
-        session.calls = array("I", (it for it in session.calls if it not in twice))
+        session.calls = array("I", (call for call in session.calls if call not in twice))
 
 
 def _place(calls: Calls, session: Session) -> bool:
     """Places a session's calls by those whose events are known, if there are any. Of these, one at another seat than
     most, or out of order, is told and left out."""
     history, events = calls.history, calls.events
-    known = [it for it in session.calls if events[it] >= 0]
+    known = [call for call in session.calls if events[call] >= 0]
     if not known:
         return False
-    seat = session.seat = Counter(history.seats[events[it]] for it in known).most_common(1)[0][0]
-    rising = set(longest_rise([events[it] for it in known if history.seats[events[it]] == seat]))
+    seat = session.seat = Counter(history.seats[events[call]] for call in known).most_common(1)[0][0]
+    rising = set(longest_rise([events[call] for call in known if history.seats[events[call]] == seat]))
     astray, last = set(), NONE
     for call in known if len(rising) < len(known) else ():
         event = events[call]
@@ -59,7 +59,7 @@ def _place(calls: Calls, session: Session) -> bool:
         else:
             before = "" if last == NONE else f", event {last}"
             calls.tell("order", call, f"{told} does not follow that of the request before{before}")
-    Alignment(calls, session).align([it for it in session.calls if it not in astray] if astray else session.calls)
+    Alignment(calls, session).align([call for call in session.calls if call not in astray] if astray else session.calls)
     return True
 
 
@@ -86,7 +86,7 @@ class Alignment:
             if last is None:
                 self._place(waiting[::-1], self._free(range(place - 1, -1, -1), len(waiting)), is_between=False)
             elif waiting or place != last + 1:
-                between = [it for it in self._row[last + 1:place] if it not in astray]
+                between = [number for number in self._row[last + 1:place] if number not in astray]
                 self._place(waiting, between, is_between=True)
             last, waiting = place, []
         assert last is not None
@@ -98,9 +98,9 @@ class Alignment:
     def _free(self, places: range, calls: int) -> list[int]:
         """The events at the next places that are nobody's, as many as so many calls look at. Calls of this session that
         are out of order are passed over."""
-        claims, events = self._calls.claims, (self._row[it] for it in places)
-        own = takewhile(lambda it: claims[it] == NONE or it in self._calls.astray, events)
-        return list(islice((it for it in own if claims[it] == NONE), AHEAD * calls))
+        claims, events = self._calls.claims, (self._row[place] for place in places)
+        own = takewhile(lambda number: claims[number] == NONE or number in self._calls.astray, events)
+        return list(islice((number for number in own if claims[number] == NONE), AHEAD * calls))
 
     def _place(self, calls: Sequence[int], events: Sequence[int], is_between: bool) -> int:
         """Places the calls at events, both in their order, and returns the last event that one got, or NONE. All events
@@ -109,7 +109,7 @@ class Alignment:
         reach = 1 if is_even else len(events) if is_between else AHEAD
         for call in calls:
             ahead = range(at, min(at + reach, len(events)))
-            found = next((it for it in ahead if self._calls.may_be(call, events[it])), None)
+            found = next((at for at in ahead if self._calls.may_be(call, events[at])), None)
             if found is None and ahead and self._calls.claims[events[at]] == NONE and (
                     is_even or not is_between and self._is_of_kind(call, events[at])):
                 found = at  # and its reply says something else
@@ -137,7 +137,7 @@ class Alignment:
         calls, told = self._calls, self._calls.history.told
         for call in self._missing:
             behind = self._row[self._session.end:self._session.end + 1]
-            event = next((it for it in [*self._strangers, *behind] if calls.may_be(call, it)), None)
+            event = next((number for number in [*self._strangers, *behind] if calls.may_be(call, number)), None)
             if event is None:
                 self._tell_missing(call)
                 continue
@@ -155,7 +155,7 @@ class Alignment:
     def _tell_missing(self, call: int) -> None:
         calls, made = self._calls, self._session.calls
         place = bisect_left(made, call)
-        times = [(calls.sent[it], calls.received[it]) for it in made[max(place - 1, 0):place + 2]]
+        times = [(calls.sent[call], calls.received[call]) for call in made[max(place - 1, 0):place + 2]]
         if times.count((calls.sent[call], calls.received[call])) > 1:
             calls.tell("twice", call, f"{calls.expectation(call).act} is in the history once, but has two replies")
         else:

@@ -55,5 +55,5 @@ def _exchange(line: bytes, number: int) -> Exchange:
     return Exchange(number, str(session), sent, received, request, reply)
 
 
-def _is_time(it: Any) -> bool:
-    return type(it) is int and 0 <= it <= GREATEST_TIME
+def _is_time(value: Any) -> bool:
+    return type(value) is int and 0 <= value <= GREATEST_TIME

@@ -50,14 +50,14 @@ def _unanswered(exchange: Exchange, asked: list[str], count: int) -> list[Part]:
     if asked[0] not in BY_ID or not "".join(asked[1:2]).isdecimal():
         return [(queue, exchange) for queue in range(count)]
     owner, request = _inner(asked)
-    return [(it, exchange._replace(request=request if it == owner else "")) for it in range(count)]
+    return [(queue, exchange._replace(request=request if queue == owner else "")) for queue in range(count)]
 
 
 def _answered(exchange: Exchange, asked: list[str], count: int) -> list[Part]:
     (reply, *items), request, queue = exchange.reply, exchange.request, 0
     words = reply.split(" ")
     if words[0] in ("BYE", "CLEARED"):
-        return [(it, exchange) for it in range(count)]
+        return [(queue, exchange) for queue in range(count)]
     if words[0] == "DRAINED" and items:
         return _drained(exchange, reply, items)
     if asked[0] in IN_VAIN.get(words[0], ()) or reply == "ERR 9 held":
@@ -79,7 +79,7 @@ def _drained(exchange: Exchange, reply: str, items: list[str]) -> list[Part]:
     given: dict[int, list[str]] = {}
     if reply != f"DRAINED {len(items)}":
         raise ValueError
-    for queue, item in (_inner(it.split(" ")) for it in items):
+    for queue, item in (_inner(item.split(" ")) for item in items):
         given.setdefault(queue, []).append(item)
     return [(queue, exchange._replace(reply=[f"DRAINED {len(its)}", *its])) for queue, its in given.items()]
 

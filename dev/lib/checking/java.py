@@ -61,7 +61,8 @@ def expect(tally: Tally, name: str, *words: str, says: str = "", **options: Any)
 
 def missing() -> list[str]:
     """What is not installed that the tests need."""
-    absent = [it for it in COMMANDS if shutil.which(it) is None] + [it for it in JARS if not os.path.isfile(it)]
+    absent = [command for command in COMMANDS if shutil.which(command) is None]
+    absent += [jar for jar in JARS if not os.path.isfile(jar)]
     if not absent and int(re.findall(r"\d+", run("javac", "-version").stdout)[0]) < int(RELEASE):
         absent.append(f"a JDK of version {RELEASE}")
     return absent
@@ -91,7 +92,7 @@ def run_tests(kind: str, path: str, tally: Tally) -> None:
     """Runs the tests of a kind with JUnit, and counts them."""
     quiet = f"-Djava.util.logging.config.file={os.devnull}"  # of jobs that may be given again, which tests bring about
     ran = run("java", "-ea", quiet, f"-Drbbroker.program={tested_program()}", "-cp", path, "org.junit.runner.JUnitCore",
-              *(f"rbbroker.client.{it}" for it in TESTS[kind]), cwd=CLIENT)
+              *(f"rbbroker.client.{test}" for test in TESTS[kind]), cwd=CLIENT)
     found = re.search(r"(?m)^(?:OK \((\d+) tests?\)|Tests run: (\d+),  Failures: (\d+))$", ran.stdout)
     if not found:
         tally.count(f"the tests of {kind}", f"status {ran.returncode}: {ran.stdout.strip()}")
@@ -128,7 +129,7 @@ def follow_page(room: str, tally: Tally) -> None:
 
 def run_maven(room: str, tally: Tally) -> None:
     """Builds the package by its pom.xml, with nothing but what the system has."""
-    plugins = [f"{REPOSITORY}/org/apache/maven/plugins/maven-{it}-plugin" for it in PLUGINS]
+    plugins = [f"{REPOSITORY}/org/apache/maven/plugins/maven-{plugin}-plugin" for plugin in PLUGINS]
     absent = [it for it in plugins if not os.path.isdir(it)]
     if shutil.which("mvn") is None or absent:
         tally.skip("mvn", f"there is no {', no '.join(absent or ['mvn'])}")

@@ -64,5 +64,5 @@ def call_tool(name: str, *words: str) -> tuple[int, bytes, str]:
             status = module_of(name).main()
         except SystemExit as end:
             status = end.code
-    written, errors = (it.detach().getvalue() for it in streams)
+    written, errors = (stream.detach().getvalue() for stream in streams)
     return status, written, errors.decode()

@@ -37,12 +37,12 @@ def spec_items(path: str, text: str) -> Iterator[Item]:
         head = len(list(takewhile(is_comment, lines)))
         found = SPEC_HEAD.match(lines[head]) if head < len(lines) and not IMPORT.match(lines[head]) else None
         if found:
-            kind = next((it for it in ("record", "data", "ruleset") if it in found[1].split()), "value")
+            kind = next((kind for kind in ("record", "data", "ruleset") if kind in found[1].split()), "value")
             is_whole = kind != "value" or lines[head].startswith(" :", found.end())
             if not is_whole or indent_of(lines[head]) != 2 * len(sections):
                 kind = "more"
             owner = owner if kind == "more" else found[2]
-            section, lines = [it for block in sections for it in block], dedented(lines)
+            section, lines = [opening for block in sections for opening in block], dedented(lines)
             yield Item(path, owner, kind, line + head, section, lines[:head], lines[head:])
 
 
@@ -57,7 +57,7 @@ def rust_items(path: str, text: str) -> Iterator[Item]:
             continue
         kind, name = found.groups()
         code, full = text_at(lines, at, kind), f"{owner}::{name}" if indent_of(line) else name
-        if implements and kind != "const" and not any(" ensures " in it for it in code):
+        if implements and kind != "const" and not any(" ensures " in clause for clause in code):
             continue
         if name in values and not owner:
             code = [code[0].removesuffix(" {").removesuffix(";") + " { .. }", values[name]]
@@ -93,4 +93,4 @@ def indent_of(line: str) -> int:
 def dedented(lines: list[str]) -> list[str]:
     """The lines without the margin of the first."""
     margin = " " * indent_of(lines[0]) if lines else ""
-    return [it.removeprefix(margin) for it in lines]
+    return [line.removeprefix(margin) for line in lines]

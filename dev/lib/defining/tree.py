@@ -26,14 +26,15 @@ class SourceFile:
         self.modules: dict[str, str] = {}  # those that it imports whole, by the names that they have here
         self.imported: dict[str, tuple[str, str]] = {}  # the module of a name that it imports, and its name there
         self.bare = GHOST_USE.sub(self._without_import, COMMENT[place.suffix].sub("", text))
-        self.operators = {part: it for it in self.imported for part in it.split("◌") if part and "◌" in it}
+        operators = [name for name in self.imported if "◌" in name]
+        self.operators = {part: name for name in operators for part in name.split("◌") if part}
         # What the code sees: each name with the crate that it is from, and its name there.
         self.uses = {alias or name: (root, name) for root, it in USE.findall(text) for name, alias in USED.findall(it)}
         self.paragraphs = [*(rust_items if place.suffix == ".rt" else spec_items)(path, text)]
-        self.items = [it for it in self.paragraphs if it.kind != "more"]
-        self.named = {it.name: it for it in self.items}
-        kinds = [it for it in self.items if it.kind == "data"]
-        self.variants = {line.split()[0]: it for it in kinds for line in it.code[1:] if " : " in line}
+        self.items = [paragraph for paragraph in self.paragraphs if paragraph.kind != "more"]
+        self.named = {item.name: item for item in self.items}
+        kinds = [item for item in self.items if item.kind == "data"]
+        self.variants = {line.split()[0]: kind for kind in kinds for line in kind.code[1:] if " : " in line}
 
     def _without_import(self, found: re.Match[str]) -> str:
         """Takes the names of an import, and leaves nothing in its lines."""
@@ -64,19 +65,19 @@ class Tree:
     """The files of src/ and specs/ of all crates below a folder, by their paths from there, without tests."""
 
     def __init__(self, top: Path) -> None:
-        found = [it for part in ("src/**/*.rt", "specs/**/*.antt") for it in top.glob(f"crates/*/{part}")]
-        paths = sorted(it.relative_to(top).as_posix() for it in found)
-        self.files = {it: SourceFile(top, it) for it in paths if not re.search(r"/tests[/.]", it)}
-        self.crates = {it.crate for it in self.files.values()}
+        found = [path for part in ("src/**/*.rt", "specs/**/*.antt") for path in top.glob(f"crates/*/{part}")]
+        paths = sorted(path.relative_to(top).as_posix() for path in found)
+        self.files = {path: SourceFile(top, path) for path in paths if not re.search(r"/tests[/.]", path)}
+        self.crates = {file.crate for file in self.files.values()}
 
     def cited_by(self, item: Item, code: list[str]) -> tuple[list[Item], list[str]]:
         """The definitions that these lines of an item name, and the names of libraries with their modules."""
         file = self.files[item.path]
         words = words_of(item, code, lambda name: self.is_constructor(file, name))
-        meant = [it for it in map(lambda word: self.meaning(file, word), words) if it]
-        found = {(it.path, it.name): it for it in meant if isinstance(it, Item)}
+        meant = [meaning for meaning in map(lambda word: self.meaning(file, word), words) if meaning]
+        found = {(meaning.path, meaning.name): meaning for meaning in meant if isinstance(meaning, Item)}
         found.pop((item.path, item.name), None)
-        return list(found.values()), list(dict.fromkeys(it for it in meant if isinstance(it, str)))
+        return list(found.values()), list(dict.fromkeys(meaning for meaning in meant if isinstance(meaning, str)))
 
     def is_constructor(self, file: SourceFile, name: str) -> bool:
         """Whether a name in a pattern is that of a constructor."""
@@ -108,13 +109,13 @@ class Tree:
         at = next((at for at, it in enumerate(path) if it.startswith("The")), len(path))
         is_constant = path[at:at + 1] == ["TheConstants"]  # followed by the type, if it is one of a type's
         modules, names = (path[:at], [*path[at + 1:], name]) if is_constant else (path[:at - 1], path[at - 1:at])
-        paths = [f"crates/{crate}/src/{it}.rt" for it in (["/".join(modules)] if modules else ["lib", "main"])]
-        found = (self.files[it].named.get("::".join(names)) for it in paths if it in self.files)
+        paths = [f"crates/{crate}/src/{stem}.rt" for stem in (["/".join(modules)] if modules else ["lib", "main"])]
+        found = (self.files[source].named.get("::".join(names)) for source in paths if source in self.files)
         return next(filter(None, found), None)
 
     def _specified(self, crate: str, path: list[str], name: str) -> Item | None:
         """The definition of specs/, there or where that file or the crate's Lib.antt has it from."""
-        file, lib = (self.files.get(f"crates/{crate}/specs/{it}.antt") for it in ("/".join(path), "Lib"))
+        file, lib = (self.files.get(f"crates/{crate}/specs/{stem}.antt") for stem in ("/".join(path), "Lib"))
         if file and (name in file.named or name in file.variants):
             return file.named.get(name) or file.variants[name]
         module, further = file.imported.get(name, ("", name)) if file else (lib.modules[path[0]] if lib else "", name)
@@ -123,6 +124,7 @@ class Tree:
 
     def _used(self, crate: str, name: str) -> Item | None:
         """The type or constant of this name in a crate, or in one from which that hands it on."""
-        found = [it for file in self.files.values() for it in file.items if it.name == name and it.kind in TYPES]
-        found.sort(key=lambda it: not it.path.startswith(f"crates/{crate}/"))
+        items = [item for file in self.files.values() for item in file.items]
+        found = [item for item in items if item.name == name and item.kind in TYPES]
+        found.sort(key=lambda item: not item.path.startswith(f"crates/{crate}/"))
         return found[0] if found and crate in self.crates else None

@@ -22,14 +22,14 @@ TYPE_PARAMETERS = re.compile(r"\A([^<=]*)<[^(=]*?>(?= \{|;|\()")
 def words_of(item: Item, code: list[str], is_constructor: Callable[[str], bool]) -> Iterator[str]:
     """The free names of these lines of an item. In a pattern a constructor's name is free, and any other is bound."""
     text = re.sub(r"\"[^\"\n]*\"", "", "\n".join(it.split(" -- ")[0] for it in code if not is_comment(it)))
-    functions = " ".join(it[1] or it[2] for it in FUNCTION.finditer(text))
+    functions = " ".join(function[1] or function[2] for function in FUNCTION.finditer(text))
     bound = {*re.findall(r"[\w']+", re.sub(r" : [^)]*", "", functions))}
     if item.path.endswith(".rt"):
         bound |= {*PARAMETER.findall(text), *(VARIANT.findall(text) if item.kind == "enum" else ())}
         yield from free(stated(item, text) if item.kind == "fn" else TYPE_PARAMETERS.sub(r"\1", text), bound)
         return
     binders = BINDER.findall("\n".join([*item.section, text]))
-    bound |= {name for it in binders for name in it.split()} | {item.name}
+    bound |= {name for binder in binders for name in binder.split()} | {item.name}
     if item.kind in ("record", "data"):
         head, *fields = FIELD.split(text)
         yield from free(head, bound)
@@ -41,7 +41,7 @@ def words_of(item: Item, code: list[str], is_constructor: Callable[[str], bool])
         is_signature = f"{item.name} :" in statement
         *pattern, body = [statement] if is_signature else re.split(r" =\s", statement, maxsplit=1)
         names = [*free("".join(pattern), bound)]
-        known = [it for it in names if "." in it or not it[0].isalpha() or is_constructor(it)]
+        known = [word for word in names if "." in word or not word[0].isalpha() or is_constructor(word)]
         yield from known
         yield from free(body, bound | {*names} - {*known})
 
@@ -49,7 +49,7 @@ def words_of(item: Item, code: list[str], is_constructor: Callable[[str], bool])
 def stated(item: Item, text: str) -> str:
     """The clauses of a function, and the types of what these name: parameters, type parameters and the result."""
     head, *clauses = CLAUSE.split(text)
-    words = [it.partition(".") for clause in clauses for it in WORD.findall(clause)]
+    words = [word.partition(".") for clause in clauses for word in WORD.findall(clause)]
     said = {name for name, dot, _ in words if dot or not name[0].isupper()}
     typed = PARAMETER.split(head.replace("->", "result: "))
     types = [kind for name, kind in zip(typed[1::2], typed[2::2]) if name in said]
@@ -59,4 +59,4 @@ def stated(item: Item, text: str) -> str:
 
 def free(text: str, bound: set[str]) -> Iterator[str]:
     """The words of a text whose first name is not among these."""
-    yield from (it for it in WORD.findall(LABEL.sub(" ", text)) if it.partition(".")[0] not in bound)
+    yield from (word for word in WORD.findall(LABEL.sub(" ", text)) if word.partition(".")[0] not in bound)

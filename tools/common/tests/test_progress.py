@@ -27,8 +27,8 @@ class ProgressTest(RoomTest):
         for says, seconds, told in SAID:
             with mock.patch("sys.stderr", Terminal()) as stderr, mock.patch.dict(os.environ, COLUMNS="20"), \
                     mock.patch("time.monotonic", side_effect=[0.0, *seconds]), Progress() as progress:
-                for it in says:
-                    progress.say(it)
+                for text in says:
+                    progress.say(text)
             self.assertEqual(stderr.told, "".join(f"{ERASE}{it}" for it in told))
 
     def test_nothing_is_said_where_there_is_no_terminal(self) -> None:

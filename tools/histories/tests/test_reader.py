@@ -63,7 +63,7 @@ class ReaderTest(unittest.TestCase):
 
     def test_a_job_whose_first_element_comes_last(self) -> None:
         lines = ["0 0 0 offer 0 7 2 2 x", "0 0 0 offer 1 9 2 3 x", "0 0 0 offer 2 5 2 1 x"]
-        history = read("history 1\n" + "".join(f"{it}\n" for it in lines) + "end 3\n")
+        history = read("history 1\n" + "".join(f"{line}\n" for line in lines) + "end 3\n")
         self.assertEqual(list(history.elements.firsts), [7, 7, 7])
         self.assertEqual(list(history.elements.roots), [0, 0, 0])
         self.assertEqual((history.root_of(2), history.root_of(0)), (0, None))

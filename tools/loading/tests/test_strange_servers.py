@@ -56,7 +56,7 @@ class StrangeServerTest(RoomTest):
         load("--port", self.listen(None), "--clients", 1, "--seconds", 0.2, "--record", path)
         with open(path, encoding="ascii") as file:
             told = [json.loads(line) for line in file]
-        told = [(it["request"], it["received"], it["reply"]) for it in told]
+        told = [(line["request"], line["received"], line["reply"]) for line in told]
         self.assertEqual(told, [("AT 0", None, [])])
 
     def test_a_record_that_can_not_be_written(self):

@@ -43,7 +43,7 @@ class Browser:
 
     def _attach(self) -> None:
         targets = self._ask("Target.getTargets")["targetInfos"]
-        page = next(it["targetId"] for it in targets if it["type"] == "page")
+        page = next(target["targetId"] for target in targets if target["type"] == "page")
         self._session = self._ask("Target.attachToTarget", targetId=page, flatten=True)["sessionId"]
         for domain in ("Page", "Runtime", "Log"):
             self._ask(f"{domain}.enable")

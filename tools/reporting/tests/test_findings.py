@@ -68,7 +68,7 @@ NEVER_WRITTEN = Path(__file__).with_name("never_written.txt").read_text("utf-8")
 class FindingsTest(unittest.TestCase):
     def test_what_looks_wrong(self) -> None:
         for events, says in FINDINGS:
-            self.assertEqual([it.says for it in figures(text_of(*events)).findings], says)
+            self.assertEqual([finding.says for finding in figures(text_of(*events)).findings], says)
 
     def test_what_the_program_never_writes(self) -> None:
         for row in NEVER_WRITTEN.splitlines()[2:]:

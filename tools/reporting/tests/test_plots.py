@@ -54,7 +54,7 @@ class PlotsTest(unittest.TestCase):
             (2**64 - 1, "0 ns 50,000 d 100,000 d 150,000 d 200,000 d"),
         ):
             ticks = svg.round_ticks(Scale(0, high, svg.BOTTOM, svg.TOP), DATE_STEPS, mark)
-            self.assertEqual(" ".join(it.label for it in ticks), told)
+            self.assertEqual(" ".join(tick.label for tick in ticks), told)
             self.assertTrue(all(svg.TOP <= it.place <= svg.BOTTOM for it in ticks))
 
     def test_a_backlog_of_ten_minutes(self) -> None:

@@ -36,7 +36,7 @@ MARKS = [(it, "stroke") for it in (".line.standing", ".line.expired", ".line.med
 def luminance(color: str) -> float:
     """The relative luminance of a color such as rgb(27, 33, 40), as WCAG 2 defines it."""
     parts = [int(it) / 255 for it in color[color.index("(") + 1:-1].split(",")[:3]]
-    red, green, blue = [it / 12.92 if it <= 0.04045 else math.pow((it + 0.055) / 1.055, 2.4) for it in parts]
+    red, green, blue = [part / 12.92 if part <= 0.04045 else math.pow((part + 0.055) / 1.055, 2.4) for part in parts]
     return 0.2126 * red + 0.7152 * green + 0.0722 * blue
 
 

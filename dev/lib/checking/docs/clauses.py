@@ -24,11 +24,11 @@ NO_CLAUSES = {"impl", "requires"}
 def find(top: Path) -> Iterator[str | None]:
     """Finds the names of docs/PROVED.md below a folder. The fault of one is `CRATE: CALL: NAME is not there`."""
     page, files = (top / "docs/PROVED.md").read_text("utf-8"), Tree(top).files.values()
-    definitions = {it.name for file in files if file.path.endswith(".antt") for it in file.items}
+    definitions = {item.name for file in files if file.path.endswith(".antt") for item in file.items}
     for section in page.split("\n## ")[1:]:
         crates = re.findall(r"rb_\w+", section.partition("\n")[0])
         sources = [file for file in files if file.crate in crates and file.path.endswith(".rt")]
-        ghosts, declared = {it for file in sources for it in GHOST.findall(file.bare)}, declared_in(sources)
+        ghosts, declared = {name for file in sources for name in GHOST.findall(file.bare)}, declared_in(sources)
         for call, clauses in rows_of(section) if crates else ():
             for word, is_there in names_in(declared, ghosts, call, clauses, definitions):
                 yield None if is_there else f"{', '.join(crates)}: {call}: {word} is not there"

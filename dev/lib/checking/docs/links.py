@@ -21,7 +21,7 @@ def find(top: Path) -> Iterator[str | None]:
     """Follows the links of all pages below a folder. The fault of one is `PAGE:LINE: TARGET leads nowhere`."""
     for folder, folders, names in os.walk(top):
         folders[:] = sorted({*folders} - LEFT_OUT)
-        for page in (Path(folder, it) for it in sorted(names) if it.endswith(".md")):
+        for page in (Path(folder, name) for name in sorted(names) if name.endswith(".md")):
             for line, target in links_of(page):
                 fault = f"{page.relative_to(top)}:{line}: {target} leads nowhere"
                 yield None if leads_somewhere(page, target) else fault

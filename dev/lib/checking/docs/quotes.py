@@ -36,10 +36,11 @@ def find(top: Path) -> Iterator[str | None]:
     for (place, path, lines), item in zip(quotes, items):
         yield None if item else f"{place}: {path} has nothing that is so: {lines[0]}"
         cited, outside = tree.cited_by(item, lines) if item else ([], [])
-        for it in cited:
-            is_reached = (it.path, it.name) in reached
-            yield None if is_reached else f"{place}: {it.name} of {it.path} is neither quoted nor linked"
-        for name in (it.rpartition(".")[2].replace("◌", " ").split()[0] for it in outside):
+        for definition in cited:
+            is_reached = (definition.path, definition.name) in reached
+            fault = f"{place}: {definition.name} of {definition.path} is neither quoted nor linked"
+            yield None if is_reached else fault
+        for name in (word.rpartition(".")[2].replace("◌", " ").split()[0] for word in outside):
             yield None if name in said else f"{place}: the page does not say what {name} is"
 
 
@@ -51,16 +52,17 @@ def parted(text: str) -> tuple[str, list[tuple[str, str, list[str]]]]:
     for prose, block in zip(pieces[::2], pieces[1::2]):
         path = (FILE.findall(prose) or [path])[-1]
         line += prose.count("\n")
-        for it in re.finditer(r"(?:.+\n)+", block):
-            place = f"{PAGE}:{line + block.count(chr(10), 0, it.start())}"
-            quotes.append((place, path, dedented(it[0].splitlines())))
+        for paragraph in re.finditer(r"(?:.+\n)+", block):
+            place = f"{PAGE}:{line + block.count(chr(10), 0, paragraph.start())}"
+            quotes.append((place, path, dedented(paragraph[0].splitlines())))
         line += block.count("\n")
     return "".join(pieces[::2]), quotes
 
 
 def quoted(file: SourceFile | None, lines: list[str]) -> Item | None:
     """The item of a file that these lines quote, if there is one."""
-    parts = ("(?:.*\n)+" if it.strip() == ".." else COMMENTS + re.escape(f"{it}\n") for it in lines)
+    parts = ("(?:.*\n)+" if line.strip() == ".." else COMMENTS + re.escape(f"{line}\n") for line in lines)
     whole = re.compile("".join(parts) + COMMENTS)
     items = file.items if file else []
-    return next((it for it in items if whole.fullmatch("".join(f"{line}\n" for line in it.comment + it.code))), None)
+    texts = ((item, "".join(f"{line}\n" for line in item.comment + item.code)) for item in items)
+    return next((item for item, text in texts if whole.fullmatch(text)), None)

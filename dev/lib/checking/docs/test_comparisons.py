@@ -313,5 +313,5 @@ def test_what_is_found(
         found = [*COMPARED[part].find(top)] or ["nothing was found"]
     except (Unknown, OSError) as fault:
         found = [str(fault)]
-    told = [it for it in found if it]
-    assert (len(found) - len(told), told) == (right, [it.format(top=top) for it in faults])
+    told = [fault for fault in found if fault]
+    assert (len(found) - len(told), told) == (right, [fault.format(top=top) for fault in faults])

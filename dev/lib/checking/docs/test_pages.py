@@ -10,4 +10,4 @@ from common.program import TOP
 @pytest.mark.parametrize("part", COMPARED)
 def test_pages(part: str) -> None:
     found = [*COMPARED[part].find(Path(TOP))]
-    assert found and not [it for it in found if it]
+    assert found and not [fault for fault in found if fault]

@@ -20,18 +20,19 @@ CITED_BY_TACTIC = re.compile(r"crate::(proofs(?:::\w+)+)::([^\s,)]+)")
 
 def find(top: Path) -> Iterator[str | None]:
     """Looks for each definition of a folder's crates. The fault of one is `FILE:LINE: NAME is cited nowhere`."""
-    paths = sorted(it.relative_to(top).as_posix() for files in FILES for it in top.glob(f"crates/*/{files}"))
-    files = [SourceFile(top, it) for it in paths]
-    cited = {it for file in files for it in cited_in(file)}
+    paths = sorted(path.relative_to(top).as_posix() for files in FILES for path in top.glob(f"crates/*/{files}"))
+    files = [SourceFile(top, path) for path in paths]
+    cited = {name for file in files for name in cited_in(file)}
     for file in files:
-        for it in definitions_of(file):
-            yield None if (file.module, it.name) in cited else f"{it.path}:{it.line}: {it.name} is cited nowhere"
+        for definition in definitions_of(file):
+            fault = f"{definition.path}:{definition.line}: {definition.name} is cited nowhere"
+            yield None if (file.module, definition.name) in cited else fault
 
 
 def definitions_of(file: SourceFile) -> list[Item]:
     """What may be cited. A file of src/ defines nothing here."""
     items = [] if file.path.endswith(".rt") else file.items
-    return [it for it in items if not it.code[0].partition(it.name)[2].startswith(" : goal.")]
+    return [item for item in items if not item.code[0].partition(item.name)[2].startswith(" : goal.")]
 
 
 def cited_in(file: SourceFile) -> Iterator[tuple[str, str]]:
@@ -41,7 +42,7 @@ def cited_in(file: SourceFile) -> Iterator[tuple[str, str]]:
         texts = [("", [file.bare])]
         for path, name in CITED_BY_TACTIC.findall(file.bare):
             yield f"Rattle.{file.crate}.{path.replace('::', '.')}", name
-    own = {it.name for it in definitions_of(file)}
+    own = {definition.name for definition in definitions_of(file)}
     for owner, lines in texts:
         for word in WORD.findall(COMMENT.sub("", "\n".join(lines))):
             head = word.partition(".")[0]

@@ -30,7 +30,7 @@ def find(top: Path) -> Iterator[str | None]:
         source = (top / "crates" / path).read_text("utf-8")
         for name in CALL.findall(text):
             callers = bodies if text.startswith(BACK) else bodies[-1:]
-            is_made = not bodies or any(re.search(rf"\b{name}\(", it) for it in callers)
+            is_made = not bodies or any(re.search(rf"\b{name}\(", caller) for caller in callers)
             bodies.append(body_of(source, name))
             reason = f"{path} has no {name}" if not bodies[-1] else "" if is_made else f"nothing before it calls {name}"
             yield f"{PAGE}: hop {number}: {reason}" if reason else None

@@ -24,7 +24,7 @@ def example(name: str) -> str:
 def dialogue(block: str) -> tuple[str, str]:
     """The requests and the replies of a block in two columns."""
     pairs = [re.split(r" {2,}", line) for line in block.splitlines()]
-    return "".join(f"{it[0]}\n" for it in pairs), "".join(f"{it[1]}\n" for it in pairs)
+    return "".join(f"{pair[0]}\n" for pair in pairs), "".join(f"{pair[1]}\n" for pair in pairs)
 
 
 def test_the_dialogue_of_the_protocol(run: Run) -> None:
@@ -63,7 +63,7 @@ def test_the_commands_of_histories(run: Run) -> None:
     assert [it.strip() for line, it in told.items() if " replay " in line] == [verdict] * 2
 
 
-@pytest.mark.parametrize("history", [it for it in blocks(page(HISTORY)) if it.startswith("history ")])
+@pytest.mark.parametrize("history", [block for block in blocks(page(HISTORY)) if block.startswith("history ")])
 def test_a_history_of_the_page(run: Run, tmp_path: Path, history: str) -> None:
     (tmp_path / "h").write_text(history, "ascii")
     assert run("rb_broker replay h --chains").returncode == 0
@@ -109,7 +109,7 @@ def refusals() -> Iterator[tuple[str, str, str]]:
         elif it := re.fullmatch(r"the second `(.*?)`(?: with `(.*)`)?", example_of):
             yield reply, f"{'' if it[2] else HELD}{it[1]}\n{it[1]}", it[2] or ""
         else:
-            yield from ((reply, it, "") for it in requests)
+            yield from ((reply, request, "") for request in requests)
 
 
 @pytest.mark.parametrize(("reply", "requests", "options"), refusals())
@@ -132,7 +132,7 @@ def test_the_examples_that_the_protocol_names(run: Run) -> None:
     assert told in page(PROTOCOL)
     refusals, retries = (run(f"./broker script < examples/{it}.txt").stdout for it in ("refusals", "retries"))
     assert {*re.findall(r"^ERR (\d)", refusals, re.M)} == {"1", "2", "3", "4", "8"}
-    words = [it.split()[0] for it in retries.splitlines() if it.split()[0] != "NOW"]
+    words = [line.split()[0] for line in retries.splitlines() if line.split()[0] != "NOW"]
     assert words == "OFFERED ITEM AGAIN ITEM AGAIN ITEM DONE OFFERED OFFERED DRAINED ITEM ITEM DONE AGAIN BYE".split()
 
 
@@ -185,10 +185,10 @@ TRIED = {
 @pytest.mark.parametrize("name", TRIED)
 def test_each_block_is_tried(name: str) -> None:
     begins, files = tuple(TRIED[name]), Path(__file__).parent.glob("test_*.py")
-    tests = {*re.findall(r"^def (test_\w+)", "\n".join(it.read_text("utf-8") for it in files), re.M)}
-    assert {it for it in TRIED[name].values() if it.startswith("test_")} <= tests
+    tests = {*re.findall(r"^def (test_\w+)", "\n".join(file.read_text("utf-8") for file in files), re.M)}
+    assert {value for value in TRIED[name].values() if value.startswith("test_")} <= tests
     text = re.sub(r"^```.*?^```", "", page(name), flags=re.M | re.S)
-    assert not [it for it in blocks(text) if not it.startswith(begins)]
+    assert not [block for block in blocks(text) if not block.startswith(begins)]
 
 
 def test_the_end_of_a_run_with_two_clients(program: str) -> None:

@@ -23,13 +23,13 @@ RUNS = {
 
 
 def source(*names: str) -> str:
-    return "\n".join(Path(TOP, it).read_text("utf-8") for it in names)
+    return "\n".join(Path(TOP, name).read_text("utf-8") for name in names)
 
 
 def verdicts() -> set[str]:
     """The reasons in the verdicts of the case files, which the gate compares with the program's."""
     files = Path(TOP, "crates/rb_cases/data").glob("*.case")
-    text = "\n".join(it.read_text("utf-8") for it in files)
+    text = "\n".join(file.read_text("utf-8") for file in files)
     return {*re.findall(r"^verdict \w+ \d+ (.*)$", text, re.M)}
 
 
@@ -56,7 +56,7 @@ def test_the_refusals_of_requests() -> None:
 
 
 def test_the_reasons_of_replays() -> None:
-    unreadable = {it[0].strip("`") for it in tables(section(HISTORY, "Why a text can't be read"))[0]}
+    unreadable = {row[0].strip("`") for row in tables(section(HISTORY, "Why a text can't be read"))[0]}
     headings = "Why a history is not legal", "Why retries are not right"
     rows = [row for heading in headings for row in tables(section(HISTORY, heading))[0]]
     reasons = {it for row in rows for it in re.findall(r": `([a-z ]+)`|, `([a-z ]+)`", row[1])}
@@ -73,12 +73,12 @@ def test_the_kinds_of_faults_of_verify() -> None:
 def of_service() -> str:
     """The sources of the service."""
     files = Path(TOP, "tools/servicing").glob("*.py")
-    return source("tools/service", *(it.relative_to(TOP).as_posix() for it in files))
+    return source("tools/service", *(file.relative_to(TOP).as_posix() for file in files))
 
 
 def test_the_events_of_a_service() -> None:
     events = {*re.findall(r"event=([a-z-]+)", page(OPERATING))}
-    assert events and not {it for it in events if f'"{it}"' not in of_service()}
+    assert events and not {event for event in events if f'"{event}"' not in of_service()}
 
 
 LINES = [line for row in tables(section(OPERATING, "When nothing is served"))[0] for line in code(row[1])]

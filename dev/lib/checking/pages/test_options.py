@@ -129,7 +129,7 @@ def test_a_row_of_the_gateway(options: list[str], text: str) -> None:
     assert {*options} <= {*there}
     told = [re.match(r"\w+", it)[0] for brackets in re.findall(r"\((\d[^()]*)\)", text) for it in brackets.split(", ")
             if re.match(r"\d", it)]
-    assert {*told} <= {there[it] for it in options}, text
+    assert {*told} <= {there[option] for option in options}, text
 
 
 def test_defaults_that_gateways_have_told() -> None:

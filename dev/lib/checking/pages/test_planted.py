@@ -60,9 +60,9 @@ LINKS = [
 
 def plant(top: Path, name: str, old: str, new: str) -> None:
     """Copies the pages into a folder, one with another text."""
-    for it in PAGES:
-        (top / it).parent.mkdir(parents=True, exist_ok=True)
-        shutil.copy(Path(TOP, it), top / it)
+    for page in PAGES:
+        (top / page).parent.mkdir(parents=True, exist_ok=True)
+        shutil.copy(Path(TOP, page), top / page)
     text = (top / name).read_text("utf-8")
     assert old in text
     (top / name).write_text(text.replace(old, new), "utf-8")
@@ -72,7 +72,7 @@ def plant(top: Path, name: str, old: str, new: str) -> None:
 @pytest.mark.parametrize(("name", "old", "new", "test"), PLANTED, ids=[new for _, _, new, _ in PLANTED])
 def test_a_planted_fault(tmp_path: Path, name: str, old: str, new: str, test: str) -> None:
     plant(tmp_path, name, old, new)
-    [file] = [it for it in Path(__file__).parent.glob("test_*.py") if f"def {test}(" in it.read_text("utf-8")]
+    [file] = [path for path in Path(__file__).parent.glob("test_*.py") if f"def {test}(" in path.read_text("utf-8")]
     words = [sys.executable, "-B", "-m", "pytest", "-rf", "-k", test, file]
     ran = subprocess.run(words, env={**os.environ, TESTED: str(tmp_path)}, capture_output=True, text=True, check=False)
     assert ran.returncode == 1 and f"::{test}" in ran.stdout, ran.stdout

@@ -77,7 +77,7 @@ def test_a_run_judged_from_outside(begins: Begins) -> None:
 
 def test_the_record_of_the_page(begins: Begins, tmp_path: Path) -> None:
     """The line break in it is not part of a record. Its offer is the only call of this run."""
-    record = next(it for it in blocks(page(HISTORY)) if it.startswith('{"session"')).replace("\n", "")
+    record = next(block for block in blocks(page(HISTORY)) if block.startswith('{"session"')).replace("\n", "")
     (tmp_path / "record").write_text(f"{record}\n", "ascii")
     (tmp_path / "run").write_text("history 3\nopen 0 0 0\n1 5000 5000 offer 0 5000 0 5000 1 a\nend 1\n", "ascii")
     with begins("tools/verify run record --all") as verifying:

@@ -13,7 +13,7 @@ from checking.parts import PARTS
 from common.program import TOP
 
 FOLDERS = ("*.md", "docs/*.md", "clients/*/README.md", "redis/README.md")
-PAGES = sorted(it.relative_to(TOP).as_posix() for folder in FOLDERS for it in Path(TOP).glob(folder))
+PAGES = sorted(path.relative_to(TOP).as_posix() for folder in FOLDERS for path in Path(TOP).glob(folder))
 NOW = [it for it in PAGES if it not in ("CHANGELOG.md", "docs/DECISIONS.md")]  # which speak of what was, too
 PATH = re.compile(r"(?<![\w/~.-])(?:\.\./)*"
                   r"((?:examples|tools|dev|crates|clients|redis|docs|bench|packaging)/[\w./-]*\w)")
@@ -71,7 +71,7 @@ def test_the_parts_in_the_table() -> None:
 def test_each_name_of_a_client_is_there(folder: str, kind: str) -> None:
     """Classes, such as `NotOfferedError`, and calls, such as `done()`, are in the package or its examples."""
     files = [it for part in ("src", "examples") for it in Path(TOP, folder, part).rglob(f"*.{kind}")]
-    text, spoken_of = "\n".join(it.read_text("utf-8") for it in files), "\n".join(code(page(f"{folder}/README.md")))
+    text, spoken_of = "\n".join(file.read_text("utf-8") for file in files), "\n".join(code(page(f"{folder}/README.md")))
     words = {*re.findall(r"\b(?:[A-Z][a-z]+){2,}\b", spoken_of)} | {*re.findall(r"(?<![\w.])(\w+)\(\)", spoken_of)}
     assert not {it for it in words - OTHERS if not re.search(rf"\b{it}\b", text)}
 

@@ -52,7 +52,7 @@ def test_the_calls_that_a_run_has_by_default(run: Run) -> None:
     assert run("rb_broker script", 10_001 * "SIZE\n") == (0, 10_000 * "SIZE 0\n" + "ERR 6 full\n", "")
 
 
-@pytest.mark.parametrize(("options", "timer"), [("", "heap"), *((f"--timer {it}", it) for it in ORDERS)])
+@pytest.mark.parametrize(("options", "timer"), [("", "heap"), *((f"--timer {order}", order) for order in ORDERS)])
 def test_a_timer(run: Run, options: str, timer: str) -> None:
     assert run(f"rb_broker script {options}", lines(EQUALS)) == (0, lines(f"{OFFERED}; {ORDERS[timer]}; BYE"), "")
 

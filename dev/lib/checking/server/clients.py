@@ -75,8 +75,8 @@ class Client:
 
     def requests(self, told: str) -> Iterator[str]:
         """The requests of a step."""
-        for it in told.split(", ") if told else ():
-            request, _, times = it.partition("*")
+        for piece in told.split(", ") if told else ():
+            request, _, times = piece.partition("*")
             yield from (self.request(request) for _ in range(self.some(times)))
 
     def request(self, told: str) -> str:
@@ -99,7 +99,7 @@ class Client:
 
     def await_replies(self, *requests: str) -> None:
         """Notes requests that are sent next."""
-        self.waiting += [(time.monotonic_ns(), it) for it in requests]
+        self.waiting += [(time.monotonic_ns(), request) for request in requests]
 
     def hear(self) -> list[str]:
         """Reads the reply to the first request that has none yet. Returns its lines."""
@@ -146,8 +146,8 @@ class Client:
     def work_off(self) -> None:
         """Offers jobs, fetches what is due, and ends all of it, each in one piece."""
         *_, drained, _, _ = self.ask(*self.requests("offer*8, SIZE, DRAIN 40, PEEK, DRAIN 0"))
-        held = [it.split(" ")[1] for it in drained[1:]]
-        self.ask(*[f"DONE {it}" for it in held[::2]], *[f"FAIL {it}" for it in held[1::2]])
+        held = [job.split(" ")[1] for job in drained[1:]]
+        self.ask(*[f"DONE {job}" for job in held[::2]], *[f"FAIL {job}" for job in held[1::2]])
 
     def send_half(self) -> None:
         self.await_replies("DONE (half)")
@@ -185,9 +185,10 @@ class Client:
 def early(asked: Iterable[dict[str, Any]]) -> Iterator[str]:
     """Which payloads came before their delay had passed, by the machine's clock, as the lines of records tell. Only
     first attempts count."""
-    offers = [(it["sent"], *it["request"].split(" ")) for it in asked if it["request"].startswith("OFFER ")]
+    offers = [(exchange["sent"], *exchange["request"].split(" ")) for exchange in asked if exchange["request"].startswith("OFFER ")]
     due = {payload: (sent, int(delay)) for sent, _, delay, payload in offers}
-    got = [(it["received"], line.split(" ")) for it in asked for line in it["reply"] if line.startswith("ITEM ")]
+    got = [(exchange["received"], line.split(" ")) for exchange in asked for line in exchange["reply"]
+           if line.startswith("ITEM ")]
     for received, (_, _, _, attempt, payload) in got:
         sent, delay = due.get(payload, (0, 0))
         if attempt == "1" and received - sent < delay:

@@ -58,12 +58,12 @@ def status_and_counts(server: Server) -> tuple[object, ...]:
 
 def without_moments(told: list[str]) -> list[str]:
     """The first two words of each reply."""
-    return [" ".join(it.split(" ")[:2]) for it in told]
+    return [" ".join(reply.split(" ")[:2]) for reply in told]
 
 
 def attempts(told: list[str]) -> list[str]:
     """The attempts in which jobs were given."""
-    return [it.split(" ")[3] for it in told if it.startswith("ITEM ")]
+    return [reply.split(" ")[3] for reply in told if reply.startswith("ITEM ")]
 
 
 def seconds_of(does: Callable[[], object]) -> float:

@@ -41,11 +41,12 @@ def is_legal(history: Path, *words: str) -> bool:
 
 def test_a_listener_that_is_handed_on() -> None:
     """Servers that are handed one listener, one after the other, serve all who connect, before and between them too."""
-    with listener() as it, Session(it.getsockname()[1]) as first, Session(it.getsockname()[1]) as second:
+    with listener() as listening, contextlib.ExitStack() as stack:
+        first, second = (stack.enter_context(Session(listening.getsockname()[1])) for _ in range(2))
         second.send("SIZE")
-        with handed(it, "--sessions 1") as server:
+        with handed(listening, "--sessions 1") as server:
             told = [first.ask("SIZE"), first.ask("QUIT"), server.end().status]
-        with handed(it, "--sessions 1") as server:
+        with handed(listening, "--sessions 1") as server:
             told += [second.reply()[0], second.ask("QUIT"), server.end().status]
     assert told == ["SIZE 0", "BYE", 0] * 2
 
@@ -56,18 +57,18 @@ def test_what_is_no_listener(tmp_path: Path) -> None:
     history.write_text("as it was")
     with contextlib.ExitStack() as stack:
         enter = stack.enter_context
-        it, everywhere = enter(listener()), enter(socket.create_server(("", 0)))
-        port = it.getsockname()[1]
+        listening, everywhere = enter(listener()), enter(socket.create_server(("", 0)))
+        port = listening.getsockname()[1]
         client, datagrams = enter(socket.create_connection((HOST, port))), enter(socket.socket(type=socket.SOCK_DGRAM))
-        it.setblocking(True)
+        listening.setblocking(True)
         datagrams.bind((HOST, port))
         refused = {
             "no descriptor": (1000, port),
             "a file": (enter(open(os.devnull, "rb")).fileno(), port),
-            "a connection": (enter(it.accept()[0]).fileno(), port),
+            "a connection": (enter(listening.accept()[0]).fileno(), port),
             "a client's end": (client.fileno(), client.getsockname()[1]),
             "a socket of datagrams": (datagrams.fileno(), port),
-            "a listener at another port": (it.fileno(), port + 1),
+            "a listener at another port": (listening.fileno(), port + 1),
             "a listener at all addresses": (everywhere.fileno(), everywhere.getsockname()[1]),
         }
         for name, (number, where) in refused.items():
@@ -80,10 +81,10 @@ def test_what_is_no_listener(tmp_path: Path) -> None:
 
 def test_draining(tmp_path: Path) -> None:
     """Something comes on the input: nobody else is let in, and a session ends once it holds no job."""
-    with listener() as it:
-        port, history = it.getsockname()[1], tmp_path / "drained"
+    with listener() as listening:
+        port, history = listening.getsockname()[1], tmp_path / "drained"
         words = f"--until-input-ends {MANY} --history {history}"
-        with handed(it, words, stdin=subprocess.PIPE) as server, contextlib.ExitStack() as stack:
+        with handed(listening, words, stdin=subprocess.PIPE) as server, contextlib.ExitStack() as stack:
             idle, other, holder, waits = (stack.enter_context(Session(port)) for _ in range(4))
             for client in (idle, other):
                 client.ask("SIZE")
@@ -110,7 +111,7 @@ def test_draining(tmp_path: Path) -> None:
             assert told == [None, "DONE 0", "SIZE 1", "DONE 2", b"", 0]
             assert status_and_counts(server) == (0, "sessions 4 faults 0 lost 0", "")
         words = f"--until-input-ends --sessions 1 --from {history}"
-        with handed(it, words, stdin=subprocess.PIPE) as server, late:
+        with handed(listening, words, stdin=subprocess.PIPE) as server, late:
             told = [late.reply()[0], late.ask("QUIT"), server.end().status]
             assert told == ["SIZE 1", "BYE", 0]
 
@@ -210,15 +211,15 @@ def test_a_request_without_a_reply_was_not_carried_out(
     """As many elements were offered as there are replies, in whatever pieces requests are sent."""
     with attended(f"--history {tmp_path}/counted") as server:
         producers = [Producer(server.port, piece) for _ in range(8)]
-        for it in producers:
-            it.start()
+        for producer in producers:
+            producer.start()
         time.sleep(0.2)
         asks(server)
-        for it in producers:
-            it.join()
+        for producer in producers:
+            producer.join()
         server.process.wait(PATIENCE)
         end = server.end()
-    replies = sum(it.replies for it in producers)
-    assert not [it.fault for it in producers if it.fault]
+    replies = sum(producer.replies for producer in producers)
+    assert not [producer.fault for producer in producers if producer.fault]
     assert (end.status, end.lines[0]) == (0, "sessions 8 faults 0 lost 0")
     assert replies > 0 and f'"offered":{replies},' in end.lines[1]

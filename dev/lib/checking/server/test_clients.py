@@ -73,9 +73,9 @@ def test_the_end(day: Day) -> None:
     """The server's status, its count of sessions, and the replay of its history, with the same audit line."""
     status, lines, errors = day.end
     assert (status, errors) == (0, "")
-    surely = sum(it.is_reset for it in day.clients)
-    perhaps = sum(it.is_reset or not it.is_heard for it in day.clients)
-    assert lines[0] in [f"sessions {SESSIONS} faults {it} lost 0" for it in range(surely, perhaps + 1)]
+    surely = sum(client.is_reset for client in day.clients)
+    perhaps = sum(client.is_reset or not client.is_heard for client in day.clients)
+    assert lines[0] in [f"sessions {SESSIONS} faults {count} lost 0" for count in range(surely, perhaps + 1)]
     words = ["replay", "--chains", "--delay", str(DELAY), "--attempts", str(ATTEMPTS), day.history]
     ran = subprocess.run([tested_program(), *words], capture_output=True, encoding="utf-8", check=False)
     assert (ran.returncode, ran.stderr, ran.stdout.splitlines()) == (0, "", lines[1:])
@@ -87,7 +87,7 @@ def test_the_records(day: Day, tmp_path: Path) -> None:
     record.write_text("".join(f"{line}\n" for line in day.record), "ascii")
     ran = run_tool("verify", day.history, record, "--all")
     assert ran.returncode == 0, ran.stdout + ran.stderr
-    assert not {it for it in day.replies if it.startswith("ERR ")} - REFUSALS
+    assert not {reply for reply in day.replies if reply.startswith("ERR ")} - REFUSALS
 
 
 def test_the_clock_of_the_machine(day: Day) -> None:
@@ -100,14 +100,14 @@ def test_what_became_of_jobs(day: Day) -> None:
     with day.history.open("rb") as file:
         history = read_history(file)
     assert len({*history.events.seats}) <= WORKERS
-    done = {int(it[5:]) for it in day.replies if it.startswith("DONE ")}
+    done = {int(reply[5:]) for reply in day.replies if reply.startswith("DONE ")}
     assert not [*jobs_that_differ(history, done)]
 
 
 def jobs_that_differ(history: History, done: set[int]) -> Iterator[str]:
     """Which jobs were given, neither done nor at their last attempt, and did not come back; or did all the same."""
     elements = [history.elements.element(row) for row in range(len(history.elements))]
-    attempts = {(it.origin, it.attempt) for it in elements}
+    attempts = {(element.origin, element.attempt) for element in elements}
     for element, left in zip(elements, history.elements.left_in):
         if left == NONE or history.events.acts[left] not in acts.GIVES_ONE | {acts.DRAIN}:
             continue

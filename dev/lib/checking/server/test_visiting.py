@@ -48,6 +48,6 @@ def test_each_number_of_workers(workers: int) -> None:
     """As many clients are served at the same time as there are workers."""
     with Server(["--workers", workers, "--sessions", workers]) as server, contextlib.ExitStack() as stack:
         clients = [stack.enter_context(Session(server.port)) for _ in range(workers)]
-        told = {it.ask("SIZE") for it in clients} | {it.ask("QUIT") for it in clients}
+        told = {client.ask("SIZE") for client in clients} | {client.ask("QUIT") for client in clients}
         assert told == {"SIZE 0", "BYE"}
         assert status_and_counts(server) == (0, f"sessions {workers} faults 0 lost 0", "")

@@ -30,7 +30,7 @@ def run(folder: Path, command: str, *words: str) -> subprocess.CompletedProcess[
 
 
 def set_up(folder: Path, *absent: str, parts: Sequence[str] = ()) -> subprocess.CompletedProcess[str]:
-    (folder / "there").write_text("".join(f"{it}\n" for it in PACKAGES if it not in absent))
+    (folder / "there").write_text("".join(f"{package}\n" for package in PACKAGES if package not in absent))
     for name, script in (("dpkg-query", DPKG_QUERY), ("apt-get", APT_GET), ("dpkg", "")):
         stand_in(folder, name, script)
     return run(folder, "setup", *parts)
@@ -80,7 +80,7 @@ def test_what_is_left_out(tmp_path: Path) -> None:
 
 @pytest.mark.parametrize("name", [name for name, part in PARTS.items() if part.tests])
 def test_the_tests_of_a_part_are_there(name: str) -> None:
-    assert all(Path(TOP, it).exists() for it in PARTS[name].tests)
+    assert all(Path(TOP, test).exists() for test in PARTS[name].tests)
 
 
 def test_each_attack_is_in_one_tenth() -> None:

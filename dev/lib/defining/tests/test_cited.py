@@ -124,7 +124,7 @@ def cited(top: Path, place: str, name: str) -> set[str]:
     tree = Tree(top)
     item = tree.files[place].named[name]
     found, outside = tree.cited_by(item, item.section + item.code)
-    return {it.name for it in found} | {it.rpartition(".")[2] for it in outside} - {"ℕ", "◌≡◌"}
+    return {item.name for item in found} | {word.rpartition(".")[2] for word in outside} - {"ℕ", "◌≡◌"}
 
 
 @pytest.mark.parametrize(("place", "name", "names"), ITEMS)
@@ -138,12 +138,12 @@ def test_terms(files: Files, term: str, names: str) -> None:
     assert cited(files({**CRATES, SHELF: text}), SHELF, "f") == {*names.split()}
 
 
-@pytest.mark.parametrize(("_", "names", "text"), DEFINITIONS, ids=[it[0] for it in DEFINITIONS])
+@pytest.mark.parametrize(("_", "names", "text"), DEFINITIONS, ids=[definition[0] for definition in DEFINITIONS])
 def test_definitions(files: Files, _: str, names: str, text: str) -> None:
     assert cited(files({**CRATES, SHELF: CRATES[SHELF] + text}), SHELF, "f") == {*names.split()}
 
 
 def test_the_crates_of_this_repository() -> None:
     tree = Tree(Path(TOP))
-    items = [it for file in tree.files.values() for it in file.items]
-    assert 1_000 < len([tree.cited_by(it, it.section + it.code) for it in items])
+    items = [item for file in tree.files.values() for item in file.items]
+    assert 1_000 < len([tree.cited_by(item, item.section + item.code) for item in items])
