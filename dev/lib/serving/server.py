@@ -62,13 +62,20 @@ class Server:
             limit = threading.Timer(2 * PATIENCE, self.process.kill)
             limit.daemon = True  # a signal may end this process meanwhile
             limit.start()
-            said = self.process.stdout.readline()
+            said = self._first_line()
             limit.cancel()
             if said == f"listening {HOST}:{self.port}\n":
                 return
             self.process.kill()
             _, errors = self.process.communicate()
         raise NoServer(f"no server could be started: {errors.strip()}")
+
+    def _first_line(self) -> str:
+        """Its first line, and no byte behind that, since `communicate` leaves out what was read before."""
+        said = b""
+        while not said.endswith(b"\n") and (byte := os.read(self.process.stdout.fileno(), 1)):
+            said += byte
+        return said.decode()
 
     def __enter__(self) -> Self:
         return self

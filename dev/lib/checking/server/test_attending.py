@@ -5,6 +5,7 @@ come is waited for, and what must not come is given some time.
 """
 import contextlib
 import os
+import re
 import socket
 import subprocess
 import threading
@@ -177,7 +178,8 @@ def test_an_attendant_that_is_killed(requests: list[str], tmp_path: Path) -> Non
 
 
 class Producer(threading.Thread):
-    """A client that offers in pieces of so many until its session ends, and counts the replies that it got."""
+    """A client that offers in pieces of so many until its session ends, and counts the offers that were carried out by
+    their replies. In a full run others are refused."""
 
     def __init__(self, port: int, piece: int) -> None:
         super().__init__()
@@ -189,7 +191,7 @@ class Producer(threading.Thread):
                 with contextlib.suppress(BrokenPipeError, ConnectionResetError):
                     while self.offers(client):
                         pass
-                self.replies += client.rest().count(b"\n")
+                self.replies += len(re.findall(rb"^OFFERED .*\n", client.rest(), re.M))
         except Exception as fault:  # whatever it is, it is told
             self.fault = repr(fault)
 
@@ -197,9 +199,10 @@ class Producer(threading.Thread):
         """Offers once more, and returns whether all was answered."""
         client.send(*["OFFER 1000000000000 job"] * self.piece)
         for _ in range(self.piece):
-            if not client.replies.readline().endswith(b"\n"):
+            line = client.replies.readline()
+            if not line.endswith(b"\n"):
                 return False
-            self.replies += 1
+            self.replies += line.startswith(b"OFFERED ")
         return True
 
 
