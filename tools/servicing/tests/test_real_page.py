@@ -1,7 +1,7 @@
 """The page of a service that really runs, in a browser. RB_BROKER_DAY is for how many seconds it does, and
-RB_BROKER_PICTURE names a file that gets a picture of the page: docs/service.png is one of an hour.
+RB_BROKER_PICTURE names a file that gets a picture of the page: docs/service.png is one of half an hour.
 
-    RB_BROKER_DAY=3600 RB_BROKER_PICTURE=docs/service.png dev/check service --only test_real_page
+    RB_BROKER_DAY=1800 RB_BROKER_PICTURE=docs/service.png dev/check service --only test_real_page
 """
 import contextlib
 import os
@@ -26,6 +26,12 @@ CLIENTS = "document.querySelectorAll('#clients tbody tr').length"
 LINKS = "[...document.querySelectorAll('#runs a')].map((it) => it.getAttribute('href'))"
 LIVE = "document.querySelector('#attention').getAttribute('aria-live')"
 TEXT = "document.body.innerText"
+
+
+def asked(it: Client, request: str) -> str:
+    """The reply. Raises an `EOFError` when the run has ended."""
+    it.send(request)
+    return it.line()
 
 
 class RealPageTest(PageTest, ServiceTest):
@@ -60,7 +66,7 @@ class RealPageTest(PageTest, ServiceTest):
                 it.greeted()
                 while not is_over.wait(chance.expovariate(3)):
                     number += 1
-                    it.ask(f"OFFER {int(chance.triangular(0, 20, 2) * 1e9)} reminder-{number}")
+                    asked(it, f"OFFER {int(chance.triangular(0, 20, 2) * 1e9)} reminder-{number}")
 
     def works(self, is_over: threading.Event) -> None:
         chance = random.Random(2)
@@ -68,9 +74,9 @@ class RealPageTest(PageTest, ServiceTest):
             with contextlib.suppress(OSError, EOFError), Client(self.port) as it:
                 it.greeted()
                 while not is_over.is_set():
-                    words = it.ask("TAKE").split(" ")
+                    words = asked(it, "TAKE").split(" ")
                     if words[0] == "ITEM":
-                        it.ask(f"{'FAIL' if chance.random() < 0.05 else 'DONE'} {words[1]}")
+                        asked(it, f"{'FAIL' if chance.random() < 0.05 else 'DONE'} {words[1]}")
 
     def looks_right(self, ended: int) -> None:
         self.shows(f"{CHARTS}.map((it) => it.split(':')[0])", [
