@@ -136,13 +136,13 @@ def saved(parts: Parts, run: Current) -> Next:
         parts.until_written(f"run-{record.number}.txt", lambda: parts.runs.save_history(server), server)
         sessions, lost_jobs = server.counts
         end = replace(_end_of(why, told), sessions=sessions, lost_jobs=lost_jobs, cut=run.cut)
+        if end.lost_jobs:  # which is said before it is written down, as a service is killed at any moment
+            say("error", "lost-jobs", run=record.number, jobs=end.lost_jobs,
+                text="they failed when the run was full, and could not come back")
         _write_end(parts, record, end)
         following = parts.runs.after(record, told.left)
         say("info", "saved", run=record.number, calls=end.calls, offered=end.offered, given=end.given, left=end.left,
             lost_jobs=end.lost_jobs or None, cut=end.cut or None)
-        if end.lost_jobs:
-            say("error", "lost-jobs", run=record.number, jobs=end.lost_jobs,
-                text="they failed when the run was full, and could not come back")
         offered = end.offered or 0
         parts.showing.count(offered, record.opening + offered - len(told.left.elements), told.left.failed)
     server.close()
@@ -150,11 +150,13 @@ def saved(parts: Parts, run: Current) -> Next:
 
 
 def _lost(parts: Parts, record: Run, why: str) -> Next:
-    """A run is lost: it is said once, and the next one begins where it began."""
-    _write_end(parts, record, End(time.time(), Reason.KILLED))
-    it = parts.runs.records[record.number]
+    """A run is lost: it is said, before that is written down and said no more, and the next one begins where it
+    began."""
+    end = End(time.time(), Reason.KILLED)
+    it = replace(record, end=end)
     say("error", "lost-run", run=record.number, lasted=f"{it.lasted:.1f}s", opening=record.opening,
         aside=record.aside or None, why=why, text=lost_text(it))
+    _write_end(parts, record, end)
     return parts.runs.again(record, record.calls)
 
 

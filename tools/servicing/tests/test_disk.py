@@ -1,4 +1,5 @@
 """Disks that are full, and folders that are not as they should be."""
+import contextlib
 import json
 import os
 import shutil
@@ -62,6 +63,20 @@ class FullDiskTest(ServiceTest):
                 with self.serving(folder=self.small):
                     self.has_left(JOBS)
                 self.clear()
+
+    def test_a_lost_run_is_said_before_it_can_be_written_down(self) -> None:
+        """A service that is killed in between leaves that to the next one."""
+        service = self.begin(folder=self.small)
+        with open(f"{self.small}/much", "wb", 0) as file, contextlib.suppress(OSError):
+            while file.write(b"x" * 4096):
+                pass
+        os.kill(service.server, signal.SIGKILL)
+        self.assertEqual(service.wait("lost-run")["run"], "1")
+        service.wait("disk")
+        service.kill()
+        os.unlink(f"{self.small}/much")
+        with self.serving(folder=self.small, lost=1):
+            self.has_left(0)
 
     def test_it_is_killed_meanwhile(self) -> None:
         service = self.begin("--every", "2s", folder=self.small)
