@@ -14,13 +14,13 @@ WAITS = (b"TAKE", b"POLLFOR")
 def expected(answer: str, line: bytes) -> Request:
     """The request of a table's answer, which repeats the line in lower case, or names a fault."""
     if answer.upper() in ErrorReply.__members__:
-        return Request(Kind.ERROR, ErrorReply[answer.upper()].value)
+        return Kind.ERROR, ErrorReply[answer.upper()].value
     keyword = line.split(b" ")[0]
     if keyword == b"AT":
-        return Request(Kind.AT, line[3:])
+        return Kind.AT, line[3:]
     if keyword == b"QUIT":
-        return Request(Kind.QUIT, line)
-    return Request(Kind.WAIT if keyword in WAITS else Kind.CALL, line)
+        return Kind.QUIT, line
+    return Kind.WAIT if keyword in WAITS else Kind.CALL, line
 
 
 def rows() -> list[tuple[bytes, str]]:

@@ -202,7 +202,7 @@ local function lease_is_over() return redis.error_reply('LEASE the lease of this
 
 -- Whether the sessions of a gateway are ended just now.
 local function is_ended(keys, gateway)
-    for _, ended in ipairs(redis.call('ZRANGEBYSCORE', keys[7], ENDED, ENDED)) do
+    for _, ended in ipairs(redis.call('ZRANGE', keys[7], ENDED, ENDED, 'BYSCORE')) do
         if ended == gateway then return true end
     end
     return false

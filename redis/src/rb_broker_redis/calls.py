@@ -166,13 +166,13 @@ class Calls:
         now = time.monotonic()
         self._turns.adapt(len(batch), len(replies), now - max(batch.sent, self._answered_at))
         self._answered_at = now
-        batch.take(replies)
-        self._turns.put_back(batch)
+        whole = batch.take(replies)
+        if len(whole) < len(batch.parts):
+            self._turns.put_back(batch)
         if self._turns:
             self._schedule()
-        for part in batch.parts:
-            if len(part.replies) == len(part.calls):
-                part.end(part.replies)
+        for part in whole:
+            part.answered(part.replies)
 
     def _copied(self, link: Link, batch: Batch, answer: Answer, count: Answer) -> None:
         """So many replicas have what the batch did. If they are too few, a fail-over may lose it: others are waited for,

@@ -3,7 +3,6 @@ from __future__ import annotations
 
 import re
 from enum import Enum, auto
-from typing import NamedTuple
 
 from .protocol import GREATEST_NUMBER, MOST_LINE_BYTES, ErrorReply
 
@@ -22,12 +21,8 @@ class Kind(Enum):
     """It is refused. Its text is the reply."""
 
 
-class Request(NamedTuple):
-    """A line that was read."""
-
-    kind: Kind
-    text: bytes
-
+Request = tuple[Kind, bytes]
+"""A line that was read, with its text."""
 
 # What each keyword asks for, and how many words follow it: a number, and behind that a payload.
 _FORMS = {
@@ -73,7 +68,7 @@ def read_request(line: bytes) -> Request:
     """Reads a line, which is given without its line feed. One CR at its end belongs to the end."""
     usual = _USUAL.fullmatch(line)
     if usual and (group := usual.lastindex):
-        return Request(_KINDS[group], usual[group])
+        return _KINDS[group], usual[group]
     return _read_unusual(line[:-1] if line.endswith(b"\r") else line)
 
 
@@ -88,9 +83,9 @@ def _read_unusual(line: bytes) -> Request:
         return refused(ErrorReply.NUMBER)
     if count == 2 and not _PAYLOAD.fullmatch(words[1]):
         return refused(ErrorReply.PAYLOAD)
-    return Request(kind, words[0] if kind is Kind.AT else line)
+    return kind, words[0] if kind is Kind.AT else line
 
 
 def refused(reply: ErrorReply) -> Request:
     """A line with this fault."""
-    return Request(Kind.ERROR, reply.value)
+    return Kind.ERROR, reply.value

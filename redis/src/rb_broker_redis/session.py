@@ -33,15 +33,22 @@ NO_WAIT = b"POLLFOR 0"
 TRUNCATED = refused(ErrorReply.LINE)
 
 
+CALL, WAIT, QUIT, AT = Kind.CALL, Kind.WAIT, Kind.QUIT, Kind.AT
+
 MORE_HELD = {b"ITEM": 1, b"DONE": -1, b"AGAI": -1, b"DEAD": -1}
 """By the first bytes of a reply."""
 
 
-def more_held_by(reply: bytes) -> int:
-    """How many more jobs a session holds behind this reply."""
-    if reply.startswith(b"DRAINED"):
-        return int(reply.partition(b"\n")[0].split(b" ")[1])
-    return MORE_HELD.get(reply[:4], 0)
+def more_held_by(replies: list[bytes]) -> int:
+    """How many more jobs a session holds behind these replies."""
+    more = 0
+    for reply in replies:
+        start = reply[:4]
+        if start in MORE_HELD:
+            more += MORE_HELD[start]
+        elif start == b"DRAI":
+            more += int(reply.partition(b"\n")[0].split(b" ")[1])
+    return more
 
 
 class Session(asyncio.Protocol):
@@ -56,6 +63,7 @@ class Session(asyncio.Protocol):
         self._seat = b""
         """What stands before each of its calls: its number at the queue, and a space. Its lines wait for it."""
         self._plan: list[bytes | None] = []
+        """The replies to the lines that are carried out, with None for those that the queue gives; empty if it gives all."""
         self._wait_request = b""
         """The request of a plan that may have to wait."""
         self._wait: Wait | None = None
@@ -173,36 +181,46 @@ class Session(asyncio.Protocol):
         self._is_at_end = True
 
     def _calls_of_next(self) -> list[bytes]:
+        lines, seat, is_retiring = self._lines, self._seat, self._is_retiring
+        if len(lines) == 1 and not is_retiring and (only := lines[0]) is not None:
+            kind, text = read_request(only)
+            if kind is CALL or kind is WAIT:  # as most are
+                lines.clear()
+                self._plan = []
+                return [seat + (text if kind is CALL else self._call_that_may_wait(text, True))]
         calls: list[bytes] = []
         plan: list[bytes | None] = []
-        lines, seat = self._lines, self._seat
         while lines and len(plan) < MOST_AT_ONCE:
             line = lines.popleft()
-            kind, text = TRUNCATED if line is None else read_request(line)
-            if self._is_retiring and text.startswith(FETCHES):
+            kind, text = read_request(line) if line is not None else TRUNCATED
+            if is_retiring and text.startswith(FETCHES):
                 if plan:
                     lines.appendleft(line)
-                elif kind is Kind.WAIT:
+                elif kind is WAIT:
                     self._wait_request = text
                 else:
                     self._come_to_rest()
                 break
-            if kind is Kind.CALL:
+            if kind is CALL:
                 calls.append(seat + text)
                 plan.append(None)
-            elif kind is Kind.WAIT:
-                call = b"WAIT" if self._gateway.waits and text != NO_WAIT else text
-                calls.append(seat + (call if plan or self._held >= MOST_HELD else call.lower()))
-                self._wait_request = text
+            elif kind is WAIT:
+                calls.append(seat + self._call_that_may_wait(text, not plan))
                 break
-            elif kind is Kind.QUIT:
+            elif kind is QUIT:
                 self._come_to_rest()
                 plan.append(BYE)
                 break
             else:
-                plan.append(ErrorReply.SYNTAX if kind is Kind.AT else text)
-        self._plan = plan
+                plan.append(ErrorReply.SYNTAX if kind is AT else text)
+        self._plan = plan if any(plan) else []
         return calls
+
+    def _call_that_may_wait(self, request: bytes, is_first: bool) -> bytes:
+        """The call of a TAKE or a POLLFOR. What calls before it let the session hold is not known yet."""
+        self._wait_request = request
+        call = b"WAIT" if self._gateway.waits and request != NO_WAIT else request
+        return call.lower() if is_first and self._held < MOST_HELD else call
 
     def _answered(self, replies: list[bytes] | None) -> None:
         """The calls that were under way are answered."""
@@ -223,11 +241,10 @@ class Session(asyncio.Protocol):
             later = replies.pop()
         else:
             self._wait_request = b""
-        self._held += sum(map(more_held_by, replies))
-        plan = self._plan
-        if len(plan) > 1 or plan and plan[0] is not None:
+        self._held += more_held_by(replies)
+        if self._plan:
             given = iter(replies)
-            replies = [next(given) if reply is None else reply for reply in plan] + list(given)
+            replies = [next(given) if reply is None else reply for reply in self._plan] + list(given)
         if replies and not self._is_gone:
             self._transport.write(replies[0] if len(replies) == 1 else b"".join(replies))
         return later

@@ -31,6 +31,10 @@ AT_AN_END = {b"DONE": ErrorReply.NOT_HELD, b"FAIL": ErrorReply.NOT_HELD, b"END":
 """What calls of a session are answered that has ended. The others have no reply."""
 
 
+NONE: list[bytes] = []
+"""The replies of a part that has none yet."""
+
+
 def word_of(call: bytes) -> bytes:
     """What a call asks for."""
     return call.split(b" ")[1]
@@ -45,33 +49,24 @@ class Part:
     """Calls that were submitted together. They are made in their order, some at a time: the next ones go out once those
     before them are answered."""
 
-    __slots__ = ("front", "calls", "replies", "count", "sessions", "_answered")
+    __slots__ = ("front", "calls", "replies", "count", "sessions", "answered")
 
     def __init__(self, front: bytes, calls: list[bytes], answered: Answered, sessions: int) -> None:
         """`front` names the gateway whose sessions make the calls; `sessions` is how many these are."""
-        self.front, self.calls, self._answered, self.sessions = front, calls, answered, sessions
-        self.replies: list[bytes] = []
+        self.front, self.calls, self.answered, self.sessions = front, calls, answered, sessions
+        self.replies = NONE
         self.count = 0
         """How many calls are under way."""
 
     def under_way(self) -> list[bytes]:
         """The calls that are under way."""
         start = len(self.replies)
-        return self.calls[start:start + self.count] if start or self.count < len(self.calls) else self.calls
-
-    def take(self, replies: list[bytes]) -> None:
-        """The first of the calls that are under way are made, with these replies; the others are not."""
-        self.replies = self.replies + replies if self.replies else replies
-        self.count = 0
-
-    def end(self, replies: list[bytes] | None) -> None:
-        """Tells the submitter the replies, or that they are in doubt."""
-        self._answered(replies)
+        return self.calls[start:start + self.count]
 
     def end_at_an_end(self) -> None:
         """The sessions have ended, and no further call is made: what they held they do not hold any more."""
         words = [word_of(it) for it in self.calls[len(self.replies):]]
-        self.end([*self.replies, *(AT_AN_END[it] for it in words)] if AT_AN_END.keys() >= {*words} else None)
+        self.answered([*self.replies, *(AT_AN_END[it] for it in words)] if AT_AN_END.keys() >= {*words} else None)
 
     def withhold(self, front: bytes, start: int) -> None:
         """Fetches nothing for the session before whose calls this stands, from this call on."""
@@ -90,26 +85,29 @@ class Batch:
 
     def calls(self) -> list[bytes]:
         """All calls, in their order."""
-        calls: list[bytes] = []
-        for part in self.parts:
-            calls += part.under_way()
-        return calls
+        return [call for part in self.parts
+                for call in (part.calls if part.count == len(part.calls) else part.under_way())]
 
     def __len__(self) -> int:
         return sum([part.count for part in self.parts])
 
-    def take(self, replies: list[bytes]) -> None:
-        """Gives each part its replies. There may be fewer than calls: then the last ones were not made."""
-        start = 0
+    def take(self, replies: list[bytes]) -> list[Part]:
+        """Gives each part its replies. There may be fewer than calls: then the last ones were not made. Returns the parts
+        that have all of theirs."""
+        start, whole = 0, []
         for part in self.parts:
             end = start + part.count
-            part.take(replies[start:end])
+            part.replies = part.replies + replies[start:end] if part.replies else replies[start:end]
+            part.count = 0
+            if len(part.replies) == len(part.calls):
+                whole.append(part)
             start = end
+        return whole
 
     def doubt(self) -> None:
         """Nobody knows whether the calls were made."""
         for part in self.parts:
-            part.end(None)
+            part.answered(None)
 
 
 class Turns:
@@ -120,6 +118,8 @@ class Turns:
         self._others: deque[Part] = deque()
         """Those of which calls have been made."""
         self._most = 4 * LEAST
+        self._new_calls = 0
+        """How many calls the new parts have."""
 
     def __bool__(self) -> bool:
         return bool(self._new or self._others)
@@ -131,10 +131,13 @@ class Turns:
     def add(self, part: Part) -> None:
         """A part is new."""
         self._new.append(part)
+        self._new_calls += len(part.calls)
 
     def take(self, function: bytes) -> Batch:
         """The calls that go out next, for this function. They are of one gateway's number. There must be some."""
         new, others, room, turn = self._new, self._others, self._most, 0
+        if not others and self._new_calls <= room and new[0].front is new[-1].front:
+            return self._all_new(function)
         front = (new or others)[0].front
         parts: list[Part] = []
         waiting: list[tuple[Part, int]] = []  # those with more calls than their share
@@ -145,6 +148,7 @@ class Turns:
                 break
             turn = turn + 1 if is_new else 0
             parts.append((new if is_new else others).popleft())
+            self._new_calls -= len(part.calls) if is_new else 0
             left = len(part.calls) - len(part.replies)
             part.count = min(left, (FIRST_SHARE if is_new else SHARE) * part.sessions, room) if left > 1 else left
             room -= part.count
@@ -155,10 +159,21 @@ class Turns:
             part.count, room = part.count + more, room - more
         return Batch(parts, function)
 
+    def _all_new(self, function: bytes) -> Batch:
+        """The calls of all new parts: nobody has to wait for another turn."""
+        batch = Batch([*self._new], function)
+        for part in batch.parts:
+            part.count = len(part.calls)
+        self._new.clear()
+        self._new_calls = 0
+        return batch
+
     def put_back(self, batch: Batch) -> None:
         """Those of whose parts calls are left have their turns again: whoever had none made is first."""
         left = [it for it in batch.parts if len(it.replies) < len(it.calls)]
-        self._new.extendleft(it for it in reversed(left) if not it.replies)
+        unserved = [it for it in left if not it.replies]
+        self._new.extendleft(reversed(unserved))
+        self._new_calls += sum(len(it.calls) for it in unserved)
         self._others.extend(it for it in left if it.replies)
 
     def adapt(self, sent: int, made: int, seconds: float) -> None:
