@@ -4,7 +4,7 @@ from __future__ import annotations
 import unittest
 
 from rb_broker_redis.address import read_address
-from rb_broker_redis.replicas import Replica, Replicas, Told
+from rb_broker_redis.replicas import Replica, Replicas, Told, following
 
 ONE, TWO, THREE = (("127.0.0.1", port) for port in (7001, 7002, 7003))
 
@@ -68,3 +68,9 @@ class ReplicasTest(unittest.TestCase):
         self.assert_wanted(2, Told(ONE, [follows(TWO), follows(THREE)]))
         self.assert_wanted(1, Told(TWO, [down(ONE), follows(THREE)]))
         self.assert_wanted(1, Told(TWO, [apart(ONE), follows(THREE)]))
+
+    def test_who_follows_the_primary(self) -> None:
+        """Not one that is not in step, or has stood still or is cut off for a while."""
+        lines = [f"slave{number}:ip=127.0.0.1,port=70{number:02},state={state},offset=7,lag={lag}\r\n"
+                 for number, (state, lag) in enumerate((("online", 0), ("online", 2), ("online", 3), ("send_bulk", 0)))]
+        self.assertEqual(following(f"# Replication\r\nrole:master\r\n{''.join(lines)}master_failover_state:x".encode()), 2)

@@ -4,10 +4,14 @@ All have to that a Sentinel can reach, since each of those may take over: also o
 since a Sentinel may know of its state before that. A primary that is replaced, and does not know it yet, has lost the
 replica that replaces it: so it can answer nothing any more. It need not have what is done itself before it follows the
 new one: the Sentinels know that it has less.
+
+Who follows the primary is counted in any case. A Sentinel on a busy machine may not reach one that does; if that were
+not waited for, its word would do in the place of another's, and the other may take over.
 """
 from __future__ import annotations
 
 import asyncio
+import re
 from collections import Counter
 from collections.abc import Sequence
 from typing import Any, NamedTuple
@@ -19,6 +23,8 @@ from redis.exceptions import RedisError
 from .address import Address
 
 SECONDS_TO_ANSWER = 1.0
+MOST_LAG = 2
+"""A replica tells each second what it has. One that has told nothing for more seconds does not follow."""
 
 Place = tuple[str, int]
 
@@ -84,6 +90,11 @@ class Replicas:
         """Closes the connections."""
         for it in self._sentinels:
             await it.close()
+
+
+def following(info: bytes) -> int:
+    """How many replicas follow a primary, by its INFO about its replication."""
+    return sum(int(lag) <= MOST_LAG for lag in re.findall(rb"^slave\d+:.*,state=online,.*,lag=(\d+)\r$", info, re.M))
 
 
 def _replica(it: dict[str, Any]) -> Replica:
