@@ -1,12 +1,9 @@
-"""What a Redis answers, read with and without hiredis."""
+"""What a Redis is sent and what it answers."""
 from __future__ import annotations
 
-import importlib.util
 import unittest
-from collections.abc import Callable
-from typing import Any
 
-from rb_broker_redis.resp import ErrorAnswer, PlainReader, command, reader
+from rb_broker_redis.resp import ErrorAnswer, command, reader
 
 SENT = (b"+OK\r\n:-5\r\n$-1\r\n$3\r\na\r\n\r\n*-1\r\n*0\r\n*3\r\n$5\r\nSIZE \r\n:2\r\n*1\r\n$0\r\n\r\n"
         b"-OOM command not allowed\r\n")
@@ -18,23 +15,15 @@ def plain(answer: object) -> object:
 
 
 class RespTest(unittest.TestCase):
-    def assert_reads(self, make: Callable[[], Any]) -> None:
-        """Such a reader reads answers however they arrive."""
+    def test_answers_are_read_however_they_arrive(self) -> None:
         for size in (1, 2, 3, 7, len(SENT)):
             with self.subTest(size=size):
-                it, answers = make(), []
+                it, answers = reader(), []
                 for start in range(0, len(SENT), size):
                     it.feed(SENT[start:start + size])
                     while (answer := it.gets()) is not False:
                         answers.append(plain(answer))
                 self.assertEqual(answers, READ)
-
-    def test_a_plain_reader_reads_answers(self) -> None:
-        self.assert_reads(PlainReader)
-
-    @unittest.skipUnless(importlib.util.find_spec("hiredis"), "there is no hiredis")
-    def test_hiredis_reads_the_same(self) -> None:
-        self.assert_reads(reader)
 
     def test_an_error_has_a_code(self) -> None:
         self.assertEqual(ErrorAnswer("MOVED 5 127.0.0.1:7000").code, "MOVED")

@@ -2,9 +2,10 @@
 import sys
 
 try:
+    import hiredis  # noqa: F401
     from redis import RedisError  # noqa: F401  not `import redis`: a folder of that name would do for it
 except ImportError:
-    sys.exit("rb_broker_redis: this needs redis-py, Debian's python3-redis")
+    sys.exit("rb_broker_redis: this needs redis-py and hiredis, Debian's python3-redis and python3-hiredis")
 
 from .command import main
 
