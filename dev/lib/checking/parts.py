@@ -27,6 +27,7 @@ class Part:
     needs: Sequence[str] = ()
     packages: str = ""
     at_once: int = 1
+    by_test: bool = False
     runs_program: bool = True
     is_long: bool = False
     is_alone: bool = False
@@ -47,7 +48,7 @@ class Part:
         words = [python_with_pytest(), "-B", "-m", "pytest", *self.tests]
         at_once = int(os.environ.get("RB_BROKER_AT_ONCE") or self.at_once or PROCESSORS)
         if self.at_once != 1 and at_once > 1:
-            words += ["-n", str(at_once), "--dist", "loadscope"]
+            words += ["-n", str(at_once), "--dist", "load" if self.by_test else "loadscope"]
         words += ["-k", " or ".join(only), "--timeout", "0"] if only else ["--timeout", str(PATIENCE)]
         return words + ["--may-skip", "|".join(self.may_skip)] if is_strict else words
 

@@ -1,0 +1,1 @@
+"""The client package for Java, clients/java, with its tests, which JUnit runs."""
