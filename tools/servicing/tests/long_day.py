@@ -16,6 +16,7 @@ from servicing.tests.store import Store
 SECONDS = float(os.environ.get("RB_BROKER_DAY", "100"))
 STATES = ("serving", "ending", "between-runs", "saved", "service")
 EVERY, PAUSE = (20, 20.0) if SECONDS >= 600 else (5, 4.0)  # seconds of a run, and about that between two kills
+PATIENCE = 600  # seconds for what is left at the end
 WORK, DELAY = 0.04, 2.0  # seconds: the longest job and the longest delay
 
 
@@ -125,15 +126,15 @@ class DayTest(ServiceTest):
         services[-1].wait("serving", 2 if what == "server" and len(services[-1].all("serving")) > 1 else 1)
 
     def rest(self) -> list[tuple[str, int]]:
-        """Does what is left, with the run in which that was."""
-        done = []
-        until = time.monotonic() + DELAY + 5
-        while time.monotonic() < until:
+        """Does what is left until nothing is, with the run in which that was. On a busy machine that may take long."""
+        done, is_empty, end = [], False, time.monotonic() + PATIENCE
+        while not is_empty and time.monotonic() < end:
             with contextlib.suppress(OSError, EOFError), Client(self.port) as it:
                 run = int(it.greeted().greeting.split(" ")[1])
                 while (words := it.ask("POLLFOR 500000000").split(" "))[0] == "ITEM":
                     if it.ask(f"DONE {words[1]}").startswith("DONE "):
                         done.append((words[4], run))
+                is_empty = it.ask("SIZE") == "SIZE 0"  # nor does anything wait until it is due
         return done
 
     def judge(self, services: list[Service], ledgers: list[Ledger], rest: list[tuple[str, int]], kills: int) -> None:
