@@ -69,6 +69,13 @@ class ReplicasTest(unittest.TestCase):
         self.assert_wanted(1, Told(TWO, [down(ONE), follows(THREE)]))
         self.assert_wanted(1, Told(TWO, [apart(ONE), follows(THREE)]))
 
+    def test_what_most_name_counts_though_they_are_too_few_to_replace_a_primary(self) -> None:
+        self.assertIsNone(self.replicas.named)
+        before, after = Told(ONE, [down(TWO), down(THREE)]), Told(TWO, [down(ONE), follows(THREE)])
+        for told, named, primary in (([before], ONE, None), ([before, after, after], TWO, TWO), ([before], ONE, TWO), ([], None, TWO)):
+            self.replicas.take(told)
+            self.assertEqual((self.replicas.named, self.replicas.primary), (named, primary))
+
     def test_who_follows_the_primary(self) -> None:
         """Not one that is not in step, or has stood still or is cut off for a while."""
         lines = [f"slave{number}:ip=127.0.0.1,port=70{number:02},state={state},offset=7,lag={lag}\r\n"

@@ -51,6 +51,8 @@ class Replicas:
     def __init__(self, address: Address) -> None:
         login: dict[str, Any] = {**address.sentinel_login, "socket_timeout": SECONDS_TO_ANSWER}
         self._master, self._sentinels = address.master, Sentinel(list(address.hosts), sentinel_kwargs=login).sentinels
+        self.named: Place | None = None
+        """The node that most of those named that answered last."""
         self.primary: Place | None = None
         """The node that a majority named last."""
         self.wanted: int | None = None
@@ -66,11 +68,11 @@ class Replicas:
     def take(self, told: Sequence[Told]) -> None:
         """Takes what some of them say, which counts if they are a majority."""
         least = len(self._sentinels) // 2 + 1
-        for primary, votes in Counter(it.primary for it in told).items():
-            if votes >= least:
-                if self.primary and self.primary != primary:
-                    self._replaced.add(self.primary)
-                self.primary = primary
+        self.named, votes = next(iter(Counter(it.primary for it in told).most_common(1)), (None, 0))
+        if self.named and votes >= least:
+            if self.primary and self.primary != self.named:
+                self._replaced.add(self.primary)
+            self.primary = self.named
         if len(told) >= least:
             replicas = [it for one in told for it in one.replicas]
             self._replaced -= {it.place for it in replicas if it.follows and not it.is_down}
