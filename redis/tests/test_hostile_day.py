@@ -29,7 +29,7 @@ from checking.testing import run_tool
 from crew import Crew, Producer, compiled_java
 from gateways import COMMAND, POLICY, Gateway
 from judging import faults_in, replay_chains
-from nodes import ALWAYS, Cluster, Node, Process, Replicas, Sentinels, wait_until
+from nodes import ALWAYS, Cluster, Node, NotReady, Process, Replicas, Sentinels, wait_until
 from rb_broker_redis.archive_folder import ArchiveFolder
 from rb_broker_redis.shards import shard_names
 from redis_test import RoomTest
@@ -282,9 +282,9 @@ class SentinelTest(Day):
     def fail_over(self) -> None:
         before = self.sentinels.primary()
         self.note_slow(before)
-        with contextlib.suppress(redis.ResponseError):  # the last one is not over
+        with contextlib.suppress(redis.ResponseError, NotReady):  # the one before is not over, or this one is given up
             redis.Redis(HOST, self.sentinels.ports[0]).execute_command("SENTINEL", "FAILOVER", self.sentinels.name)
-            wait_until(lambda: self.sentinels.primary() is not before, "no replica takes over")
+            wait_until(lambda: self.sentinels.primary() is not before, "no replica takes over", 10)
         self.await_replicas()
 
     def await_replicas(self) -> None:
