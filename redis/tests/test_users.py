@@ -99,7 +99,7 @@ class UsersTest(RedisTest):
                 wait_until(lambda: self.node.ask("HGET", "{jobs}:state", "wake") == b"~", "nobody waits")
                 served.ask("OFFER 0 f")
                 self.assertRegex(talker.read(), "ITEM")
-            wait_until(lambda: self.node.ask("ZCARD", "{jobs}:dead") == 3, "the lease is not found to be over")
+            wait_until(lambda: self.node.ask("ZCARD", "{jobs}:dead") == 4, "the lease is not found to be over")
             self.assertEqual(served.end(), 0)
 
     def ran_by(self, user: str, *words: object) -> None:
