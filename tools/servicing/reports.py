@@ -28,9 +28,13 @@ _LINE = re.compile(r".*/run-(\d+)\.txt(?:\.gz)?:(?:keep|\d+ \d+ (\d+) offer) (\d
 
 def report_on(run: Run, folder: str) -> Answer | None:
     """The report on a run, or why there is none. None if its history is gone."""
-    for history in _histories([run], folder):
-        return _answer("text/html", lambda: _report(run, history))
-    return None
+    answer = None
+    while histories := _histories([run], folder):
+        answer = _answer("text/html", lambda: _report(run, histories[0]))
+        if os.path.exists(histories[0]):
+            break
+        # It was compressed meanwhile.
+    return answer if histories else None
 
 
 def jobs_named(word: str, runs: Iterable[Run], folder: str) -> Answer:
