@@ -40,6 +40,8 @@ def resumed(parts: Parts) -> Current | Next:
         parts.showing.run = current.record
         return saved(parts, current)
     following = _following(parts, last, start)
+    if start is Start.AGAIN and last.end is None:
+        parts.runs.drop(last)
     if server is not None:
         server.close()
     return following
@@ -128,8 +130,11 @@ def saved(parts: Parts, run: Current) -> Next:
         if server.size:
             with contextlib.suppress(OSError):
                 parts.runs.save_history(server, "damaged")  # for whoever wants to know why
-        is_lost = server.listens or server.size
-        following = _lost(parts, record, str(fault)) if is_lost else parts.runs.again(record, 0)
+        if server.listens or server.size:
+            following = _lost(parts, record, str(fault))
+        else:
+            following = parts.runs.again(record, 0)
+            parts.runs.drop(record)
         parts.showing.count(looks.offered, looks.left, 0)
     else:
         record = run.timed_by(told.left)

@@ -122,6 +122,7 @@ class Folder:
             os.rename(path, self.file(os.path.basename(path).replace("run", "damaged", 1)))
 
     def drop(self, number: int) -> None:
+        self.remove(f"run-{number}.json")  # first: what has a record has its opening
         for it in Path(self.path).glob(f"*-{number}.*"):
             it.unlink()
 

@@ -64,26 +64,16 @@ class Runs:
         over."""
         return max(self.folder.numbers(), default=0)
 
-    @property
-    def next_number(self) -> int:
-        """That of the next run. A run whose server was never started gives its number to the next one."""
-        last = self.last
-        is_unused = last is not None and last.end is None and not self.folder.history(last.number)
-        return self.greatest + (not is_unused)
-
     def past(self) -> tuple[Run, ...]:
         return tuple(it for _, it in sorted(self.records.items(), reverse=True) if it.end)
 
     def prepare(self, following: Next, settings: Settings) -> Run:
         """Writes down the next run, whose server is started right behind. Raises an `OSError` if the disk is full."""
-        now, number, before = read_clock(), self.next_number, self.last
-        opening, lost, lost_jobs, follows = following.at(now), 0, 0, digest_of(before)
-        if before is not None:
-            lost, lost_jobs = before.lost, before.lost_jobs
-            follows = before.follows if before.number == number else follows
+        now, number, (lost, lost_jobs) = read_clock(), self.greatest + 1, self.lost
+        opening = following.at(now)
         record = Run(number, now, opening.moment, opening.next_id, len(opening.elements), len(opening.aside),
                      settings.calls, settings.policy, lost_before=lost, lost_jobs_before=lost_jobs,
-                     follows=follows)
+                     follows=digest_of(self.last))
         self.folder.remove(f"aside-{number}.txt")
         if opening.aside:
             aside = replace(opening, elements=opening.aside)
@@ -93,7 +83,8 @@ class Runs:
         return record
 
     def drop(self, record: Run) -> None:
-        """Removes a run whose server could not be started, so that no service takes it for one that was lost."""
+        """Removes a run whose server served nobody, before what is in memory of it is gone: no service may take it for
+        one that was lost."""
         self.folder.drop(record.number)
         del self.records[record.number]
 

@@ -81,7 +81,7 @@ def _started(parts: Parts, door: socket.socket, following: Next, before: Current
     _await_date(parts, following)
     while not parts.signals.count:
         try:
-            server = made(parts.memory, parts.runs.next_number)  # first: a run without that is one that was lost
+            server = made(parts.memory, parts.runs.greatest + 1)  # first: a run without that is one that was lost
             return _listening(parts, door, server, following, before)
         except NotStarted as fault:
             if before is None:
@@ -125,8 +125,8 @@ def _listening(
             if server.has_ended and not server.listens:
                 raise NotStarted(server.last_line or "its process has ended")
     except NotStarted:
-        server.close()
         parts.runs.drop(record)
+        server.close()
         raise
     record = replace(record, began=read_clock())  # its clock goes since about now; a look tells exactly
     return Current(parts, record, server, opening.first_aside, before.next_own if before else None)
