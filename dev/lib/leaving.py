@@ -17,7 +17,7 @@ prctl = ctypes.CDLL(None).prctl
 
 
 class Interrupted(KeyboardInterrupt):
-    """A signal came that ends this process. unittest lets no other exception through."""
+    """A signal came that ends this process. As an interrupt it is caught by no one who catches exceptions."""
 
     def __init__(self, number: int) -> None:
         super().__init__(number)
