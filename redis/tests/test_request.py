@@ -40,9 +40,9 @@ class RequestTest(unittest.TestCase):
                     self.assertEqual(read_request(line), expected(answer, line))
 
     def test_a_line_has_256_bytes_without_its_end(self) -> None:
-        self.assertEqual(read_request(b"x" * 256 + b"\r"), Request(Kind.ERROR, b"ERR 1 syntax\n"))
-        self.assertEqual(read_request(b"x" * 257), Request(Kind.ERROR, b"ERR 8 line\n"))
-        self.assertEqual(read_request(b"x" * 256 + b"\r\r"), Request(Kind.ERROR, b"ERR 8 line\n"))
+        self.assertEqual(read_request(b"x" * 256 + b"\r"), (Kind.ERROR, b"ERR 1 syntax\n"))
+        self.assertEqual(read_request(b"x" * 257), (Kind.ERROR, b"ERR 8 line\n"))
+        self.assertEqual(read_request(b"x" * 256 + b"\r\r"), (Kind.ERROR, b"ERR 8 line\n"))
 
 
 class LineCutterTest(unittest.TestCase):
