@@ -5,11 +5,16 @@ import contextlib
 import os
 import random
 import signal
+import sys
 import threading
 import time
-from collections import Counter
-from dataclasses import dataclass, field
+from pathlib import Path
+from typing import Any
 
+import pytest
+
+from common.program import tested_program
+from servicing.tests.ledger import Item, Judgement, Ledger, Offer, judged, told
 from servicing.tests.process import Client, Service, ServiceTest
 from servicing.tests.store import Store
 
@@ -17,19 +22,27 @@ SECONDS = float(os.environ.get("RB_BROKER_DAY", "100"))
 STATES = ("serving", "ending", "between-runs", "saved", "service")
 EVERY, PAUSE = (20, 20.0) if SECONDS >= 600 else (5, 4.0)  # seconds of a run, and about that between two kills
 PATIENCE = 600  # seconds for what is left at the end
-WORK, DELAY = 0.04, 2.0  # seconds: the longest job and the longest delay
+WORK, DELAY = 0.1, 2.0  # seconds: the longest job and the longest delay
 
-
-@dataclass
-class Ledger:
-    """What clients know. A run is known by its greeting, and a moment by the monotonic clock."""
-
-    offered: dict[str, tuple[int, float, float]] = field(default_factory=dict)  # the run, due at the least and the most
-    done: list[tuple[str, int]] = field(default_factory=list)
-    taken: list[tuple[str, int, int, float]] = field(default_factory=list)  # with run, attempt and when
-    doubts: set[str] = field(default_factory=set)  # offers without a reply
-    faults: list[str] = field(default_factory=list)  # that are no end of a connection in good order
-    waits: list[float] = field(default_factory=list)  # seconds to the greeting
+# The program, but that one server loses the first job of a client that it begins with, and says which.
+LOSES = """#!{python}
+import os, sys
+words = sys.argv[1:]
+if "--from" in words:
+    place = words.index("--from") + 1
+    with open(words[place], "rb") as file:
+        version, opened, *kept = file.read().splitlines(keepends=True)
+    jobs = [it for it in kept if it.split()[-1].startswith(b"c") and it.startswith(b"keep ")]
+    if jobs and not os.path.exists({lost!r}):
+        with open({lost!r}, "wb") as file:
+            file.write(jobs[0].split()[-1])
+        kept.remove(jobs[0])
+        opened = b"%s %d\\n" % (opened.rpartition(b" ")[0], int(opened.split()[-1]) - 1)
+    cut = os.memfd_create("opening", 0)
+    os.write(cut, b"".join([version, opened, *kept]))
+    words[place] = f"/dev/fd/{{cut}}"
+os.execv({program!r}, [{program!r}, *words])
+"""
 
 
 class Customer:
@@ -44,9 +57,8 @@ class Customer:
             began = time.monotonic()
             try:
                 with Client(self._port) as it:
-                    it.greeted()
+                    run = greeted(it, self.ledger)
                     self.ledger.waits.append(time.monotonic() - began)
-                    run = int(it.greeting.split(" ")[1])
                     while self._works(it, run) and self._stays and not self._is_over.is_set():
                         pass
                     it.ask("QUIT")
@@ -59,60 +71,93 @@ class Customer:
     def _works(self, it: Client, run: int) -> bool:
         self._count += 1
         payload, delay, sent = f"{self._name}-{self._count}", random.random() * DELAY, time.monotonic()
-        self.ledger.doubts.add(payload)
-        it.send(f"OFFER {int(delay * 1e9)} {payload}")
-        if it.line().startswith("OFFERED "):
-            self.ledger.offered[payload] = run, sent + delay, time.monotonic() + delay
-        self.ledger.doubts.remove(payload)
-        it.send("POLLFOR 100000000")
-        words = it.line().split(" ")
+        self.ledger.doubts[payload] = run
+        if asked(it, f"OFFER {int(delay * 1e9)} {payload}", run, self.ledger).startswith("OFFERED "):
+            self.ledger.offered[payload] = Offer(run, sent + delay, time.monotonic() + delay)
+        del self.ledger.doubts[payload]
+        words = asked(it, "POLLFOR 100000000", run, self.ledger).split(" ")
         if words[0] == "ITEM":
-            self.ledger.taken.append((words[4], run, int(words[3]), time.monotonic()))
+            self.ledger.given.append(Item(words[4], run, int(words[3]), time.monotonic()))
             time.sleep(random.random() * WORK)
-            it.send(f"DONE {words[1]}")
-            if it.line() == f"DONE {words[1]}":
-                self.ledger.done.append((words[4], run))
+            settle(it, words, run, self.ledger)
         return words[0] != "ERR"
 
 
+def greeted(it: Client, ledger: Ledger) -> int:
+    """The run that serves this client."""
+    run = int(it.greeted().greeting.split(" ")[1])
+    ledger.served[run].append(time.monotonic())
+    return run
+
+
+def asked(it: Client, request: str, run: int, ledger: Ledger) -> str:
+    it.send(request)
+    line = it.line()
+    ledger.served[run][1:] = [time.monotonic()]
+    return line
+
+
+def settle(it: Client, words: list[str], run: int, ledger: Ledger) -> None:
+    if asked(it, f"DONE {words[1]}", run, ledger) == f"DONE {words[1]}":
+        ledger.done.append((words[4], run))
+
+
+@pytest.mark.timeout(2 * SECONDS + 2 * PATIENCE)
 class DayTest(ServiceTest):
     OPTIONS = ("--every", f"{EVERY}s", "--turn-within", "2s", "--delay", "0s", "--stop-within", "10s",
                "--attempts", "1000")
 
     def test_rollovers_alone(self) -> None:
-        services, them = self.day(None, ())
-        self.assertEqual([it for one in them for it in one.faults], [])
+        services, ledgers = self.day()
+        self.assertEqual([it for one in ledgers for it in one.faults], [])
         self.assertFalse(any(it.all("lost-run") for it in services))
 
     def test_kills(self) -> None:
-        self.day(None, ("service", "server", "both"))
+        self.day(("service", "server", "both"))
 
     def test_kills_while_somebody_keeps_its_descriptors(self) -> None:
-        _, them = self.day(self.store(), ("service", "server", "both"))
-        self.assertEqual([it for one in them for it in one.faults if "refused" in it], [])
+        _, ledgers = self.day(("service", "server", "both"), store=self.store())
+        self.assertEqual([it for one in ledgers for it in one.faults if "refused" in it], [])
 
-    def day(self, store: Store | None, kills: tuple[str, ...]) -> tuple[list[Service], list[Ledger]]:
-        is_over, services = threading.Event(), [self.begin(*self.OPTIONS, store=store)]
+    def test_a_loss_that_is_planted(self) -> None:
+        """It is found, and named."""
+        lost = self.path("lost")
+        program = self.file("program", LOSES.format(python=sys.executable, lost=lost, program=tested_program()))
+        os.chmod(program, 0o700)
+        services, ledgers = self.lived((), 12, program=program)
+        self.assertEqual(judged(ledgers, self.lost(services)), Judgement(gone=[Path(lost).read_text("ascii")]))
+
+    def day(self, kills: tuple[str, ...] = (), **more: Any) -> tuple[list[Service], list[Ledger]]:
+        services, ledgers = self.lived(kills, SECONDS, **more)
+        self.assertEqual(judged(ledgers, self.lost(services)), Judgement())
+        return services, ledgers
+
+    def lived(self, kills: tuple[str, ...], seconds: float, **more: Any) -> tuple[list[Service], list[Ledger]]:
+        """Lets services and clients live for so long, and does what is left then."""
+        is_over, services = threading.Event(), [self.begin(*self.OPTIONS, **more)]
         them = [Customer(self.port, f"c{place}", place < 16, is_over) for place in range(24)]
         threads = [threading.Thread(target=it.run, daemon=True) for it in them]
         for thread in threads:
             thread.start()
-        end, count = time.monotonic() + SECONDS, 0
+        end, count = time.monotonic() + seconds, 0
         while time.monotonic() < end:
             time.sleep(PAUSE * (0.5 + random.random()))
             if kills:
-                self.kill(services, kills[count % len(kills)], STATES[count // len(kills) % len(STATES)], store)
+                self.kill(services, kills[count % len(kills)], STATES[count // len(kills) % len(STATES)], **more)
                 count += 1
         is_over.set()
         for thread in threads:
             thread.join()
-        rest = self.rest()
+        ledgers = [*(it.ledger for it in them), self.rest()]
         self.ends(services[-1], lost=len(services[-1].all("lost-run")))
-        ledgers = [it.ledger for it in them]
-        self.judge(services, ledgers, rest, count)
+        print(f"\n{sum(len(it.all('saved')) for it in services)} runs, {count} kills; "
+              f"{told(ledgers, self.lost(services))}")
         return services, ledgers
 
-    def kill(self, services: list[Service], what: str, state: str, store: Store | None) -> None:
+    def lost(self, services: list[Service]) -> set[int]:
+        return {int(it["run"]) for service in services for it in service.all("lost-run")}
+
+    def kill(self, services: list[Service], what: str, state: str, store: Store | None = None) -> None:
         service = services[-1]
         with contextlib.suppress(AssertionError):
             service.wait(state, len(service.all(state)) + 1, patience=EVERY + 2)
@@ -125,39 +170,15 @@ class DayTest(ServiceTest):
             services.append(self.start(*self.OPTIONS, store=store))
         services[-1].wait("serving", 2 if what == "server" and len(services[-1].all("serving")) > 1 else 1)
 
-    def rest(self) -> list[tuple[str, int]]:
-        """Does what is left until nothing is, with the run in which that was. On a busy machine that may take long."""
-        done, is_empty, end = [], False, time.monotonic() + PATIENCE
-        while not is_empty and time.monotonic() < end:
+    def rest(self) -> Ledger:
+        """Does what is left until nothing is, however long that takes."""
+        ledger, size, end = Ledger(), "", time.monotonic() + PATIENCE
+        while size != "SIZE 0":  # nor does anything wait until it is due
+            self.assertLess(time.monotonic(), end, f"{size} is left, which nobody does")
             with contextlib.suppress(OSError, EOFError), Client(self.port) as it:
-                run = int(it.greeted().greeting.split(" ")[1])
-                while (words := it.ask("POLLFOR 500000000").split(" "))[0] == "ITEM":
-                    if it.ask(f"DONE {words[1]}").startswith("DONE "):
-                        done.append((words[4], run))
-                is_empty = it.ask("SIZE") == "SIZE 0"  # nor does anything wait until it is due
-        return done
-
-    def judge(self, services: list[Service], ledgers: list[Ledger], rest: list[tuple[str, int]], kills: int) -> None:
-        lost = {int(it["run"]) for service in services for it in service.all("lost-run")}
-        offered = {payload: told for it in ledgers for payload, told in it.offered.items()}
-        told = [*rest, *(it for one in ledgers for it in one.done)]
-        done = Counter(payload for payload, run in told if run not in lost)
-        doubts = set[str]().union(*(it.doubts for it in ledgers))
-        taken = [it for one in ledgers for it in one.taken]
-        gone = [it for it, (run, *_) in offered.items() if run not in lost and not done[it]]
-        early = [it for it, _, attempt, at in taken if attempt == 1 and it in offered and at < offered[it][1]]
-        late = sorted(at - offered[it][2] for it, _, attempt, at in taken if attempt == 1 and it in offered)
-        waits = sorted(it for one in ledgers for it in one.waits)
-        faults = Counter(it for one in ledgers for it in one.faults)
-        closed = sorted(float(it["closed"][:-1]) for one in services for it in one.all("serving") if "closed" in it)
-        print(f"\n{len(offered)} offered, {len(doubts)} in doubt of which {len(doubts & set(done))} done, "
-              f"{sum(len(it.all('saved')) for it in services)} runs, {len(lost)} lost, {kills} kills; late "
-              f"{_spread(late)}, waits {_spread(waits)}; closed {_spread(closed)}; faults {dict(faults)}")
-        self.assertEqual((gone, early), ([], []))
-        self.assertEqual([it for it, count in done.items() if count > 1], [])
-        self.assertEqual({it for it in done if it not in offered} - doubts, set())
-
-
-def _spread(seconds: list[float]) -> str:
-    """The median and the longest."""
-    return f"{seconds[len(seconds) // 2]:.3f} {seconds[-1]:.3f} s" if seconds else "-"
+                run = greeted(it, ledger)
+                while (words := asked(it, "POLLFOR 500000000", run, ledger).split(" "))[0] == "ITEM":
+                    ledger.given.append(Item(words[4], run, int(words[3]), time.monotonic()))
+                    settle(it, words, run, ledger)
+                size = asked(it, "SIZE", run, ledger)
+        return ledger

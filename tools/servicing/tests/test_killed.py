@@ -1,11 +1,11 @@
 """The service is killed in each of its states, with and without somebody who keeps its descriptors, and its server."""
 import contextlib
-import itertools
 import os
 import signal
 import threading
 import time
 from collections.abc import Callable
+from concurrent.futures import ThreadPoolExecutor
 from typing import Any
 from unittest import mock
 
@@ -166,24 +166,25 @@ class MomentsTest(ServiceTest):
 
     def kill_at_any_moment(self, **told: Any) -> None:
         done, offered, is_over = list[str](), list[str](), threading.Event()
-        clients = [threading.Thread(target=self.until_over, args=(is_over, act, them), daemon=True)
-                   for act, them in ((self.produce, offered), (self.drain, done))]
         options = ("--every", "1s", "--delay", "0s")
         service = self.begin(*options, **told)
-        for it in clients:
-            it.start()
-        try:
-            for number in itertools.takewhile(lambda it: it < 16 or len(offered) <= 100, range(100)):
-                time.sleep(0.1 + number * 0.07)
-                service.kill()
-                self.assertEqual(service.all("lost-run"), [])
-                service = self.start(*options, **told)
-            service.wait("serving")
-            time.sleep(2)
-        finally:
-            is_over.set()
+        with ThreadPoolExecutor() as pool:
+            clients = [pool.submit(self.until_over, is_over, act, them)
+                       for act, them in ((self.produce, offered), (self.drain, done))]
+            try:
+                for number in range(16):
+                    if number % 2:  # each other service takes offers, however slow the machine is
+                        wanted = len(offered) + 14
+                        until(lambda: len(offered) >= wanted, "offers are taken")
+                    time.sleep(0.1 + number * 0.07)
+                    service.kill()
+                    self.assertEqual(service.all("lost-run"), [])
+                    service = self.start(*options, **told)
+                service.wait("serving")
+            finally:
+                is_over.set()
             for it in clients:
-                it.join()
+                it.result()
         until(lambda: self.drain(done) == len(offered), "all jobs are done")  # a rollover may end a session
         self.ends(service)
         self.assertGreater(len(offered), 100)
