@@ -9,5 +9,5 @@ The tests are below tests/; `dev/check tools` runs them.
 import sys
 from pathlib import Path
 
-# Their pages and metrics are made of what those of the broker on Redis are made of.
-sys.path.append(str(Path(__file__).resolve().parents[2] / "redis/src"))
+# Their pages and metrics are made of what those of the broker on Redis are made of, and some are clients.
+sys.path += [f"{Path(__file__).resolve().parents[2]}/{it}" for it in ("redis/src", "clients/python/src")]

@@ -66,7 +66,7 @@ def number(kind: Callable[[str], Number], least: Number, most: Number) -> Callab
 
 def span(word: str) -> int:
     """Reads the nanoseconds of a time such as 30s. A bare number is refused: it could be seconds or nanoseconds."""
-    if word.isascii() and word.isdigit():
+    if re.fullmatch(r"[0-9.]+", word):
         raise argparse.ArgumentTypeError(f"{word} has no unit: write {word}s, or {word}ms, us or ns")
     try:
         return read_duration(word)

@@ -21,7 +21,7 @@ _HEADER, _ATTRIBUTE = struct.Struct("=IHHII"), struct.Struct("=HH")
 _REQUEST = struct.Struct("=BBBxI4s44x")  # family, protocol, extensions, states and ports
 _SOCKET = struct.Struct("=xBxx2xH36xQ4xII4xI")  # state, the client's port, a cookie, both queues and the inode
 # Of tcp_info: since something was last sent and heard, and what was received, in and out in pieces, and sent.
-_TIMES, _BYTES, _PIECES, _SENT = (struct.Struct(it) for it in ("=44xI4xI", "=128xQ", "=152xII", "=200xQ"))
+_INFO = struct.Struct("=44xI4xI72xQ16xII40xQ")
 
 
 class Unwatchable(Exception):
@@ -102,9 +102,7 @@ def connection_in(told: bytes) -> Connection:
         if kind == INFO:
             break
         place += length + 3 & ~3
-    info = told[place + _ATTRIBUTE.size:place + length]
-    (told_ago, heard_ago), (received,) = _TIMES.unpack_from(info), _BYTES.unpack_from(info)
-    (pieces, pieces_back), (replied,) = _PIECES.unpack_from(info), _SENT.unpack_from(info)
+    told_ago, heard_ago, received, pieces, pieces_back, replied = _INFO.unpack_from(told, place + _ATTRIBUTE.size)
     calls = pieces if received <= LONGEST * pieces else received // SHORTEST
     return Connection(
         port=socket.ntohs(peer), key=cookie, has_hung_up=state == HUNG_UP, is_served=inode != 0,

@@ -113,8 +113,7 @@ class Folder:
             raise Unusable(f"{self.file(name)} is no record of a run: {why}") from None
 
     def history(self, number: int) -> str | None:
-        paths = (self.file(f"run-{number}.txt"), self.file(f"run-{number}.txt.gz"))
-        return next((it for it in paths if os.path.exists(it)), None)
+        return history_in(self.path, number)
 
     def set_aside(self, number: int) -> None:
         path = self.history(number)
@@ -125,6 +124,12 @@ class Folder:
         self.remove(f"run-{number}.json")  # first: what has a record has its opening
         for it in Path(self.path).glob(f"*-{number}.*"):
             it.unlink()
+
+
+def history_in(folder: str, number: int) -> str | None:
+    """The history of a run. One that is being compressed is there twice, at last whole."""
+    paths = (f"{folder}/run-{number}.txt{end}" for end in ("", ".gz"))
+    return next(filter(os.path.exists, paths), None)
 
 
 def own_folder(path: str) -> None:

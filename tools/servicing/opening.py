@@ -1,8 +1,9 @@
 """What a run begins with: the text that its server reads, made from the run before."""
-from dataclasses import dataclass, field
+from dataclasses import dataclass, field, replace
 from typing import BinaryIO, Iterable, Iterator
 
 from histories.grammar import GREATEST, GREATEST_OPENING_ID, MOST_OPENING_ELEMENTS
+from rb_broker_redis.watching.units import SECOND
 
 # An element by its id: the rest of its `keep` line, which is EXPIRY ORIGIN FIRST ATTEMPT PAYLOAD. The ids rise.
 Elements = dict[bytes, bytes]
@@ -10,7 +11,7 @@ Elements = dict[bytes, bytes]
 VERSION = b"history 3\n"  # the first line of a history
 
 # The element by which the service asks for the moment. It would expire after 146 years, and never outlives a run.
-PROBE, PROBE_DELAY = "rb_broker-service", 1 << 62
+PROBE, PROBE_DELAY = "rb_broker-service", 4_600_000_000 * SECOND
 _PROBE_END = b" " + PROBE.encode()
 
 
@@ -38,6 +39,10 @@ class Opening:
             yield b"keep %s %s\n" % (id, words)
         yield b"end 0\n"
 
+    def at(self, moment: int) -> "Opening":
+        """The same at a moment, unless it is of a later one."""
+        return replace(self, moment=min(max(moment, self.moment), GREATEST))
+
     @property
     def first_aside(self) -> int:
         return min((expiry_of(it) for it in self.aside.values()), default=GREATEST)
@@ -55,15 +60,10 @@ class Left:
     begins: tuple[int, int, int] = (0, 0, 0)  # the next id, the moment and the number of elements before all events
 
 
-def moment_after(left: Left, moment: int) -> int:
-    """The moment at which a run begins behind one that left this: not before its last event."""
-    return min(max(moment, left.moment), GREATEST)
-
-
 def opening_after(left: Left, aside: Elements, moment: int, given: int = 0) -> Opening:
-    """The opening at a moment of the run after one that left this, and beside it elements aside. One that was lost left
-    its own opening, and may have given so many ids. At most 1,000,000 elements are in it, those that expire first; the
-    others wait beside. The ids of both rise."""
+    """The opening, at a moment that is not before the last event, of the run after one that left this, and beside it
+    elements aside. One that was lost left its own opening, and may have given so many ids. At most 1,000,000 elements
+    are in it, those that expire first; the others wait beside. The ids of both rise."""
     next_id, elements = left.next_id + given, left.elements
     if next_id > GREATEST_OPENING_ID:
         raise NoIdsLeft
@@ -71,7 +71,7 @@ def opening_after(left: Left, aside: Elements, moment: int, given: int = 0) -> O
         order = sorted({**elements, **aside}.items(), key=lambda it: (expiry_of(it[1]), int(it[0])))
         elements, aside = (dict(sorted(them, key=lambda it: int(it[0])))
                            for them in (order[:MOST_OPENING_ELEMENTS], order[MOST_OPENING_ELEMENTS:]))
-    return Opening(next_id, moment_after(left, moment), elements, aside)
+    return Opening(next_id, left.moment, elements, aside).at(moment)
 
 
 def expiry_of(words: bytes) -> int:

@@ -9,6 +9,7 @@ from http import HTTPStatus
 from pathlib import Path
 from typing import Callable, Iterable
 
+from servicing.folder import history_in
 from servicing.state import Run
 from rb_broker_redis.watching.http import Answer
 from rb_broker_redis.watching.metrics import date
@@ -28,24 +29,17 @@ _LINE = re.compile(r".*/run-(\d+)\.txt(?:\.gz)?:(?:keep|\d+ \d+ (\d+) offer) (\d
 
 def report_on(run: Run, folder: str) -> Answer | None:
     """The report on a run, or why there is none. None if its history is gone."""
-    answer = None
-    while histories := _histories([run], folder):
-        answer = _answer("text/html", lambda: _report(run, histories[0]))
-        if os.path.exists(histories[0]):
-            break
+    while history := history_in(folder, run.number):
+        answer = _answer("text/html", lambda: _report(run, history))
+        if os.path.exists(history):
+            return answer
         # It was compressed meanwhile.
-    return answer if histories else None
+    return None
 
 
 def jobs_named(word: str, runs: Iterable[Run], folder: str) -> Answer:
     """The elements of runs that have this payload, or this id: each as it was offered, or was there at the start."""
     return _answer("text/plain", lambda: _jobs(word, {it.number: it for it in runs}, folder))
-
-
-def _histories(runs: Iterable[Run], folder: str) -> list[str]:
-    """The histories of runs. One that is being compressed is there twice, at last whole."""
-    both = ([os.path.join(folder, f"run-{it.number}.txt{end}") for end in ("", ".gz")] for it in runs)
-    return [found[0] for paths in both if (found := [*filter(os.path.exists, paths)])]
 
 
 def _answer(kind: str, make: Callable[[], str]) -> Answer:
@@ -81,7 +75,7 @@ def _report(run: Run, history: str) -> str:
 def _jobs(word: str, runs: dict[int, Run], folder: str) -> str:
     named, rows = re.sub(r"[][\\.*^$]", r"\\\g<0>", word), []
     form = rf"^\(keep\|[0-9]* [0-9]* [0-9]* offer\) \({named} .*\|.* {named}\)$"
-    histories = _histories(runs.values(), folder)
+    histories = [it for it in (history_in(folder, number) for number in runs) if it]
     # zgrep fails where nothing is found, which is no fault.
     said = _ran("sh", "-c", 'zgrep -H -m "$0" -e "$@" || [ $? = 1 ]', MOST_FOUND, form, *histories) if histories else ""
     for number, moment, id, origin, attempt, payload in _LINE.findall(said)[:MOST_FOUND]:

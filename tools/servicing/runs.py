@@ -15,7 +15,7 @@ from histories.files import open_history
 from servicing.clock import Reading, elapsed, is_same_boot, read_clock
 from servicing.deciding import Misfit, digest_of, misfit_in, runs_to_drop
 from servicing.folder import Folder, Unusable, record_of
-from servicing.opening import Elements, Left, Opening, left_in, moment_after, opening_after
+from servicing.opening import Elements, Left, Opening, left_in, opening_after
 from servicing.server import Server
 from servicing.settings import Keep, Settings
 from servicing.state import Run
@@ -38,7 +38,7 @@ class Next:
         return opening_after(self.left, self.aside, self.moment_at(now), self.given)
 
     def moment_at(self, now: Reading) -> int:
-        return moment_after(self.left, self.moment + (elapsed(self.since, now) if self.since else 0))
+        return self.moment + (elapsed(self.since, now) if self.since else 0)
 
     def off_at(self, now: Reading) -> int:
         """For how many nanoseconds the machine was off, as far as its date tells."""

@@ -114,7 +114,7 @@ def _listening(
     def text() -> tuple[bytes, bytes]:
         nonlocal opening, record
         now = read_clock()
-        opening = replace(opening, moment=following.moment_at(now))
+        opening = opening.at(following.moment_at(now))
         record = replace(record, moment=opening.moment, began=now)
         return opening.header, body
 

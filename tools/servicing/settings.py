@@ -3,20 +3,13 @@ import argparse
 import ipaddress
 import math
 import os
-import re
 from dataclasses import dataclass, field, fields
-from decimal import Decimal
 from typing import Any, Callable, NamedTuple
 
 from common.program import program_named
-from common.words import number, parser_of
-from rb_broker_redis.watching.units import SECOND
+from common.words import number, parser_of, span
 
 TURN = 20_000_000  # nanoseconds that a turn of a wait lasts while nothing happens
-UNITS = {"ns": 1, "us": 1_000, "ms": 1_000_000, "s": SECOND, "m": 60 * SECOND, "h": 3600 * SECOND, "d": 86_400 * SECOND}
-
-_SPAN = re.compile(r"([0-9]{1,20}(?:\.[0-9]{1,9})?)(ns|us|ms|s|m|h|d)")
-
 
 class Keep(NamedTuple):
     """Which old runs are kept: so many, or those of so many nanoseconds."""
@@ -25,18 +18,11 @@ class Keep(NamedTuple):
     age: int | None
 
 
-def nanoseconds_of(word: str) -> int:
-    found = _SPAN.fullmatch(word)
-    if found is None:
-        raise argparse.ArgumentTypeError(f"{word!r} is no time: a number with ns, us, ms, s, m, h or d, such as 30s")
-    return int(Decimal(found[1]) * UNITS[found[2]])
-
-
 def _span(least: str, most: str) -> Callable[[str], int]:
     def read(word: str) -> int:
-        if not nanoseconds_of(least) <= nanoseconds_of(word) <= nanoseconds_of(most):
+        if not span(least) <= span(word) <= span(most):
             raise argparse.ArgumentTypeError(f"{word} is not from {least} to {most}")
-        return nanoseconds_of(word)
+        return span(word)
 
     read.__name__ = f"{least} to {most}"  # which help tells
     return read
@@ -45,7 +31,7 @@ def _span(least: str, most: str) -> Callable[[str], int]:
 def _keep(word: str) -> Keep:
     if word.isascii() and word.isdigit():
         return Keep(int(number(int, 1, 1_000_000)(word)), None)
-    return Keep(None, nanoseconds_of(word))
+    return Keep(None, span(word))
 
 
 def _address(word: str) -> tuple[str, int]:

@@ -22,7 +22,7 @@ REFUSED = (
     ("is no ELF program", "package", "--program", f"{TOP}/README.md"),
     ("is no folder", "package", "--program", "{program}", "--output", "none"),
     # The times of a service need a unit, and its numbers have ranges.
-    ("'30' is no time", "service", "--delay", "30"),
+    ("30 has no unit", "service", "--delay", "30"),
     ("not allowed with", "service", "--delay", "1s", "--rate", "1s"),
     ("0 is not from 1 to 65535", "service", "--port", "0"),
     ("17 is not from 1 to 16", "service", "--workers", "17"),

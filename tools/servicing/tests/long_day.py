@@ -9,12 +9,13 @@ import sys
 import threading
 import time
 from pathlib import Path
+from statistics import median
 from typing import Any
 
 import pytest
 
 from common.program import tested_program
-from servicing.tests.ledger import Item, Judgement, Ledger, Offer, judged, told
+from servicing.tests.ledger import Item, Judgement, Ledger, Offer, gaps, judged, told
 from servicing.tests.process import Client, Service, ServiceTest
 from servicing.tests.store import Store
 
@@ -23,6 +24,7 @@ STATES = ("serving", "ending", "between-runs", "saved", "service")
 EVERY, PAUSE = (20, 20.0) if SECONDS >= 600 else (5, 4.0)  # seconds of a run, and about that between two kills
 PATIENCE = 600  # seconds for what is left at the end
 WORK, DELAY = 0.1, 2.0  # seconds: the longest job and the longest delay
+GAPS = 0.150, 0.400  # seconds for which nobody is served at a rollover, at the median and at worst
 
 # The program, but that one server loses the first job of a client that it begins with, and says which.
 LOSES = """#!{python}
@@ -118,6 +120,14 @@ class DayTest(ServiceTest):
     def test_kills_while_somebody_keeps_its_descriptors(self) -> None:
         _, ledgers = self.day(("service", "server", "both"), store=self.store())
         self.assertEqual([it for one in ledgers for it in one.faults if "refused" in it], [])
+
+    def test_gaps(self) -> None:
+        """For how long nobody is served at a rollover, on a quiet machine."""
+        services, ledgers = self.lived((), 24 * EVERY)
+        them = gaps(ledgers, self.lost(services))
+        self.assertGreater(len(them), 20)
+        self.assertLess(median(them), GAPS[0])
+        self.assertLess(max(them), GAPS[1])
 
     def test_a_loss_that_is_planted(self) -> None:
         """It is found, and named."""

@@ -4,10 +4,11 @@ import contextlib
 import io
 import unittest
 
+from common.words import span
 from servicing.clock import elapsed, read_clock
 from servicing.opening import Left
 from servicing.runs import Next
-from servicing.settings import nanoseconds_of, parser
+from servicing.settings import parser
 from servicing.tests.support import SECOND, reading
 
 
@@ -41,12 +42,12 @@ class WordsTest(unittest.TestCase):
             ("30s", 30 * SECOND), ("5m", 300 * SECOND), ("1h", 3600 * SECOND), ("7d", 604_800 * SECOND), ("0s", 0),
             ("20ms", 20_000_000), ("3us", 3_000), ("9ns", 9), ("1.5s", 1_500_000_000), ("0.1ms", 100_000),
         ):
-            self.assertEqual(nanoseconds_of(word), wanted)
+            self.assertEqual(span(word), wanted)
 
     def test_other_times_are_refused(self) -> None:
-        for word in ("30", "s", "", "-1s", "1 s", "1S", "1sec", "1h30m", "1e3s", "١s", "30000000000"):
-            with self.subTest(word), self.assertRaisesRegex(argparse.ArgumentTypeError, "such as 30s"):
-                nanoseconds_of(word)
+        for word in ("30", "30.0", "s", "", "-1s", "1 s", "1S", "1sec", "1h30m", "1e3s", "١s", "30000000000"):
+            with self.subTest(word), self.assertRaisesRegex(argparse.ArgumentTypeError, "write [0-9.]+s"):
+                span(word)
 
     def http(self, word: str) -> object:
         with contextlib.redirect_stderr(io.StringIO()) as said:
