@@ -1,17 +1,5 @@
-"""The folder of a service: it is locked, and each file in it is written whole or not at all.
-
-    lock              which service has the folder locked
-    id                a name that no other folder has
-    opening-N.txt     what run N began with; aside-N.txt what did not fit into that
-    run-N.json        what is known of run N
-    run-N.txt         its history, if it ended in good order; run-N.txt.gz later on
-    damaged-N.txt     a history of run N that `replay` refused, or that did not fit
-    memory            the folder in memory where the history of a killed service's run waits
-    acknowledged      how many lost runs and lost jobs somebody has acknowledged
-    status            the socket at which `--status` asks
-
-The folder and all in it have to be this user's own, and nobody else's to write.
-"""
+"""The folder of a service, whose files docs/OPERATING.md names: it is locked, and each file is written whole or not at
+all. The folder and all in it have to be this user's own, and nobody else's to write."""
 import contextlib
 import fcntl
 import json

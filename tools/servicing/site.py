@@ -1,16 +1,7 @@
-"""The page, the metrics and the health of a service:
-
-    /           the page
-    /metrics    the numbers, as Prometheus reads them
-    /health     the status as text: 200 as long as clients are served, or will be within seconds, and otherwise 503
-    /runs/N     the report on a run that has ended
-    /jobs/WORD  the jobs of these runs of a payload or an id; a form of the page leads there
-    /end, /cut  what forms of the page ask for with --allow-changes, with the token that it has: to end the run, and to
-                end the sessions that its end waits for
-
-Whatever clients send, or leave out, the service goes on: they are answered from the board, and from histories that are
-kept, alone. The same is always answered at the socket `status` in the folder, for `tools/service --status`: to the user
-of the service, and to root.
+"""The page, the metrics, the health and reports of a service, at the paths that docs/OPERATING.md names, and what forms
+of the page ask for. Whatever clients send, or leave out, the service goes on: they are answered from the board, and
+from histories that are kept, alone. The same is always answered at the socket `status` in the folder, for
+`tools/service --status`: to the user of the service, and to root.
 """
 import functools
 import hmac

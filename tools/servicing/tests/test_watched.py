@@ -14,12 +14,13 @@ from serving.testing import ServingTest
 
 FAR = 3_600_000_000_000
 PATIENCE = 30  # seconds after which something that has to happen has not
+GREETS = "--greeting", "RUN 1 lost 0 at 0"
 
 
 class WatchedTest(ServingTest):
     def watch(self, workers: int, sessions: int = 1000, calls: int = 1000) -> tuple[Server, Looks]:
         """A server, and what a service sees of it at each look."""
-        server = self.serve("--workers", workers, "--sessions", sessions, "--calls", calls, "--greeting", "RUN 1 lost 0 at 0")
+        server = self.serve("--workers", workers, "--sessions", sessions, "--calls", calls, *GREETS)
         looks = Looks(OwnSession(server.port), record(calls=calls), workers)
         self.addCleanup(looks.own.drop)
         return server, looks
@@ -115,7 +116,7 @@ class WatchedTest(ServingTest):
         last = 5_000_000_000_000
         opening = self.file("opening.txt", f"history 3\nopen 7 {last} 1\nkeep 3 {last} 3 {last} 1 old\nend 0\n")
         before = time.clock_gettime_ns(time.CLOCK_BOOTTIME)
-        server = self.serve("--workers", 3, "--sessions", 40, "--from", opening, "--greeting", "RUN 1 lost 0 at 0")
+        server = self.serve("--workers", 3, "--sessions", 40, "--from", opening, *GREETS)
         after = time.clock_gettime_ns(time.CLOCK_BOOTTIME)
         looks = Looks(OwnSession(server.port), record(next_id=7, moment=last, opening=1), 3)
         self.addCleanup(looks.own.drop)
