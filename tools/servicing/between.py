@@ -126,6 +126,8 @@ def saved(parts: Parts, run: Current) -> Next:
     parts.showing.enter(Phase.BETWEEN, why)
     try:
         told = server.collect(parts.settings.program, record.chains)
+        if misfit := misfit_of(record, told):
+            raise Damaged(misfit)
     except Damaged as fault:
         if server.size:
             with contextlib.suppress(OSError):

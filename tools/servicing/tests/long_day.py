@@ -26,23 +26,22 @@ PATIENCE = 600  # seconds for what is left at the end
 WORK, DELAY = 0.1, 2.0  # seconds: the longest job and the longest delay
 GAPS = 0.150, 0.400  # seconds for which nobody is served at a rollover, at the median and at worst
 
-# The program, but that one server loses the first job of a client that it begins with, and says which.
-LOSES = """#!{python}
+# The program, but that one server has another job in the place of one of a client that it begins with, and says which.
+SWAPS = """#!{python}
 import os, sys
 words = sys.argv[1:]
 if "--from" in words:
     place = words.index("--from") + 1
     with open(words[place], "rb") as file:
-        version, opened, *kept = file.read().splitlines(keepends=True)
-    jobs = [it for it in kept if it.split()[-1].startswith(b"c") and it.startswith(b"keep ")]
-    if jobs and not os.path.exists({lost!r}):
-        with open({lost!r}, "wb") as file:
-            file.write(jobs[0].split()[-1])
-        kept.remove(jobs[0])
-        opened = b"%s %d\\n" % (opened.rpartition(b" ")[0], int(opened.split()[-1]) - 1)
-    cut = os.memfd_create("opening", 0)
-    os.write(cut, b"".join([version, opened, *kept]))
-    words[place] = f"/dev/fd/{{cut}}"
+        opening = file.read()
+    jobs = [it.split()[-1] for it in opening.splitlines() if it.startswith(b"keep ")]
+    jobs = [it for it in jobs if it.startswith(b"c")]
+    if jobs and not os.path.exists({swapped!r}):
+        with open({swapped!r}, "wb") as file:
+            file.write(jobs[0])
+        opening = opening.replace(b" %s\\n" % jobs[0], b" another\\n")
+    os.write(memory := os.memfd_create("opening", 0), opening)
+    words[place] = f"/dev/fd/{{memory}}"
 os.execv({program!r}, [{program!r}, *words])
 """
 
@@ -131,11 +130,13 @@ class DayTest(ServiceTest):
 
     def test_a_loss_that_is_planted(self) -> None:
         """It is found, and named."""
-        lost = self.path("lost")
-        program = self.file("program", LOSES.format(python=sys.executable, lost=lost, program=tested_program()))
+        swapped = self.path("swapped")
+        told = SWAPS.format(python=sys.executable, swapped=swapped, program=tested_program())
+        program = self.file("program", told)
         os.chmod(program, 0o700)
         services, ledgers = self.lived((), 12, program=program)
-        self.assertEqual(judged(ledgers, self.lost(services)), Judgement(gone=[Path(lost).read_text("ascii")]))
+        wanted = Judgement(gone=[Path(swapped).read_text("ascii")], unasked=["another"])
+        self.assertEqual(judged(ledgers, self.lost(services)), wanted)
 
     def day(self, kills: tuple[str, ...] = (), **more: Any) -> tuple[list[Service], list[Ledger]]:
         services, ledgers = self.lived(kills, SECONDS, **more)

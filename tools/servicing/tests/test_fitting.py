@@ -12,7 +12,7 @@ from pathlib import Path
 from servicing.deciding import Misfit, misfit_in, misfit_of
 from servicing.server import Checked
 from servicing.state import End, Reason
-from servicing.tests.process import ServiceTest
+from servicing.tests.process import ServiceTest, until
 from servicing.tests.support import left_of, record
 
 HISTORY = "history 3\nopen 4 7000 1\nkeep 3 9 3 9 1 a\n1 1 8000 offer 4 9 4 9 1 b\n2 1 8000 take 4\nend 2\n"
@@ -119,6 +119,21 @@ class ChangedTest(ServiceTest):
         told = json.loads(path.read_bytes())
         told["end"]["digest"] = "0" * 64
         path.write_text(json.dumps(told), "ascii")
+
+    def test_a_history_that_waits_in_memory_and_is_another(self) -> None:
+        """The run is lost, which is said, and what there was is kept for whoever wants to know why."""
+        service = self.begin()
+        self.offer(1)
+        service.kill()
+        until(lambda: not service.servers, "the server ends")
+        (path,) = Path(self.memory).glob("*-4-history")
+        path.write_bytes(other := self.other(Path(self.path("runs"))))
+        again = self.begin()
+        told = again.all("lost-run")[0]
+        self.assertEqual((told["run"], told["level"], told["why"]), ("4", "error", "it does not begin as run 4 did"))
+        self.assertEqual(Path(self.path("runs/damaged-4.txt")).read_bytes(), other)
+        self.has_left(6)
+        self.ends(again, lost=1)
 
     def test_an_opening_that_was_changed(self) -> None:
         """It is wanted when a run was lost."""
