@@ -117,7 +117,7 @@ class Folder:
 def history_in(folder: str, number: int) -> str | None:
     """The history of a run. One that is being compressed is there twice, at last whole."""
     paths = (f"{folder}/run-{number}.txt{end}" for end in ("", ".gz"))
-    return next(filter(os.path.exists, paths), None)
+    return next((it for it in paths if os.path.exists(it)), None)
 
 
 def own_folder(path: str) -> None:

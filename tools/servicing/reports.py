@@ -1,5 +1,6 @@
 """What is told of the histories of runs that have ended, by commands that give way to all others, one at a time: who
 asks meanwhile is told so."""
+import functools
 import os
 import re
 import subprocess
@@ -30,7 +31,7 @@ _LINE = re.compile(r".*/run-(\d+)\.txt(?:\.gz)?:(?:keep|\d+ \d+ (\d+) offer) (\d
 def report_on(run: Run, folder: str) -> Answer | None:
     """The report on a run, or why there is none. None if its history is gone."""
     while history := history_in(folder, run.number):
-        answer = _answer("text/html", lambda: _report(run, history))
+        answer = _answer("text/html", functools.partial(_report, run, history))
         if os.path.exists(history):
             return answer
         # It was compressed meanwhile.

@@ -62,10 +62,12 @@ def _first(ledgers: Sequence[Ledger]) -> Iterator[Item]:
     return (it for one in ledgers for it in one.given if it.attempt == 1)
 
 
-def lateness(ledgers: Sequence[Ledger]) -> list[tuple[int, float]]:
-    """By how many seconds each job was late at most, with the run that gave it, from the first run to the last."""
+def lateness(ledgers: Sequence[Ledger]) -> list[tuple[int, int, float]]:
+    """By how many seconds each job was late at most, behind the run that gave it and the rollovers that it waited
+    through, from the first run to the last."""
     offered = {payload: it for one in ledgers for payload, it in one.offered.items()}
-    return sorted((it.run, it.at - offered[it.payload].most) for it in _first(ledgers) if it.payload in offered)
+    known = ((it, offered[it.payload]) for it in _first(ledgers) if it.payload in offered)
+    return sorted((it.run, it.run - offer.run, it.at - offer.most) for it, offer in known)
 
 
 def gaps(ledgers: Sequence[Ledger], lost: Collection[int]) -> list[float]:
@@ -88,8 +90,10 @@ def told(ledgers: Sequence[Ledger], lost: Collection[int]) -> str:
     quarter = len(late) // 4 or 1
     doubts = {payload for one in ledgers for payload in one.doubts}
     done = {payload for one in ledgers for payload, _ in one.done}
+    groups = {"": late, " in the first quarter": late[:quarter], " in the last": late[-quarter:],
+              **{f" behind {first} to {last - 1} rollovers": [it for it in late if first <= it[1] < last]
+                 for first, last in ((0, 2), (2, 8), (8, 1000))}}
     return (f"{sum(len(it.offered) for it in ledgers)} offered, {len(doubts)} in doubt of which {len(doubts & done)} "
-            f"done, {len(lost)} runs lost; late {spread([it for _, it in late])}, at the median of the first quarter "
-            f"{spread([it for _, it in late[:quarter]])}, of the last {spread([it for _, it in late[-quarter:]])}; "
-            f"gaps {spread(gaps(ledgers, lost))}; waits {spread([it for one in ledgers for it in one.waits])}; "
-            f"faults {dict(faults)}")
+            f"done, {len(lost)} runs lost; gaps {spread(gaps(ledgers, lost))}; "
+            f"waits {spread([it for one in ledgers for it in one.waits])}; faults {dict(faults)}"
+            + "".join(f"\nlate{name}: {len(them)}, {spread([it for *_, it in them])}" for name, them in groups.items()))

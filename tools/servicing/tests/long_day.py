@@ -23,7 +23,8 @@ SECONDS = float(os.environ.get("RB_BROKER_DAY", "100"))
 STATES = ("serving", "ending", "between-runs", "saved", "service")
 EVERY, PAUSE = (20, 20.0) if SECONDS >= 600 else (5, 4.0)  # seconds of a run, and about that between two kills
 PATIENCE = 600  # seconds for what is left at the end
-WORK, DELAY = 0.1, 2.0  # seconds: the longest job and the longest delay
+WORK, DELAY = 0.1, 2.0  # seconds: the longest job, and the longest delay of most
+SELDOM, LONG = 0.02, 300.0  # the share of jobs that wait for longer, and for how long at most
 GAPS = 0.150, 0.400  # seconds for which nobody is served at a rollover, at the median and at worst
 
 # The program, but that one server has another job in the place of one of a client that it begins with, and says which.
@@ -49,9 +50,9 @@ os.execv({program!r}, [{program!r}, *words])
 class Customer:
     """A client that offers a job, takes one and does it, again and again."""
 
-    def __init__(self, port: int, name: str, stays: bool, is_over: threading.Event) -> None:
+    def __init__(self, port: int, name: str, stays: bool, longest: float, is_over: threading.Event) -> None:
         self.ledger, self._port, self._name, self._stays, self._is_over = Ledger(), port, name, stays, is_over
-        self._count = 0
+        self._longest, self._count = longest, 0
 
     def run(self) -> None:
         while not self._is_over.is_set():
@@ -71,7 +72,8 @@ class Customer:
 
     def _works(self, it: Client, run: int) -> bool:
         self._count += 1
-        payload, delay, sent = f"{self._name}-{self._count}", random.random() * DELAY, time.monotonic()
+        longest = self._longest if random.random() < SELDOM else DELAY
+        payload, delay, sent = f"{self._name}-{self._count}", random.random() * longest, time.monotonic()
         self.ledger.doubts[payload] = run
         if asked(it, f"OFFER {int(delay * 1e9)} {payload}", run, self.ledger).startswith("OFFERED "):
             self.ledger.offered[payload] = Offer(run, sent + delay, time.monotonic() + delay)
@@ -146,7 +148,8 @@ class DayTest(ServiceTest):
     def lived(self, kills: tuple[str, ...], seconds: float, **more: Any) -> tuple[list[Service], list[Ledger]]:
         """Lets services and clients live for so long, and does what is left then."""
         is_over, services = threading.Event(), [self.begin(*self.OPTIONS, **more)]
-        them = [Customer(self.port, f"c{place}", place < 16, is_over) for place in range(24)]
+        longest = min(LONG, seconds / 4)
+        them = [Customer(self.port, f"c{place}", place < 16, longest, is_over) for place in range(24)]
         threads = [threading.Thread(target=it.run, daemon=True) for it in them]
         for thread in threads:
             thread.start()
