@@ -9,8 +9,8 @@ from typing import Callable, Iterator
 import pytest
 
 TOP = Path(__file__).resolve().parent
-# Behind all others, since pytest needs another package of the name `packaging`.
-sys.path += [f"{TOP}/{it}" for it in ("dev/lib", "dev", "tools", "redis/src") if f"{TOP}/{it}" not in sys.path]
+FOLDERS = [f"{TOP}/{folder}" for folder in ("dev/lib", "dev", "tools", "redis/src")]
+sys.path += [folder for folder in FOLDERS if folder not in sys.path]
 
 if "PYTEST_XDIST_WORKER" in os.environ:  # one of several processes, each of which has its part of the ports
     first, end = map(int, os.environ.get("RB_BROKER_PORTS", "20000-32000").split("-"))

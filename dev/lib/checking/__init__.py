@@ -1,7 +1,7 @@
 """What dev/check is made of, and what it tries that belongs to no other folder.
 
     parts.py, parts.toml, together.py   the table of all parts, and how they run, one or several
-    testing.py, trying.py, tally.py     what tests share: tools as commands; programs that `rt try` builds; counts
+    testing.py, trying.py               what tests share: tools as commands; programs that `rt try` builds
     docs/, pages/                       the pages, against each other and the sources, and by what they describe
     program/, server/                   the program, as a command and as a server
     rows/, java/                        rb_cases' tables; the package for Java

@@ -1,5 +1,4 @@
 """The parts of dev/check: what each tries, and how."""
-import importlib
 import os
 import subprocess
 import sys
@@ -9,7 +8,6 @@ from importlib.util import find_spec
 from pathlib import Path
 from typing import Iterable, Sequence
 
-from checking.tally import Tally
 from common.program import TOP
 
 PROCESSORS = os.cpu_count() or 1
@@ -22,8 +20,7 @@ class Part:
     """A part, as parts.toml has it."""
 
     tries: str
-    tests: Sequence[str] = ()
-    check: str = ""
+    tests: Sequence[str]
     needs: Sequence[str] = ()
     packages: str = ""
     at_once: int = 1
@@ -36,10 +33,6 @@ class Part:
     def run(self, only: Sequence[str], is_strict: bool) -> bool:
         """Tries what has one of these words in its name, or all, and returns whether all passed. If this is strict, no
         test may be skipped but for a reason that the part allows."""
-        if self.check:
-            tally = Tally(only, [*self.may_skip] if is_strict else None)
-            importlib.import_module(self.check).check(tally)
-            return tally.end()
         sys.stdout.flush()
         return subprocess.run(self.command(only, is_strict), cwd=TOP, check=False).returncode == 0
 

@@ -9,7 +9,6 @@ from pathlib import Path
 
 import pytest
 
-from checking.tally import Tally
 from checking.testing import PATIENCE
 from common.program import TOP
 
@@ -84,18 +83,3 @@ def test_a_signal_leaves_neither_a_process_nor_a_file(tmp_path: Path, parts: lis
         _, said = process.communicate(timeout=PATIENCE)
     assert (process.returncode, said.splitlines()[-1]) == (128 + 15, "check: it was broken off")
     assert processes_in(tmp_path) == [] and os.listdir(tmp_path) == []
-
-
-def test_a_tally(capsys: pytest.CaptureFixture[str]) -> None:
-    some = Tally(["day", "unit"], ["no moon"])
-    assert [some.wants(it) for it in ("hostile_day", "units", "queues")] == [True, True, False]
-    some.count("a", None)
-    some.skip("b", "no moon")
-    assert some.end()
-    some.count("c", "it is late")
-    some.skip("d", "no sun")
-    assert not some.end()
-    assert capsys.readouterr().out.splitlines() == [
-        "b: skipped: no moon", "1 passed, 0 failed, 1 skipped", "c: it is late", "d: skipped: no sun",
-        "1 passed, 2 failed, 1 skipped",
-    ]

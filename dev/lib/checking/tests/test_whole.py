@@ -78,7 +78,7 @@ def test_what_is_left_out(tmp_path: Path) -> None:
     assert re.fullmatch(r"(?s)tools: passed, .*\n1 passed, 0 failed, in \d+\.\d minutes\n", ran.stdout)
 
 
-@pytest.mark.parametrize("name", [name for name, part in PARTS.items() if part.tests])
+@pytest.mark.parametrize("name", PARTS)
 def test_the_tests_of_a_part_are_there(name: str) -> None:
     assert all(Path(TOP, test).exists() for test in PARTS[name].tests)
 

@@ -1,4 +1,4 @@
-"""The parts of tools/package. Those of dev/check package are below tests/."""
+"""The parts of tools/package."""
 from common.program import TOP
 
 SOURCES = f"{TOP}/packaging"

@@ -4,7 +4,7 @@ import os
 from pathlib import Path
 
 from common.program import TOP
-from packaging import SOURCES
+from bundling import SOURCES
 
 DOCUMENTS = "usr/share/doc/rb-broker"
 TOOLS = "usr/share/rb_broker/tools"

@@ -7,14 +7,16 @@ import time
 from pathlib import Path
 from typing import Self
 
+from bundling.tests.running import Told, run
 from common.program import TOP
-from packaging.tests.running import Told, run
 
 SYSTEMD = "/lib/systemd/systemd"
 UNITS = (
     "sysinit.target", "basic.target", "shutdown.target", "multi-user.target", "sockets.target", "timers.target",
     "systemd-journald.service", "systemd-journald.socket", "systemd-journald-dev-log.socket",
 )
+# Triggers of other packages, such as an index of all manual pages, would take most of the time.
+DPKG = ("dpkg", "--force-depends", "--force-unsafe-io", "--no-triggers")
 NAMESPACES = ("--mount", "--pid", "--uts", "--ipc", "--cgroup")
 PATIENCE = 60  # seconds in which it is up, and in which it is gone
 
@@ -55,7 +57,7 @@ class Machine:
         os.mkdir(self.cgroup)
         # Each of the three ends when the one before has ended, whatever becomes of this one.
         words = ["setpriv", "--pdeathsig", "KILL", "unshare", *NAMESPACES, "--fork", "--kill-child"]
-        words += [f"{TOP}/tools/packaging/tests/boot_systemd", folder, *UNITS]
+        words += [f"{TOP}/tools/bundling/tests/boot_systemd", folder, *UNITS]
         enter = f'echo $$ > "{self.cgroup}/cgroup.procs"; exec "$@"'
         with open(f"{folder}/console", "w", encoding="utf-8") as console:
             self.process = subprocess.Popen(

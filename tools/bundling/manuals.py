@@ -7,8 +7,8 @@ import sys
 import time
 from pathlib import Path
 
-from packaging import Fault
-from packaging.tree import COMMANDS, write
+from bundling import Fault
+from bundling.tree import COMMANDS, write
 
 COLUMNS = "78"  # as wide as a page is set at a terminal
 

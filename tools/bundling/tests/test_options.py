@@ -1,12 +1,14 @@
 """The options: the manual page has each with its range and default, the program takes what the page says, and --help
 says the same."""
 import re
+import shutil
 from pathlib import Path
 from typing import Iterator, NamedTuple
 
-from checking.tally import Tally
-from packaging import SOURCES
-from packaging.tests.running import expect, is_there, run
+import pytest
+
+from bundling import SOURCES
+from bundling.tests.running import run
 
 # The options of each command, in the order of --help.
 COMMANDS = {name: options.split() for name, options in {
@@ -73,36 +75,40 @@ def options_of(page: str) -> list[Option]:
     return found
 
 
-def check_page(tally: Tally) -> dict[str, Option]:
-    """The page has each option of each command in its synopsis, and one entry for each. Gives these by their names."""
-    page = text_of_page()
-    synopsis = page.partition(".SH SYNOPSIS")[2].partition("\n.SH")[0]
-    uses = [it for it in synopsis.split(".SY rb_broker\n") if options_in(it)]
-    told = {it.split("\n")[0].split()[-1]: options_in(it) for it in uses}
-    expect(tally, "the page's synopsis", told == {name: {*of} for name, of in COMMANDS.items()}, told)
-    options = options_of(page)
-    for name in sorted(NAMES):
-        entries = [it for it in options if it.name == name]
-        is_whole = len(entries) == 1 and bool(entries[0].ends) == (entries[0].value in ("N", "P"))
-        expect(tally, f"the page's {name}", is_whole, entries)
-    others = ({it.name for it in options} | options_in(page)) - {*NAMES, "--option"}
-    tally.count("other options of the page", ", ".join(sorted(others)))
-    return {it.name: it for it in options}
+PAGE = text_of_page()
+OPTIONS = {option.name: option for option in options_of(PAGE)}
 
 
-def check_help(tally: Tally, program: str, options: dict[str, Option]) -> None:
-    """The commands are those of --help, and their options those of theirs, with the page's values and defaults."""
+def test_synopsis() -> None:
+    """The page has each option of each command in its synopsis."""
+    synopsis = PAGE.partition(".SH SYNOPSIS")[2].partition("\n.SH")[0]
+    uses = [use for use in synopsis.split(".SY rb_broker\n") if options_in(use)]
+    told = {use.split("\n")[0].split()[-1]: options_in(use) for use in uses}
+    assert told == {name: {*options} for name, options in COMMANDS.items()}
+
+
+def test_entries() -> None:
+    """The page has one entry for each option, with its range if it is a number, and names no other."""
+    entries = options_of(PAGE)
+    assert sorted(entry.name for entry in entries) == sorted(NAMES)
+    assert not [entry for entry in entries if bool(entry.ends) != (entry.value in ("N", "P"))]
+    assert options_in(PAGE) - {"--option"} == NAMES
+
+
+def test_commands(program: str) -> None:
     told = run(program, "--help").said.partition("Commands:")[2].partition("Options:")[0]
-    found = {*re.findall(r"^  ([a-z]+) +.", told, re.M)}
-    expect(tally, "the commands of --help", found == {*COMMANDS, "help"}, found)
-    for command, names in COMMANDS.items():
-        told = run(program, command, "--help").said
-        rows = [option_told(*it) for it in ROW.findall(told) if it[0] not in OF_HELP]
-        wanted = [options[it][:4] for it in names]
-        expect(tally, f"{command} --help", rows == wanted, rows, wanted)
-        needed = [f"{it} <{options[it].value}>" for it in names if options[it].is_required] + file_of(command)
-        usage = " ".join([command, "[OPTIONS]", *needed])
-        expect(tally, f"the usage of {command}", f" {usage}\n" in told, usage, told)
+    assert {*re.findall(r"^  ([a-z]+) +.", told, re.M)} == {*COMMANDS, "help"}
+
+
+@pytest.mark.parametrize("command", COMMANDS)
+def test_help(command: str, program: str) -> None:
+    """Its options are those of --help, with the page's values and defaults, and so is its usage."""
+    told = run(program, command, "--help").said
+    options = [OPTIONS[name] for name in COMMANDS[command]]
+    rows = [option_told(*row) for row in ROW.findall(told) if row[0] not in OF_HELP]
+    assert rows == [option[:4] for option in options]
+    needed = [f"{option.name} <{option.value}>" for option in options if option.is_required] + file_of(command)
+    assert f" {' '.join([command, '[OPTIONS]', *needed])}\n" in told
 
 
 def option_told(name: str, value: str, text: str) -> tuple[object, ...]:
@@ -129,14 +135,13 @@ def accepts(program: str, command: str, *words: str) -> bool | None:
     return False if told.status == 2 else None
 
 
-def check_ranges(tally: Tally, program: str, options: dict[str, Option]) -> None:
+@pytest.mark.parametrize(("command", "name"), [(command, name) for command in COMMANDS for name in COMMANDS[command]])
+def test_range(command: str, name: str, program: str) -> None:
     """The program accepts exactly what the page says, tested at both ends of each range."""
-    for command, names in COMMANDS.items():
-        for option in (options[it] for it in names):
-            others = [f"{it}={options[it].ends[0]}" for it in names if options[it].is_required and it != option.name]
-            faults = [f"{words} is {'refused' if wanted else 'accepted'}" for words, wanted in uses_of(option)
-                      if accepts(program, command, *words, *others) is not wanted]
-            tally.count(f"{command} {option.name}", ", ".join(faults))
+    needed = [OPTIONS[other] for other in COMMANDS[command] if OPTIONS[other].is_required and other != name]
+    others = [f"{option.name}={option.ends[0]}" for option in needed]
+    for words, is_accepted in uses_of(OPTIONS[name]):
+        assert accepts(program, command, *words, *others) is is_accepted, words
 
 
 def uses_of(option: Option) -> Iterator[tuple[list[str], bool]]:
@@ -161,14 +166,14 @@ SECTIONS = {
 }
 
 
-def check_layouts(tally: Tally, folder: str) -> None:
-    """Each page in a folder is set without a warning. mandoc checks it too if it is installed."""
-    for name, parts in SECTIONS.items():
-        path = f"{folder}/{name}.1.gz"
-        told = run("man", "--warnings", "-E", "UTF-8", "-l", path)
-        missing = [it for it in parts if it not in told.said]
-        expect(tally, f"man of {name}", not told.errors and told.status == 0, told)
-        expect(tally, f"the sections of {name}", not missing, f"it has no {missing}")
-        if is_there("mandoc", tally, f"mandoc -T lint of {name}"):
-            told = run("mandoc", "-T", "lint", path)
-            tally.count(f"mandoc -T lint of {name}", told.said + told.errors)
+@pytest.mark.parametrize("name", SECTIONS)
+def test_layout(name: str, root: Path) -> None:
+    """The page is set without a warning."""
+    path = f"{root}/usr/share/man/man1/{name}.1.gz"
+    told = run("man", "--warnings", "-E", "UTF-8", "-l", path)
+    assert not told.errors and told.status == 0, told
+    assert not [part for part in SECTIONS[name] if part not in told.said]
+    if not shutil.which("mandoc"):
+        pytest.skip("mandoc is not installed")
+    told = run("mandoc", "-T", "lint", path)
+    assert not told.said + told.errors

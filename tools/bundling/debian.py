@@ -10,9 +10,9 @@ import tempfile
 from pathlib import Path
 
 from common.program import TOP
-from packaging import SOURCES, Fault
-from packaging.manuals import write_manuals
-from packaging.tree import DOCUMENTS, copy, lay_out, write
+from bundling import SOURCES, Fault
+from bundling.manuals import write_manuals
+from bundling.tree import DOCUMENTS, copy, lay_out, write
 
 OF_DPKG = ("conffiles", "postinst", "prerm", "postrm")  # files of packaging/debian that dpkg needs as they are
 

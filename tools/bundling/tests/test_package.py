@@ -1,0 +1,50 @@
+"""tools/package: what it refuses, and the package that it makes, installs and removes."""
+import filecmp
+import os
+from pathlib import Path
+
+import pytest
+
+from bundling.tests.conftest import dpkg, installed, made
+from bundling.tests.running import DONE, run
+from common.program import TOP
+
+
+# What tools can't work with, each with what they say.
+@pytest.mark.parametrize(("why", "line"), [
+    ("is no file", "package --program none"),
+    ("is no ELF program", "package --program {top}/README.md"),
+    ("is no folder", "package --program {program} --output none"),
+    # The times of a service need a unit, and its numbers have ranges.
+    ("30 has no unit", "service --delay 30"),
+    ("not allowed with", "service --delay 1s --rate 1s"),
+    ("0 is not from 1 to 65535", "service --port 0"),
+    ("17 is not from 1 to 16", "service --workers 17"),
+    ("2h is not from 1s to 1h", "service --stop-within 2h"),
+    ("2d is not from 1s to 1d", "service --silent 2d"),
+    ("0s is not from 1s to 30d", "service --every 0s"),
+    ("unrecognized arguments: --history", "service --history x"),
+])
+def test_refusals(why: str, line: str, program: str, tmp_path: Path) -> None:
+    """One clear line is said, and nothing is left in the empty folder."""
+    tool, *words = line.format(program=program, top=TOP).split()
+    told = run(f"{TOP}/tools/{tool}", *words, folder=str(tmp_path))
+    assert told.status == 2 and not told.said and why in told.errors and told.errors.count("\n") == 1, told
+    assert not os.listdir(tmp_path)
+
+
+def test_same_files_make_the_same_package(package: Path, tmp_path: Path) -> None:
+    assert filecmp.cmp(package, made(tmp_path), shallow=False)
+
+
+def test_installation(root: Path) -> None:
+    told = run("dpkg-query", f"--admindir={root}/var/lib/dpkg", "-W", "-f", "${Status};${Conffiles}", "rb-broker")
+    assert told.said.startswith("install ok installed;") and "/etc/default/rb_broker " in told.said, told
+    assert dpkg(root, "--verify", "rb-broker") == DONE
+
+
+def test_removal_leaves_no_file(package: Path, tmp_path: Path) -> None:
+    told = dpkg(installed(package, tmp_path), "--purge", "rb-broker")
+    assert told.status == 0, told
+    paths = [f"{folder}/{name}" for folder, _, names in os.walk(tmp_path) for name in names]
+    assert not [path for path in paths if "rb_broker" in path.removeprefix(str(tmp_path)) or "rb-broker" in path]
