@@ -1,16 +1,11 @@
-"""What all tests share: where the modules lie, ports of their own for servers, and servers that end with their test."""
+"""What all tests share: ports of their own for servers, and servers that end with their test."""
 import os
 import re
 import subprocess
-import sys
 from pathlib import Path
 from typing import Callable, Iterator
 
 import pytest
-
-TOP = Path(__file__).resolve().parent
-FOLDERS = [f"{TOP}/{folder}" for folder in ("dev/lib", "dev", "tools", "redis/src")]
-sys.path += [folder for folder in FOLDERS if folder not in sys.path]
 
 if "PYTEST_XDIST_WORKER" in os.environ:  # one of several processes, each of which has its part of the ports
     first, end = map(int, os.environ.get("RB_BROKER_PORTS", "20000-32000").split("-"))
@@ -31,7 +26,7 @@ def pytest_sessionfinish(session: pytest.Session) -> None:
     allowed = session.config.getoption("--may-skip")
     reporter = session.config.pluginmanager.getplugin("terminalreporter")
     if allowed is not None and reporter:
-        reasons = [it.longrepr[2].removeprefix("Skipped: ") for it in reporter.stats.get("skipped", [])]
+        reasons = [report.longrepr[2].removeprefix("Skipped: ") for report in reporter.stats.get("skipped", [])]
         if not all(re.fullmatch(allowed, reason) for reason in reasons):
             session.exitstatus = pytest.ExitCode.TESTS_FAILED
 

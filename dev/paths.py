@@ -4,4 +4,3 @@ import sys
 
 HERE = os.path.dirname(os.path.realpath(__file__))
 sys.path[1:1] = [f"{HERE}/lib", f"{os.path.dirname(HERE)}/tools"]
-sys.path.append(f"{os.path.dirname(HERE)}/redis/src")  # for what tools share with the broker on Redis

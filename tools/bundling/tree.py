@@ -32,10 +32,10 @@ FOR_READERS = (
 
 # The tools that become commands, each with the folder of its modules, and what several of them import.
 COMMANDS = {"service": "servicing", "report": "reporting", "verify": "verifying", "load": "loading"}
-SHARED = ("common", "histories")
+SHARED = ("common",)
 
 # The packages for Python, below this repository's folder.
-PACKAGES = ("clients/python/src/rb_broker_client", "redis/src/rb_broker_redis")
+PACKAGES = ("formats/src/rb_broker_formats", "clients/python/src/rb_broker_client", "redis/src/rb_broker_redis")
 WATCHING = "rb_broker_redis/watching"  # the part of the second that tools use, too
 
 
@@ -80,9 +80,9 @@ def lay_out_tools(top: Path, root: Path) -> None:
     for package in PACKAGES:
         copy(top / package, root / PYTHON / Path(package).name)
     copy(top / "redis/src" / WATCHING, root / PYTHON / WATCHING)
-    # Where tools look for these packages, so that they find them whatever python3 is the first on the path.
-    for package in PACKAGES:
-        _link(root / PYTHON / Path(package).name, root / "usr/share/rb_broker" / package)
+    # Beside the tools, which so find these packages whatever python3 is the first on the path.
+    for name in (Path(package).name for package in PACKAGES):
+        _link(root / PYTHON / name, root / TOOLS / name)
 
 
 def _link(target: Path, path: Path) -> None:

@@ -4,7 +4,7 @@ from __future__ import annotations
 from array import array
 from typing import NamedTuple, Sequence
 
-from histories.history import History
+from rb_broker_formats.history import History
 from reporting.dates import Clock
 from reporting.depth import Depth, depth_of
 from reporting.findings import Finding, findings_of

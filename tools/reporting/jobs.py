@@ -10,7 +10,7 @@ from heapq import nlargest
 from operator import itemgetter
 from typing import Iterable, NamedTuple, Sequence
 
-from histories.history import History
+from rb_broker_formats.history import History
 
 MOST_LATEST = 100
 

@@ -5,7 +5,7 @@ from array import array
 from heapq import merge
 from typing import Sequence
 
-from histories.history import History
+from rb_broker_formats.history import History
 
 PART = 100_000  # numbers that are sorted at a time
 

@@ -2,7 +2,7 @@
 from array import array
 from typing import NamedTuple, Sequence
 
-from histories.history import History
+from rb_broker_formats.history import History
 from reporting import svg
 from reporting.depth import Depth
 from reporting.figures import Figures

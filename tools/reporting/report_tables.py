@@ -1,8 +1,8 @@
 """The tables of a report, which the terminal and the page show alike, and what is told of a job."""
 from typing import Iterator, Sequence
 
-from histories import acts
-from histories.history import NONE, History
+from rb_broker_formats import acts
+from rb_broker_formats.history import NONE, History
 from reporting.dates import Clock
 from reporting.depth import Depth
 from reporting.figures import Figures

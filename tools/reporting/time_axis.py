@@ -5,7 +5,7 @@ from array import array
 from bisect import bisect_left
 from typing import Iterable
 
-from histories.history import History
+from rb_broker_formats.history import History
 from reporting import svg
 from reporting.dates import Clock
 from reporting.svg import SHARES, Scale, Tick

@@ -4,7 +4,7 @@ taken away would give jobs twice, or lose them without a word."""
 from enum import Enum
 from typing import Collection, Mapping, NamedTuple, Sequence
 
-from histories.grammar import MOST_OPENING_ELEMENTS
+from rb_broker_formats.grammar import MOST_OPENING_ELEMENTS
 from servicing.looking import Looks
 from servicing.server import Checked, Server
 from servicing.settings import Keep, Settings

@@ -2,7 +2,7 @@
 from dataclasses import dataclass, field, replace
 from typing import BinaryIO, Iterable, Iterator
 
-from histories.grammar import GREATEST, GREATEST_OPENING_ID, MOST_OPENING_ELEMENTS
+from rb_broker_formats.grammar import GREATEST, GREATEST_OPENING_ID, MOST_OPENING_ELEMENTS
 from rb_broker_redis.watching.units import SECOND
 
 # An element by its id: the rest of its `keep` line, which is EXPIRY ORIGIN FIRST ATTEMPT PAYLOAD. The ids rise.

@@ -11,7 +11,7 @@ import threading
 import time
 from dataclasses import dataclass, field, replace
 
-from histories.files import open_history
+from rb_broker_formats.files import open_history
 from servicing.clock import Reading, elapsed, is_same_boot, read_clock
 from servicing.deciding import Misfit, digest_of, misfit_in, runs_to_drop
 from servicing.folder import Folder, Unusable, record_of

@@ -11,7 +11,7 @@ import termios
 import time
 from typing import Callable, Iterable, Iterator, NamedTuple, Sequence
 
-from histories.files import open_history
+from rb_broker_formats.files import open_history
 from servicing.memory import Kept, Memory
 from servicing.opening import VERSION, Left, left_in
 

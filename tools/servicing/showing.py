@@ -4,7 +4,7 @@ from collections import deque
 from dataclasses import replace
 from typing import Iterator, Sequence
 
-from histories.grammar import MOST_OPENING_ELEMENTS
+from rb_broker_formats.grammar import MOST_OPENING_ELEMENTS
 from servicing.looking import Looks
 from servicing.page import add_mark
 from servicing.runs import Runs

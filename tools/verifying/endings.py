@@ -8,10 +8,10 @@ from __future__ import annotations
 from array import array
 from collections import Counter, deque
 
-from histories.acts import given_ids
+from rb_broker_formats.acts import given_ids
 from verifying.account import MOST_HELD
 from verifying.calls import NEVER, Calls, Session
-from histories.history import NONE
+from rb_broker_formats.history import NONE
 
 
 def follow_ends(calls: Calls) -> Counter[str]:

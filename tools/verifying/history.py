@@ -5,10 +5,10 @@ from bisect import bisect_left, bisect_right
 from functools import lru_cache
 from typing import BinaryIO, Match, Sequence
 
-from histories.acts import IDS
-from histories.faults import Damaged
-from histories.history import NONE, Element
-from histories.text import Text
+from rb_broker_formats.acts import IDS
+from rb_broker_formats.faults import Damaged
+from rb_broker_formats.history import NONE, Element
+from rb_broker_formats.text import Text
 
 # Takes the place of an event's place in its seat's row, if it is not looked for there.
 NOWHERE = (1 << 32) - 1

@@ -9,7 +9,7 @@ in which they were sent; those of several sessions may stand among each other.
 import json
 from typing import Any, BinaryIO, Iterator, NamedTuple
 
-from histories.faults import Damaged
+from rb_broker_formats.faults import Damaged
 
 LONGEST_LINE = 1 << 20
 GREATEST_TIME = (1 << 63) - 1

@@ -8,7 +8,7 @@ from pathlib import Path
 from typing import Any, Sequence
 
 from checking.testing import RoomTest, call_tool, run_tool
-from histories.tests.support import read
+from history_texts import read
 from reporting import tests
 from reporting.figures import Figures, figures_of
 from reporting.tests.browser import PATIENCE, Browser

@@ -2,7 +2,7 @@
 text."""
 from typing import Any
 
-from histories.tests.support import RUN, offer, text_of
+from history_texts import RUN, offer, text_of
 from reporting.tests.support import ReportPageTest
 from reporting.tests.test_page import HOSTILE, hostile_text
 

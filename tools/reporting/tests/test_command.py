@@ -4,7 +4,7 @@ from pathlib import Path
 
 from common.progress import ERASE
 from common.tests.support import long_work_at_terminal
-from histories.tests.support import RUN, offer, text_of
+from history_texts import RUN, offer, text_of
 from reporting.tests.support import ReportTest, call, run
 from reporting.tests.test_findings import failing
 

@@ -1,7 +1,7 @@
 """The figures of histories, counted by hand."""
 import unittest
 
-from histories.tests.support import RUN, offer, read, text_of
+from history_texts import RUN, offer, read, text_of
 from reporting.depth import depth_of
 from reporting.jobs import NoJob, jobs_named
 from reporting.lateness import rank, ranks

@@ -3,7 +3,7 @@ writes."""
 import unittest
 from pathlib import Path
 
-from histories.tests.support import RUN, offer, text_of
+from history_texts import RUN, offer, text_of
 from reporting.findings import Finding
 from reporting.tests.support import figures
 

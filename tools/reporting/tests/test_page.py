@@ -6,7 +6,7 @@ from html.parser import HTMLParser
 from typing import Any
 from unittest import mock
 
-from histories.tests.support import RUN, offer, read, text_of
+from history_texts import RUN, offer, read, text_of
 from reporting.figures import figures_of
 from reporting.page import page
 from reporting.tests.support import figures

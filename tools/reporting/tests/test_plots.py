@@ -2,7 +2,7 @@
 import re
 import unittest
 
-from histories.tests.support import RUN, offer, read, text_of
+from history_texts import RUN, offer, read, text_of
 from reporting import svg
 from reporting.dates import Clock, nanoseconds_of
 from reporting.plots import depth_plot, lateness_in, lateness_plot, plots_of

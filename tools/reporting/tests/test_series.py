@@ -1,7 +1,7 @@
 """Runs that follow one another: their order, what does not continue, one life of a job, totals, and dates."""
-from histories.faults import Damaged
-from histories.files import read_series
-from histories.tests.support import offer, text_of
+from rb_broker_formats.faults import Damaged
+from rb_broker_formats.files import read_series
+from history_texts import offer, text_of
 from reporting.dates import Clock, nanoseconds_of
 from reporting.tests.support import ReportTest, counts
 from rb_broker_redis.watching.units import SECOND

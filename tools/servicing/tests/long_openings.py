@@ -2,7 +2,7 @@
 `dev/check service --long` alone runs it."""
 import signal
 
-from histories.grammar import MOST_OPENING_ELEMENTS
+from rb_broker_formats.grammar import MOST_OPENING_ELEMENTS
 from serving.session import Session
 from servicing.tests.process import Event, Service, ServiceTest
 

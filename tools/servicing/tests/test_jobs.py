@@ -4,7 +4,7 @@ from collections import Counter
 from pathlib import Path
 
 from examples.tests.processes import Worker
-from histories.files import read_series
+from rb_broker_formats.files import read_series
 from servicing.opening import PROBE
 from servicing.tests.process import ServiceTest, until
 

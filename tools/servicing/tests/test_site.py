@@ -12,7 +12,7 @@ from unittest import mock
 from urllib.parse import quote, urlencode
 
 from checking.testing import RoomTest
-from histories.tests.support import RUN
+from history_texts import RUN
 from servicing import reports
 from servicing import state as served
 from servicing.folder import Unusable

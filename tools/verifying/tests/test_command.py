@@ -6,7 +6,7 @@ from typing import Callable, NamedTuple
 import pytest
 
 from checking.testing import tool
-from histories.tests.support import offer, text_of
+from history_texts import offer, text_of
 from verifying.tests.support import Line, Run, line_of, record_of, texts_of, verify
 
 RUN = Run.named("three sessions")

@@ -6,7 +6,7 @@ from typing import Iterator, NamedTuple
 
 import pytest
 
-from histories.tests.support import text_of
+from history_texts import text_of
 from verifying.tests.support import RUNS, Run, history_of, judged, line_of
 
 FAULTS = re.compile(r"(|--all |--leases )= ([^:]+)(?:: (.*))?")

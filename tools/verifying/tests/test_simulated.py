@@ -5,7 +5,7 @@ from typing import Callable, Sequence
 from hypothesis import HealthCheck, assume, given, settings
 from hypothesis import strategies as st
 
-from histories.tests.support import text_of
+from history_texts import text_of
 from verifying.tests.simulated import Idle, Simulation
 from verifying.tests.support import Line, history_of, judged
 

@@ -20,9 +20,9 @@ import pytest
 from checking.server.clients import Client, early
 from checking.testing import run_tool
 from common.program import tested_program
-from histories import acts
-from histories.history import NONE, History
-from histories.reader import read_history
+from rb_broker_formats import acts
+from rb_broker_formats.history import NONE, History
+from rb_broker_formats.reader import read_history
 from serving.server import Ended, Server
 
 SEED = os.environ.get("RB_BROKER_SEED", "1")

@@ -1,8 +1,8 @@
 """What several tests need, also those of tools that read histories: texts from lines, and what is read from them."""
 import io
 
-from histories.history import History
-from histories.reader import read_history
+from rb_broker_formats.history import History
+from rb_broker_formats.reader import read_history
 
 # A run behind another, in which each kind of call stands. Elements 0 and 2 are there at the start; 2 is the second
 # attempt of a job whose first one is not in the text.

@@ -12,7 +12,7 @@ from dataclasses import dataclass, field
 from itertools import count
 from typing import Any, Iterator, NamedTuple
 
-from histories.acts import GIVES
+from .acts import GIVES
 
 # Takes the place of a row or an event if there is none.
 NONE = -1

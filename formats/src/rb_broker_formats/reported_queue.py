@@ -1,8 +1,8 @@
 """The queue of a history while it is read: which elements are in it, and what may happen to them."""
 from typing import Iterator, Match, Sequence
 
-from histories.faults import Wrong
-from histories.history import NONE, History
+from .faults import Wrong
+from .history import NONE, History
 
 # Id, expiry, origin, first expiry or nothing, attempt and payload, as a line has them.
 ElementWords = tuple[bytes, ...]

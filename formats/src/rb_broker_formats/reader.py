@@ -8,12 +8,12 @@ same elements, and the last moment or, where the time between the two counts, a 
 """
 from typing import BinaryIO, Callable, Iterable, Match, TypeVar
 
-from histories.acts import BY_KEYWORD, CLEAR, DRAIN, GIVES_ONE, OFFER, PEEK, PEEK_NONE, REMOVE, SIZE
-from histories.faults import Damaged, Wrong
-from histories.grammar import GREATEST, OFFERED_GROUPS, Head
-from histories.history import History, Run
-from histories.reported_queue import ReportedQueue
-from histories.text import Text
+from .acts import BY_KEYWORD, CLEAR, DRAIN, GIVES_ONE, OFFER, PEEK, PEEK_NONE, REMOVE, SIZE
+from .faults import Damaged, Wrong
+from .grammar import GREATEST, OFFERED_GROUPS, Head
+from .history import History, Run
+from .reported_queue import ReportedQueue
+from .text import Text
 
 Line = TypeVar("Line")
 

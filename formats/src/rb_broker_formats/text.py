@@ -6,8 +6,8 @@ tells another number of lines than there is. What the lines say is for their rea
 from functools import partial
 from typing import BinaryIO, Iterator, Match
 
-from histories.faults import Damaged
-from histories.grammar import (
+from .faults import Damaged
+from .grammar import (
     END, GRAMMARS, GREATEST, GREATEST_OPENING_ID, HEADERS, LONGEST_LINE, MOST_EVENTS, MOST_OPENING_ELEMENTS, OPEN, Head,
 )
 

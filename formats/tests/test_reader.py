@@ -5,10 +5,10 @@ import pytest
 from hypothesis import given, settings
 from hypothesis import strategies as st
 
-from histories import acts
-from histories.faults import Damaged
-from histories.history import NONE
-from histories.tests.support import RUN, offer, read, text_of
+from rb_broker_formats import acts
+from rb_broker_formats.faults import Damaged
+from rb_broker_formats.history import NONE
+from history_texts import RUN, offer, read, text_of
 
 GREATEST = 2**64 - 1
 

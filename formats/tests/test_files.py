@@ -5,8 +5,8 @@ from pathlib import Path
 import pytest
 
 from checking.testing import call_tool
-from histories.files import open_history
-from histories.tests.support import RUN
+from rb_broker_formats.files import open_history
+from history_texts import RUN
 
 WHOLE = gzip.compress(RUN.encode())
 OTHER_SUM = WHOLE[:-8] + bytes([WHOLE[-8] ^ 255]) + WHOLE[-7:]

@@ -2,21 +2,27 @@
 import gzip
 import zlib
 from contextlib import contextmanager
-from typing import BinaryIO, Iterator, Sequence
+from typing import BinaryIO, Callable, Iterator, Sequence
 
-from common.progress import Progress
-from histories.faults import Damaged
-from histories.history import History
-from histories.reader import Reader
-from histories.text import Text
+from .faults import Damaged
+from .history import History
+from .reader import Reader
+from .text import Text
 
 COMPRESSED = ".gz"  # the end of the name of a file that gzip wrote
 
 
+Opener = Callable[[str], BinaryIO]  # of the file at a path
+
+
+def _open(path: str) -> BinaryIO:
+    return open(path, "rb")
+
+
 @contextmanager
-def open_history(path: str, progress: Progress | None = None) -> Iterator[BinaryIO]:
+def open_history(path: str, opener: Opener = _open) -> Iterator[BinaryIO]:
     """The text in this file, which what is said of damage names."""
-    with progress.reading(path) if progress else open(path, "rb") as file:
+    with opener(path) as file:
         try:
             # A GzipFile is read as a BinaryIO is.
             yield gzip.GzipFile(fileobj=file) if path.endswith(COMPRESSED) else file  # type: ignore[misc]
@@ -27,11 +33,11 @@ def open_history(path: str, progress: Progress | None = None) -> Iterator[Binary
             raise
 
 
-def read_series(paths: Sequence[str], progress: Progress | None = None) -> History:
+def read_series(paths: Sequence[str], opener: Opener = _open) -> History:
     """The history of all runs. Files that are named in another order than that of the runs are put into it."""
     reader = Reader()
     for path in sorted(paths, key=_opening) if len(paths) > 1 else paths:  # a pipe can be opened only once
-        with open_history(path, progress) as file:
+        with open_history(path, opener) as file:
             reader.read(path, Text(file))
     return reader.history
 
