@@ -4,9 +4,8 @@ from __future__ import annotations
 import unittest
 
 from case_tables import bytes_of, tables_of_kind
-from rb_broker_redis.protocol import ErrorReply
-from rb_broker_redis.request import LineCutter
-from rb_broker_redis.request import Kind, Request, read_request
+from rb_broker_formats.protocol import ErrorReply
+from rb_broker_formats.requests import Kind, LineCutter, Request, read_request
 
 WAITS = (b"TAKE", b"POLLFOR")
 

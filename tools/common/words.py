@@ -7,7 +7,7 @@ import sys
 from typing import Any, Callable, Final
 
 from common.program import TOP
-from rb_broker_redis.dates import read_duration
+from rb_broker_formats.durations import read_duration
 
 Number = int | float
 PACKAGE: Final = "rb-broker"

@@ -1,5 +1,7 @@
 """The texts of rb_broker, each read and written once: by its clients, by gateways, and by tools.
 
+    protocol.py, requests.py the limits of requests and replies, their words, and which request a line is
+    durations.py, dates.py   durations and dates as people write them
     grammar.py, text.py      the lines of a history, one after the other, each of which must be of its form
     acts.py                  what an event may be, and what it gave
     history.py, reader.py, reported_queue.py  a history in columns, with the queue that it describes

@@ -4,7 +4,8 @@ from __future__ import annotations
 import argparse
 from collections.abc import Iterator, Sequence
 
-from .dates import date_text
+from rb_broker_formats.dates import date_text
+
 from .ending import Failed, fail
 from .protocol import GREATEST_NUMBER
 from .queue import Queue

@@ -11,7 +11,8 @@ from pathlib import Path
 
 import redis
 
-from .dates import date_text, nanoseconds_of
+from rb_broker_formats.dates import date_text, nanoseconds_of
+
 from .ending import Failed
 from .history import GREATEST_ID, MOST_KEPT, Element, FollowedQueue, read_judged
 from .protocol import GREATEST_NUMBER

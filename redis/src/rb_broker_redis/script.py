@@ -10,11 +10,12 @@ from itertools import chain
 from pathlib import Path
 from typing import BinaryIO
 
+from rb_broker_formats.requests import Kind, LineCutter, read_request
+
 from .ending import Failed
 from .history import GREATEST_ID, HEADER, MOST_KEPT, Damaged, FollowedQueue, read_judged
 from .protocol import MOST_CALLS, ErrorReply
 from .queue import Queue, connect
-from .request import Kind, LineCutter, read_request
 from .session import BYE
 from .waits import LATER, STOPPED
 from .words import Parser, add_command, add_policy_words, add_redis_word, address_in, policy_in, whole

@@ -6,8 +6,9 @@ import socket
 from collections import deque
 from typing import TYPE_CHECKING, cast
 
+from rb_broker_formats.requests import Kind, LineCutter, read_request, refused
+
 from .protocol import MOST_HELD, SECOND, ErrorReply
-from .request import Kind, LineCutter, read_request, refused
 from .turns import FETCHES
 from .waits import LATER, STOPPED, Wait
 

@@ -11,10 +11,11 @@ from secrets import token_hex
 from typing import TYPE_CHECKING, Any, cast
 from uuid import uuid4
 
+from rb_broker_formats.dates import date_text
+
 from .address import Address
 from .calls import UNKNOWN, Calls, needs_new_link
 from .clock import NodeClock
-from .dates import date_text
 from .keys import channel_of, keys_of
 from .leases import Leases
 from .library import load_functions, name_of

@@ -5,7 +5,8 @@ from collections.abc import Iterator
 from dataclasses import dataclass
 from typing import Any, NamedTuple
 
-from .dates import date_text
+from rb_broker_formats.dates import date_text
+
 from .looks import MOST_DEAD, DeadJob, QueueSeen
 from .shards import outer_id
 from .watching.metrics import Number, date, span_of, told

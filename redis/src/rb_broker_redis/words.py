@@ -5,8 +5,9 @@ import argparse
 from collections.abc import Callable
 from typing import NoReturn
 
+from rb_broker_formats.durations import read_duration
+
 from .address import DEFAULT, VARIABLE, Address, address_of
-from .dates import read_duration
 from .ending import NAME, Failed
 from .keys import checked_name
 from .protocol import MOST_ATTEMPTS

@@ -4,7 +4,8 @@ import unittest
 
 from history_texts import RUN, offer, read, text_of
 from reporting import svg
-from reporting.dates import Clock, nanoseconds_of
+from rb_broker_formats.dates import nanoseconds_of
+from reporting.dates import Clock
 from reporting.plots import depth_plot, lateness_in, lateness_plot, plots_of
 from reporting.svg import Scale
 from reporting.tests.support import figures

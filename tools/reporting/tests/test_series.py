@@ -2,7 +2,8 @@
 from rb_broker_formats.faults import Damaged
 from rb_broker_formats.files import read_series
 from history_texts import offer, text_of
-from reporting.dates import Clock, nanoseconds_of
+from rb_broker_formats.dates import nanoseconds_of
+from reporting.dates import Clock
 from reporting.tests.support import ReportTest, counts
 from rb_broker_redis.watching.units import SECOND
 

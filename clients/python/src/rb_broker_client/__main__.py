@@ -24,8 +24,10 @@ from contextlib import contextmanager
 from functools import partial
 from typing import Any
 
+from rb_broker_formats.protocol import MOST_HELD
+
 from . import __version__
-from .answers import MOST_HELD, BrokerError
+from .answers import BrokerError
 from .broker import Broker
 from .dead_letters import payload_of, read_letters, take_letters
 from .durations import from_text, seconds

@@ -9,10 +9,7 @@ from collections.abc import Callable, Coroutine
 from dataclasses import dataclass, field
 from typing import TYPE_CHECKING, Any, ClassVar, Self
 
-GREATEST_NUMBER = 2**64 - 1  # that a request or a reply may have
-LONGEST_PAYLOAD = 64  # characters, each of which is printable ASCII and none a space
-LONGEST_REPLY = 117  # bytes of a line, its line feed included
-MOST_HELD = 64  # jobs that a session may hold
+from rb_broker_formats.protocol import GREETING, ErrorReply
 
 
 @dataclass(frozen=True)
@@ -37,7 +34,7 @@ class Greeting:
     @classmethod
     def of(cls, line: bytes) -> "Greeting | None":
         """That of a line, or None if it is none."""
-        found = re.fullmatch(b"RUN (#) lost (#) at (#)".replace(b"#", b"0|[1-9][0-9]{0,19}"), line)
+        found = re.fullmatch(GREETING.encode(), line)
         return cls(*map(int, found.groups())) if found else None
 
 
@@ -77,7 +74,7 @@ class Job:
 
     def of(self, session: object) -> Self:
         """This job, which the session was shown."""
-        vars(self)["_session"] = session  # past the lock of a frozen class
+        object.__setattr__(self, "_session", session)  # past the lock of a frozen class
         return self
 
 
@@ -167,8 +164,5 @@ class OutOfMemoryError(RefusedError):
     """`ERR 7`: the server has no memory for it now. The same request may be sent again."""
 
 
-REFUSALS = {
-    b"ERR 1 syntax": RefusedError, b"ERR 2 number": RefusedError, b"ERR 3 range": RefusedError,
-    b"ERR 4 payload": RefusedError, b"ERR 5 not-held": NotHeldError, b"ERR 6 full": FullError,
-    b"ERR 7 memory": OutOfMemoryError, b"ERR 8 line": RefusedError, b"ERR 9 held": RefusedError,
-}
+_REFUSALS = {ErrorReply.NOT_HELD: NotHeldError, ErrorReply.FULL: FullError, ErrorReply.MEMORY: OutOfMemoryError}
+REFUSALS = {reply.value[:-1]: _REFUSALS.get(reply, RefusedError) for reply in ErrorReply}

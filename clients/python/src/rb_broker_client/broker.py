@@ -17,8 +17,10 @@ from operator import length_hint
 from selectors import EVENT_READ, EVENT_WRITE
 from typing import Any, ClassVar, Concatenate, Generic, Self, TextIO
 
+from rb_broker_formats.protocol import LONGEST_REPLY
+
 from .answers import (
-    LONGEST_REPLY, AsyncHeldJob, BrokerError, DisconnectedError, EndedError, Greeting, HeldJob, Job, UnknownReplyError,
+    AsyncHeldJob, BrokerError, DisconnectedError, EndedError, Greeting, HeldJob, Job, UnknownReplyError,
 )
 from .durations import Duration, seconds
 from .request import Answer, Request

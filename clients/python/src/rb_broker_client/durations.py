@@ -1,18 +1,16 @@
 """Durations as callers give them, and those of pauses between tries."""
 
 import random
-import re
 from datetime import timedelta
 from fractions import Fraction
 
-from .answers import GREATEST_NUMBER
+from rb_broker_formats.durations import SECOND, nanoseconds_in
+from rb_broker_formats.protocol import GREATEST_NUMBER
 
 Duration = int | float | timedelta
 """Seconds as a number, or a `timedelta`."""
 
 FOR_EVER = 1e6  # seconds of a wait that only what happens ends
-SECOND = 1_000_000_000  # nanoseconds
-UNITS = {"ns": 1e-9, "us": 1e-6, "ms": 1e-3, "": 1, "s": 1, "m": 60, "h": 3_600, "d": 86_400}  # in seconds
 
 
 def nanoseconds(duration: Duration | Fraction) -> int:
@@ -32,10 +30,10 @@ def from_text(duration: Duration | str) -> float:
     """A duration in seconds, 0 or more, which may be a text: `"5s"`, `"2m"`, `"1.5h"`, or a number of seconds."""
     if not isinstance(duration, str):
         return nanoseconds(duration) / SECOND
-    found = re.fullmatch(r"([0-9]+(?:\.[0-9]+)?)(|ns|us|ms|s|m|h|d)", duration, re.ASCII)
+    found = nanoseconds_in(duration, bare=SECOND)
     if found is None:
         raise ValueError(f"{duration} is no delay, such as 5s, 2m, 1.5h or 250")
-    return float(found[1]) * UNITS[found[2]]
+    return float(found / SECOND)
 
 
 def seconds(duration: Duration) -> float:

@@ -7,16 +7,14 @@ from collections.abc import Callable, Iterator, Mapping
 from dataclasses import dataclass
 from typing import Generic, NoReturn, TypeVar
 
-from .answers import (
-    GREATEST_NUMBER, LONGEST_PAYLOAD, REFUSALS, Again, BrokerError, Dead, Job, Offered, StoppedError, UnknownReplyError,
-    Verdict,
-)
+from rb_broker_formats.protocol import ATTEMPT, GREATEST_NUMBER, LONGEST_PAYLOAD, NUMBER, PAYLOAD
+
+from .answers import REFUSALS, Again, BrokerError, Dead, Job, Offered, StoppedError, UnknownReplyError, Verdict
 from .durations import Duration, nanoseconds
 
 Answer = TypeVar("Answer")
 Reader = Callable[[Iterator[bytes]], Answer]  # of a reply, of which it takes as many lines as there are
 
-_PAYLOAD = "[!-~]{1,%d}" % LONGEST_PAYLOAD
 _WAITS: Mapping[bytes, type[BrokerError]] = {**REFUSALS, b"STOPPED": StoppedError}
 
 
@@ -30,10 +28,10 @@ def _number(word: bytes) -> int:
 
 
 _WORDS: Mapping[str, tuple[str, Callable[[bytes], object]]] = {
-    "#": ("(0|[1-9][0-9]{0,19})", _number),
-    "@": ("([1-9][0-9]{0,2}|1000)", int),  # an attempt
+    "#": (f"({NUMBER})", _number),
+    "@": (f"({ATTEMPT})", int),
     "%": ("([0-9]|[1-5][0-9]|6[0-4])", int),  # how many jobs a session may hold
-    "*": (f"({_PAYLOAD})", bytes.decode),
+    "*": (f"({PAYLOAD})", bytes.decode),
 }
 
 
@@ -139,6 +137,6 @@ class Request(Generic[Answer]):
 def _checked(payload: str) -> bytes:
     if not isinstance(payload, str):  # as None, which could be written as a text all the same
         raise TypeError(f"a payload is a str, not {type(payload).__name__}")
-    if not re.fullmatch(_PAYLOAD, payload):
+    if not re.fullmatch(PAYLOAD, payload):
         raise ValueError(f"a payload is 1 to {LONGEST_PAYLOAD} characters of printable ASCII, no space: {payload!r}")
     return payload.encode()

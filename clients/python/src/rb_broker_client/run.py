@@ -5,7 +5,9 @@ from collections.abc import Callable
 from threading import Thread
 from typing import Any
 
-from .answers import GREATEST_NUMBER, Greeting, LostRun
+from rb_broker_formats.protocol import GREATEST_NUMBER
+
+from .answers import Greeting, LostRun
 
 SHARDS = 64  # queues that a broker on Redis may have under one name, by whose number ids count
 PIECE, MOST_PIECES = 1_024, 4_096  # ids of one number, of each a bit, and how many of these are kept

@@ -14,7 +14,9 @@ from dataclasses import dataclass
 from functools import partial
 from typing import Any, ClassVar, Generic, TextIO, TypeVar
 
-from .answers import MOST_HELD, Job, LostRun, Report
+from rb_broker_formats.protocol import MOST_HELD
+
+from .answers import Job, LostRun, Report
 from .broker import AsyncBroker, Broker, Session, checked_port
 from .dead_letters import DeadLetters
 from .durations import FOR_EVER, Duration, Pauses, seconds

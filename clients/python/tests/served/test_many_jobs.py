@@ -5,7 +5,7 @@ import threading
 import time
 
 from rb_broker_client import AsyncWorker, Broker, Producer, Report, Worker
-from rb_broker_client.answers import MOST_HELD
+from rb_broker_formats.protocol import MOST_HELD
 from server import LONGEST, PATIENCE, ServedTest
 from serving.delaying import DelayingProxy
 

@@ -3,7 +3,7 @@ from datetime import timedelta
 
 from from_threads import for_both_kinds, settle
 from rb_broker_client import Broker, Dead, FullError, Job, NotHeldError, RefusedError, Request, StoppedError
-from rb_broker_client.answers import GREATEST_NUMBER
+from rb_broker_formats.protocol import GREATEST_NUMBER
 from server import PATIENCE, ServedTest
 
 

@@ -1,5 +1,5 @@
 """Numbers as people read them. Moments and spans of time are nanoseconds."""
-SECOND = 1_000_000_000
+from rb_broker_formats.durations import SECOND as SECOND
 
 # From the smallest. A span is told in the largest of which it has at least one, or of minutes and more two.
 UNITS: tuple[tuple[int, str, int], ...] = (

@@ -4,14 +4,14 @@ from __future__ import annotations
 import re
 from enum import Enum, auto
 
-from .protocol import GREATEST_NUMBER, MOST_LINE_BYTES, ErrorReply
+from .protocol import GREATEST_NUMBER, MOST_LINE_BYTES, NUMBER, PAYLOAD, ErrorReply
 
 
 class Kind(Enum):
     """What is to be done about a line."""
 
     CALL = auto()
-    """Its text is a call of broker.lua, which is answered at once."""
+    """Its text is a call of the queue, which is answered at once."""
     WAIT = auto()
     """The same, but the call may have to wait: TAKE, POLLFOR."""
     AT = auto()
@@ -31,8 +31,7 @@ _FORMS = {
     b"DRAIN": (Kind.CALL, 1), b"DONE": (Kind.CALL, 1), b"FAIL": (Kind.CALL, 1), b"AT": (Kind.AT, 1),
     b"OFFER": (Kind.CALL, 2), b"OFFERAT": (Kind.CALL, 2),
 }
-_NUMBER = re.compile(rb"0|[1-9][0-9]{0,19}")
-_PAYLOAD = re.compile(rb"[!-~]{1,64}")
+_NUMBER, _PAYLOAD = re.compile(NUMBER.encode()), re.compile(PAYLOAD.encode())
 
 # Most lines are well formed, and have a number of up to 19 digits, which can't pass 2^64 - 1. The groups are named
 # after kinds. A line that this pattern doesn't match may still be a request.
