@@ -7,7 +7,7 @@ from hypothesis import strategies as st
 
 from rb_broker_formats import acts
 from rb_broker_formats.faults import Damaged
-from rb_broker_formats.history import NONE
+from rb_broker_formats.element import NONE
 from history_texts import RUN, offer, read, text_of
 
 GREATEST = 2**64 - 1

@@ -10,7 +10,8 @@ from unittest import mock
 from rb_broker_redis import cuts
 from rb_broker_redis.archive import Archive
 from rb_broker_redis.archive_folder import UNFINISHED, ArchiveFolder, FolderInUse
-from rb_broker_redis.history import Damaged, FollowedQueue, read_text
+from rb_broker_formats.faults import Damaged
+from rb_broker_formats.queue import FollowedQueue, read_queue
 from rb_broker_redis.queue_events import Conflict, Position
 from redis_test import RoomTest
 
@@ -143,11 +144,11 @@ class FilesTest(ArchiveTest):
         self.assertEqual(self.source.list, [])
 
     def test_a_queue_with_more_elements_than_an_opening_may_have(self) -> None:
-        with mock.patch.object(cuts, "MOST_KEPT", 1):
+        with mock.patch.object(cuts, "MOST_OPENING_ELEMENTS", 1):
             self.take(4)  # behind the fourth event are two
             self.assertEqual(self.file(0).read_bytes(), FIRST)
             self.assertEqual(self.file(3).read_bytes(), SECOND.replace(b"end 3\n", b"2 17 17 poll none\nend 4\n"))
-        with mock.patch.object(cuts, "MOST_KEPT", 0):  # where no place is better, they leave the Redis all the same
+        with mock.patch.object(cuts, "MOST_OPENING_ELEMENTS", 0):  # where no place is better, they leave the Redis all the same
             self.source = ListSource(EVENTS[:1], "full")
             file = self.folder / f"full-{0:012}.txt"
             self.assertEqual(self.take(), [f"full: 1 events in {file}; more than 1,000,000 elements are left at its end,"
@@ -156,7 +157,7 @@ class FilesTest(ArchiveTest):
 
     def test_the_last_file_opens_the_next_run(self) -> None:
         self.take()
-        opening = read_text(self.file(3)).opening()
+        opening = read_queue(self.file(3)).opening()
         self.assertEqual(b"".join(opening), b"open 3 16 1\nkeep 2 99 2 99 1 b\n")
 
 

@@ -9,7 +9,7 @@ from pathlib import Path
 from judging import replay_chains
 from nodes import PATIENCE, wait_until
 from rb_broker_redis.archive_folder import ArchiveFolder
-from rb_broker_redis.history import read_text
+from rb_broker_formats.queue import read_queue
 from rb_broker_redis.queue import Queue
 from redis_test import SEAT, RedisTest
 
@@ -43,7 +43,7 @@ class ArchiveCommandTest(RedisTest):
             self.assertEqual(text[1:1 + len(opening)], opening, path)
             self.assertEqual(path.name, f"{self.name}-{len(lines):012}.txt")
             lines += text[1 + len(opening):-1]
-            opening = [it[:-1] for it in read_text(path).opening()]
+            opening = [it[:-1] for it in read_queue(path).opening()]
         self.assertEqual(lines, events)
 
 
@@ -120,7 +120,7 @@ class LargeTest(ArchiveCommandTest):
 
     def left(self) -> dict[int, bytes]:
         """The elements in the queue behind the last file, as that tells."""
-        return read_text(self.files()[-1]).elements
+        return read_queue(self.files()[-1]).elements
 
     def assert_all_there(self) -> None:
         """The last file tells what is in the queue, and no command took long."""
@@ -187,7 +187,7 @@ class EndTest(ArchiveCommandTest):
         queue.make([f"{SEAT} POLL", f"{SEAT} DONE 0"])
         self.assertEqual(self.ran("archive", self.folder)[0], 0)
         self.assertEqual([it.name for it in self.files()], [f"{self.name}-{260:012}.txt"])
-        self.assertEqual(read_text(self.files()[0]).elements.keys(), {*range(1, 130)})
+        self.assertEqual(read_queue(self.files()[0]).elements.keys(), {*range(1, 130)})
         replay_chains(self.files()[0], 0, 3)
 
     def test_an_archive_that_keeps_up_loses_none(self) -> None:

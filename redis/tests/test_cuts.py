@@ -4,7 +4,7 @@ from __future__ import annotations
 import unittest
 
 from rb_broker_redis.cuts import Cut, Cuts
-from rb_broker_redis.history import FollowedQueue
+from rb_broker_formats.queue import FollowedQueue
 
 # Jobs 0 and 1 are given by the events 2 and 3; job 1 comes back as event 5, and job 0 was done.
 EVENTS = [

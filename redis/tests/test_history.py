@@ -3,7 +3,10 @@ from __future__ import annotations
 
 from unittest import mock
 
-from rb_broker_redis.history import Damaged, Element, FollowedQueue, read_judged, read_text
+from rb_broker_formats.element import Element
+from rb_broker_formats.faults import Damaged
+from rb_broker_formats.queue import FollowedQueue, read_queue
+from rb_broker_redis.judged import Refused, read_judged
 from redis_test import RoomTest
 
 # At its end four elements are left. 5 is the second attempt of job 3.
@@ -47,7 +50,7 @@ class HistoryTest(RoomTest):
     def left_in(self, text: bytes) -> FollowedQueue:
         file = self.room / "text"
         file.write_bytes(text)
-        return read_text(file)
+        return read_queue(file)
 
     def assert_damaged(self, said: str, text: bytes) -> None:
         with self.assertRaises(Damaged) as raised:
@@ -73,7 +76,7 @@ class LeftTest(HistoryTest):
         self.assertEqual(list(self.left_in(first).elements.values()), [b"1 9 0 7 2 a", b"2 5 2 5 1 b"])
         second = b"history 2\nopen 3 4 1\nkeep 1 9 0 2 a\n0 9 9 poll 1\n0 9 9 offer 3 12 0 3 a\nend 2\n"
         self.assertEqual(list(self.left_in(second).elements.values()), [b"3 12 0 9 3 a"])
-        self.assert_damaged("line 2: it is no event", first.replace(b"0 7 0 1 a", b"0 7 0 7 1 a"))
+        self.assert_damaged("line 2: neither an event nor the last line", first.replace(b"0 7 0 1 a", b"0 7 0 7 1 a"))
 
     def test_the_opening_of_the_next_run(self) -> None:
         opening = b"".join(self.left_in(RUN).opening())
@@ -105,9 +108,9 @@ class DamagedTest(HistoryTest):
             ("line 3: no `keep` line", b"keep 0", b"kept 0"),
             ("line 2: no `open` line", b"open 3", b"open 03"),
             ("line 4: no `keep` line", b"keep 2", b"kept 2"),
-            ("line 6: it is no event", b"2 120", b"2  120"),
-            ("line 12: the number of events is 7", b"end 7", b"end 8"),
-            ("line 13: it stands behind the last line", b"end 7\n", b"end 7\nx"),
+            ("line 6: neither an event nor the last line", b"2 120", b"2  120"),
+            ("line 12: it says 8, and the number of events is 7", b"end 7", b"end 8"),
+            ("line 13: it follows the last line", b"end 7\n", b"end 7\nx"),
             ("line 12: the text ends before the history does", b"end 7\n", b"end 7"),
         ):
             with self.subTest(new=new):
@@ -127,9 +130,9 @@ class DamagedTest(HistoryTest):
             self.assertEqual(read_judged(file).next_id, 7)
             program.write_text("#!/bin/sh\n[ \"$*\" = \"replay $FILE\" ] && echo refused 3 why && exit 1\n")
             program.chmod(0o755)
-            with mock.patch.dict("os.environ", FILE=str(file)), self.assertRaises(Damaged) as raised:
+            with mock.patch.dict("os.environ", FILE=str(file)), self.assertRaises(Refused) as raised:
                 read_judged(file)
         self.assertEqual(str(raised.exception), f"{file}: rb_broker replay: refused 3 why")
 
     def test_an_empty_file_as_a_killed_server_leaves_it(self) -> None:
-        self.assert_damaged("line 1: the text ends before the history does", b"")
+        self.assert_damaged("line 1: no `history 1`, `history 2` or `history 3`", b"")

@@ -70,7 +70,7 @@ class JudgeCommandTest(RedisTest):
         events = [
             "1 11 11 poll 0", "1 11 11 size 99", "1 11 11 peek 1", "1 11 11 offer 100 60 100 60 1 b", "1 11 11 remove 50 yes",
             "1 12 12 drain 2 1 2", "1 12 12 poll none", "1 12 12 size 97", "1 12 12 remove 101 no"]
-        with mock.patch.object(pieces, "MOST_KEPT", 10):
+        with mock.patch.object(pieces, "MOST_OPENING_ELEMENTS", 10):
             self.write("open 100 10 100", *keeps, *events)
             status, (line,), errors = self.judge()
             self.assertEqual((status, errors), (0, ""))
@@ -110,7 +110,7 @@ class JudgeCommandTest(RedisTest):
     def test_a_queue_of_more_elements_than_a_file_may_begin_with(self) -> None:
         """At a border of 1,000; that of `replay` is 1,000,000."""
         queue, self.folder = self.joined(attempts=3), self.room / "archive"
-        with mock.patch.object(cuts, "MOST_KEPT", 1_000), mock.patch.object(pieces, "MOST_KEPT", 1_000):
+        with mock.patch.object(cuts, "MOST_OPENING_ELEMENTS", 1_000), mock.patch.object(pieces, "MOST_OPENING_ELEMENTS", 1_000):
             queue.make([f"{SEAT} OFFER 3600000000000 a"] * 2_500)
             queue.make([f"{SEAT} OFFER {it} b-{it}" for it in range(3)])
             queue.make([f"{SEAT} POLL", f"{SEAT} END", *[f"{SEAT + 1} POLL"] * 3, f"{SEAT} SIZE", f"{SEAT} PEEK",

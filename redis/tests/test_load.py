@@ -12,7 +12,7 @@ from unittest import mock
 from gateways import COMMAND
 from judging import PROGRAM
 from nodes import PATIENCE
-from rb_broker_redis.history import read_text
+from rb_broker_formats.queue import read_queue
 from rb_broker_redis.load import NotLoaded, left_by, load
 from rb_broker_redis.shards import Rendezvous
 from redis_test import SEAT, RedisTest
@@ -162,7 +162,7 @@ class QueueTest(LoadTest):
 
     def test_nobody_is_served_before_all_is_there(self) -> None:
         queue = self.queue()
-        left = left_by([read_text(self.history)], [0])
+        left = left_by([read_queue(self.history)], [0])
         with mock.patch("rb_broker_redis.queue.CHUNK", 2), self.broken_off(queue, calls=2), self.assertRaises(OSError):
             load(queue, left)
         with self.assertRaisesRegex(Exception, "^LOADING_QUEUE "):
@@ -174,7 +174,7 @@ class QueueTest(LoadTest):
     def test_a_load_that_is_abandoned(self) -> None:
         queue = self.queue()
         with self.broken_off(queue, calls=2), self.assertRaises(OSError):
-            load(queue, left_by([read_text(self.history)], [0]))
+            load(queue, left_by([read_queue(self.history)], [0]))
         none = f"{self.name}: no load has begun that has not ended"
         self.assert_prints([f"{self.name}: emptied"], "load", "--abandon")
         self.assert_prints([none], "load", "--abandon")
@@ -204,7 +204,7 @@ class QueueTest(LoadTest):
         self.assertEqual(queue.command("HLEN", queue.ids), count)
         self.assertEqual(queue.command("LLEN", queue.opening), count + 1)
         self.ran("archive", self.room / "archive")
-        read = read_text(self.room / "archive" / f"{self.name}-000000000000.txt")
+        read = read_queue(self.room / "archive" / f"{self.name}-000000000000.txt")
         self.assertEqual(list(read.elements), list(range(count)))
 
 
@@ -254,10 +254,10 @@ class RefusalTest(LoadTest):
                             " --began", "load", self.history, "--began", "2200-01-01T00:00:00Z")
 
     def test_more_than_an_opening_may_have(self) -> None:
-        run = read_text(self.history)
-        with mock.patch("rb_broker_redis.load.MOST_KEPT", 3), self.assertRaises(NotLoaded):
+        run = read_queue(self.history)
+        with mock.patch("rb_broker_redis.load.MOST_OPENING_ELEMENTS", 3), self.assertRaises(NotLoaded):
             left_by([run], [0])
-        with mock.patch("rb_broker_redis.load.GREATEST_ID", 13), self.assertRaises(NotLoaded):
+        with mock.patch("rb_broker_redis.load.GREATEST_OPENING_ID", 13), self.assertRaises(NotLoaded):
             left_by([run, run], [0, 0])
 
     def test_words(self) -> None:

@@ -18,7 +18,7 @@ from judging import PROGRAM
 from random_script import RandomScript
 from rb_broker_redis import script
 from rb_broker_redis.command import main, parser
-from rb_broker_redis.history import FollowedQueue
+from rb_broker_formats.queue import FollowedQueue
 from redis_test import RedisTest
 
 SCRIPTS = int(os.environ.get("RB_BROKER_SCRIPTS", "200"))

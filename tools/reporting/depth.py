@@ -4,7 +4,8 @@ from __future__ import annotations
 from array import array
 from dataclasses import dataclass
 
-from rb_broker_formats.history import NONE, History, column
+from rb_broker_formats.element import NONE
+from rb_broker_formats.history import History, column
 from reporting.lateness import in_rising_order
 
 

@@ -8,7 +8,8 @@ from heapq import nsmallest
 from typing import Iterator, NamedTuple, Sequence
 
 from rb_broker_formats.acts import CLEAR, GIVES, POLL, POLL_NONE
-from rb_broker_formats.history import NONE, History
+from rb_broker_formats.element import NONE
+from rb_broker_formats.history import History
 from reporting.depth import Depth
 from rb_broker_redis.watching.units import counted, percent, span
 

@@ -2,7 +2,8 @@
 from typing import Iterator, Sequence
 
 from rb_broker_formats import acts
-from rb_broker_formats.history import NONE, History
+from rb_broker_formats.element import NONE
+from rb_broker_formats.history import History
 from reporting.dates import Clock
 from reporting.depth import Depth
 from reporting.figures import Figures

@@ -2,13 +2,11 @@
 from dataclasses import dataclass, field, replace
 from typing import BinaryIO, Iterable, Iterator
 
-from rb_broker_formats.grammar import GREATEST, GREATEST_OPENING_ID, MOST_OPENING_ELEMENTS
+from rb_broker_formats.grammar import GREATEST, GREATEST_OPENING_ID, HEADER, MOST_OPENING_ELEMENTS
 from rb_broker_redis.watching.units import SECOND
 
 # An element by its id: the rest of its `keep` line, which is EXPIRY ORIGIN FIRST ATTEMPT PAYLOAD. The ids rise.
 Elements = dict[bytes, bytes]
-
-VERSION = b"history 3\n"  # the first line of a history
 
 # The element by which the service asks for the moment. It would expire after 146 years, and never outlives a run.
 PROBE, PROBE_DELAY = "rb_broker-service", 4_600_000_000 * SECOND
@@ -31,7 +29,7 @@ class Opening:
     @property
     def header(self) -> bytes:
         """The first lines of the text of a history that has left its elements."""
-        return VERSION + b"open %d %d %d\n" % (self.next_id, self.moment, len(self.elements))
+        return HEADER + b"open %d %d %d\n" % (self.next_id, self.moment, len(self.elements))
 
     @property
     def body(self) -> Iterator[bytes]:
@@ -84,7 +82,7 @@ def left_in(file: BinaryIO) -> Left:
     It takes a microsecond for each line, and clients wait for it. So nothing else is checked here. Raises a
     `ValueError`, an `IndexError` or a `KeyError` for another text.
     """
-    if file.readline() != VERSION:
+    if file.readline() != HEADER:
         raise ValueError
     next_id, moment, count = map(int, file.readline().split()[1:])
     left = Left(next_id, moment, {}, begins=(next_id, moment, count))

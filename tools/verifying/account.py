@@ -2,7 +2,7 @@
 import re
 from typing import Callable, Match, NamedTuple, Sequence
 
-from rb_broker_formats.history import NONE, Element
+from rb_broker_formats.element import NONE, Element
 from verifying.history import ANY, History
 
 MOST_HELD = 64

@@ -3,7 +3,7 @@ from array import array
 
 from verifying.account import Account, Expected, Rules, Strange
 from verifying.faults import Faults
-from rb_broker_formats.history import NONE
+from rb_broker_formats.element import NONE
 from verifying.history import History
 from verifying.record import GREATEST_TIME, Exchange
 

@@ -11,7 +11,7 @@ from collections import Counter, deque
 from rb_broker_formats.acts import given_ids
 from verifying.account import MOST_HELD
 from verifying.calls import NEVER, Calls, Session
-from rb_broker_formats.history import NONE
+from rb_broker_formats.element import NONE
 
 
 def follow_ends(calls: Calls) -> Counter[str]:

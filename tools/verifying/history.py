@@ -7,7 +7,7 @@ from typing import BinaryIO, Match, Sequence
 
 from rb_broker_formats.acts import IDS
 from rb_broker_formats.faults import Damaged
-from rb_broker_formats.history import NONE, Element
+from rb_broker_formats.element import NONE, Element
 from rb_broker_formats.text import Text
 
 # Takes the place of an event's place in its seat's row, if it is not looked for there.
@@ -67,7 +67,7 @@ class History:
             self.version = head.version
         for _, line in text.kept():
             if is_first:
-                element = element_of(line.string[:-1].decode("ascii").split(" ")[1:])
+                element = Element.of(line.string[len(b"keep "):-1])
                 self.kept[element.id] = element
                 self._latest[element.origin] = element.id
         self.files.append(len(self))
@@ -118,7 +118,7 @@ class History:
     def element(self, id: int) -> Element | None:
         """The element of an id, if it was offered or there from the start."""
         event = self.offers[id]
-        return self.kept.get(id) if event == NONE else element_of(self.act(event).split(" ")[1:])
+        return self.kept.get(id) if event == NONE else Element.of(self.act(event).encode()[len(b"offer "):])
 
     @lru_cache(1)  # an event is often looked at several times, one time after the other
     def _words(self, event: int) -> list[str]:
@@ -153,9 +153,3 @@ class History:
                 self.exits[int(given)] = event
         elif act == "remove" and line[act] == b"yes":
             self.exits[int(line["removed"])] = event
-
-
-def element_of(words: list[str]) -> Element:
-    """The element of an offer's words, or of a `keep` line's. Earlier versions do not tell its first expiry."""
-    id, expiry, origin, *first, attempt, payload = words
-    return Element(int(id), int(expiry), int(origin), int(first[0]) if first else NONE, int(attempt), payload)

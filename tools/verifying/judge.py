@@ -6,7 +6,7 @@ from verifying.account import Rules, Strange
 from verifying.calls import NEVER, Calls
 from verifying.endings import follow_ends
 from verifying.faults import Faults
-from rb_broker_formats.history import NONE
+from rb_broker_formats.element import NONE
 from verifying.history import NOWHERE, History
 from verifying.loose import place_loose
 from verifying.placing import place_named

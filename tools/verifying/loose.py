@@ -10,7 +10,7 @@ from itertools import accumulate, islice
 from typing import Container, Iterator, Sequence
 
 from verifying.calls import NEVER, Calls, Session
-from rb_broker_formats.history import NONE
+from rb_broker_formats.element import NONE
 from verifying.history import ANY
 from verifying.placing import Alignment
 

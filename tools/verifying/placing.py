@@ -6,7 +6,7 @@ from itertools import islice, takewhile
 from typing import Sequence
 
 from verifying.calls import Calls, Session
-from rb_broker_formats.history import NONE
+from rb_broker_formats.element import NONE
 
 AHEAD = 8  # places at which a call is looked for behind the last whose event is known, or before the first
 

@@ -5,6 +5,7 @@
     grammar.py, text.py      the lines of a history, one after the other, each of which must be of its form
     acts.py                  what an event may be, and what it gave
     history.py, reader.py, reported_queue.py  a history in columns, with the queue that it describes
+    element.py, queue.py     an element by its words, and the queue that events lead to, as it goes
     files.py                 a file, which may be compressed, and those of runs that follow one another
     faults.py                why a history can't be read
 

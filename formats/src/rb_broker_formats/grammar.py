@@ -14,7 +14,10 @@ MOST_EVENTS = 1_000_000
 # No line is longer: a drain of all elements that a text can tell has 42,000,000 bytes of ids.
 LONGEST_LINE = 48_000_000
 
-HEADERS: dict[bytes, int] = {b"history 1\n": 1, b"history 2\n": 2, b"history 3\n": 3}
+HEADER = b"history 3\n"
+"""The first line of a text that is written now."""
+
+HEADERS: dict[bytes, int] = {b"history 1\n": 1, b"history 2\n": 2, HEADER: 3}
 
 # An element's words end with a group of its act's name, or of `keep`. If a version leaves the first expiry out, its
 # group is empty. Each alternative of an event ends with a group of the act's name, or is one.

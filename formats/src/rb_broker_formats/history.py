@@ -13,25 +13,11 @@ from itertools import count
 from typing import Any, Iterator, NamedTuple
 
 from .acts import GIVES
-
-# Takes the place of a row or an event if there is none.
-NONE = -1
-
+from .element import NONE, Element
 
 def column(kind: str) -> Any:
     """The field of a column, which is empty at first."""
     return field(default_factory=lambda: array(kind))
-
-
-class Element(NamedTuple):
-    """The words of a `keep` line or of an offer. The expiry and the job's first one are moments of the server."""
-
-    id: int
-    expiry: int
-    origin: int
-    first: int
-    attempt: int
-    payload: str
 
 
 @dataclass

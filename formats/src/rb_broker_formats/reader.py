@@ -6,16 +6,14 @@ Figures would mean nothing then. Whether an element of an earlier expiry was pas
 replay` does that. A run behind another one is refused if it does not begin with what that one left: the next id, the
 same elements, and the last moment or, where the time between the two counts, a later one.
 """
-from typing import BinaryIO, Callable, Iterable, Match, TypeVar
+from typing import BinaryIO, Callable, Match
 
 from .acts import BY_KEYWORD, CLEAR, DRAIN, GIVES_ONE, OFFER, PEEK, PEEK_NONE, REMOVE, SIZE
-from .faults import Damaged, Wrong
+from .faults import Wrong
 from .grammar import GREATEST, OFFERED_GROUPS, Head
 from .history import History, Run
 from .reported_queue import ReportedQueue
-from .text import Text
-
-Line = TypeVar("Line")
+from .text import Text, take_each
 
 NOTHING = (b"none", b"no")  # the answers of calls that found no element
 
@@ -40,13 +38,13 @@ class Reader:
         history, head = self.history, text.head
         first = len(history.events)
         if history.runs:
-            _take([(text.head_lines, head)], self._continue)
-            _take(text.kept(), self._keeper(head.version))
+            take_each([(text.head_lines, head)], self._continue)
+            take_each(text.kept(), self._keeper(head.version))
         else:
             history.next_id = self._queue.next_id = head.next_id
-            _take(text.kept(), self._queue.keep)
+            take_each(text.kept(), self._queue.keep)
         self._last = head.opened_at
-        _take(text.events(), self._add)
+        take_each(text.events(), self._add)
         history.runs.append(Run(name, head.version, head.opened_at, self._last, first))
 
     def _continue(self, head: Head) -> None:
@@ -125,14 +123,3 @@ def in_range(word: bytes) -> int:
     if number > GREATEST:
         raise OverflowError
     return number
-
-
-def _take(lines: Iterable[tuple[int, Line]], take: Callable[[Line], None]) -> None:
-    """Takes one line after the other, each with its number. Refuses the text for one that says what can't be."""
-    for number, line in lines:
-        try:
-            take(line)
-        except Wrong as fault:
-            raise Damaged(number, str(fault)) from None
-        except OverflowError:
-            raise Damaged(number, "a number passes 2^64 - 1") from None

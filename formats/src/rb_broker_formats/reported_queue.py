@@ -1,8 +1,9 @@
 """The queue of a history while it is read: which elements are in it, and what may happen to them."""
 from typing import Iterator, Match, Sequence
 
+from .element import NONE
 from .faults import Wrong
-from .history import NONE, History
+from .history import History
 
 # Id, expiry, origin, first expiry or nothing, attempt and payload, as a line has them.
 ElementWords = tuple[bytes, ...]

@@ -4,14 +4,17 @@ A text is refused at its first line that is not of the form that docs/HISTORY.md
 tells another number of lines than there is. What the lines say is for their reader to judge.
 """
 from functools import partial
-from typing import BinaryIO, Iterator, Match
+from typing import BinaryIO, Callable, Iterable, Iterator, Match, TypeVar
 
-from .faults import Damaged
+from .faults import Damaged, Wrong
 from .grammar import (
-    END, GRAMMARS, GREATEST, GREATEST_OPENING_ID, HEADERS, LONGEST_LINE, MOST_EVENTS, MOST_OPENING_ELEMENTS, OPEN, Head,
+    END, GRAMMARS, GREATEST, GREATEST_OPENING_ID, HEADER, HEADERS, LONGEST_LINE, MOST_EVENTS, MOST_OPENING_ELEMENTS,
+    OPEN, Head,
 )
 
 TOO_SHORT = "the text ends before the history does"
+
+Line = TypeVar("Line")
 
 # A line with its number, from 1, by the pattern of its version.
 Numbered = tuple[int, Match[bytes]]
@@ -61,7 +64,7 @@ class Text:
 
 def _read_head(file: BinaryIO) -> Head:
     """Reads the header and, but in version 1, the `open` line."""
-    version = HEADERS.get(file.readline(len(b"history 3\n")))
+    version = HEADERS.get(file.readline(len(HEADER)))
     if version is None:
         raise Damaged(1, "no `history 1`, `history 2` or `history 3`")
     if version == 1:
@@ -81,3 +84,14 @@ def _whole(line: bytes, number: int) -> bytes:
     if not line.endswith(b"\n"):
         raise Damaged(number, TOO_SHORT)
     return line
+
+
+def take_each(lines: Iterable[tuple[int, Line]], take: Callable[[Line], None]) -> None:
+    """Takes one line after the other, each with its number. Refuses the text for one that says what can't be."""
+    for number, line in lines:
+        try:
+            take(line)
+        except Wrong as fault:
+            raise Damaged(number, str(fault)) from None
+        except OverflowError:
+            raise Damaged(number, "a number passes 2^64 - 1") from None

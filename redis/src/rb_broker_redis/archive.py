@@ -5,9 +5,12 @@ import collections
 from collections.abc import Callable, Iterator
 from itertools import islice
 
+from rb_broker_formats.faults import Wrong
+from rb_broker_formats.grammar import MOST_EVENTS, MOST_OPENING_ELEMENTS
+from rb_broker_formats.queue import FollowedQueue, read_queue
+
 from .archive_folder import ArchivedFile, ArchiveFolder
 from .cuts import Cut, Cuts
-from .history import MOST_EVENTS, MOST_KEPT, Damaged, FollowedQueue, read_text
 from .queue_events import CHUNK, Conflict, Position, QueueEvents
 
 class Archive:
@@ -38,7 +41,7 @@ class Archive:
             if not cut.count:
                 return
             file = self._take(position.first, cut.count)
-            why = (f"more than {MOST_KEPT:,} elements are left at its end" if cut.is_too_large else
+            why = (f"more than {MOST_OPENING_ELEMENTS:,} elements are left at its end" if cut.is_too_large else
                    f"{cut.crossed} jobs that were in hand at its end came back later" if cut.crossed else "")
             yield f"{self._source.name}: {file.count} events in {file.path}" + (
                 f"; {why}, so `judge` takes the next file, and `replay --chains` does not" if why else "")
@@ -98,14 +101,14 @@ class Archive:
         if before is None:
             raise Conflict(f"{self._source.name}: event {first} is next, and no file in {self._folder.path} ends there: "
                            "bring that file back, or begin a new series with --anew")
-        return read_text(before.path).copy()
+        return read_queue(before.path).copy()
 
     def _followed(self, follow: Callable[[bytes], None], first: int, count: int) -> Iterator[bytes]:
         """The events, each of which was followed."""
         for number, event in enumerate(self._waiting(count), first):
             try:
                 follow(event)
-            except Damaged as fault:
+            except Wrong as fault:
                 raise Conflict(f"{self._source.name}: event {number} does not follow from those before it: "
                                f"{event.decode('latin-1')}: {fault}") from None
             yield event

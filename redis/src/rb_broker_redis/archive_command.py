@@ -9,10 +9,11 @@ import time
 from collections.abc import Sequence
 from pathlib import Path
 
+from rb_broker_formats.grammar import MOST_EVENTS
+
 from .archive import Archive
 from .archive_folder import ArchiveFolder
 from .ending import FAULTS, REDIS_FAULTS, fail
-from .history import MOST_EVENTS
 from .protocol import SECOND
 from .queue_events import QueueEvents
 from .words import Parser, add_command, add_queue_words, duration, queues_in, whole

@@ -14,8 +14,9 @@ from dataclasses import dataclass
 from itertools import chain, count
 from pathlib import Path
 
+from rb_broker_formats.grammar import HEADER
+
 from .ending import Failed
-from .history import HEADER
 
 UNFINISHED = ".part"
 """The end of the name of a file that is still being written."""

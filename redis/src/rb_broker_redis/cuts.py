@@ -10,7 +10,8 @@ from array import array
 from collections.abc import Iterable
 from dataclasses import dataclass
 
-from .history import MOST_KEPT, FollowedQueue
+from rb_broker_formats.grammar import MOST_OPENING_ELEMENTS
+from rb_broker_formats.queue import FollowedQueue
 
 
 @dataclass(frozen=True)
@@ -36,7 +37,7 @@ class Cuts:
         self._too_large: set[int] = set()  # the cuts at which the queue has more elements than a file can begin with
 
     def follow(self, line: bytes) -> None:
-        """Takes the next event. Raises a `Damaged`."""
+        """Takes the next event. Raises a `Wrong`."""
         queue, event = self._queue, len(self._crossings) - 1
         self._crossings.append(0)
         queue.follow(line)
@@ -47,7 +48,7 @@ class Cuts:
             if attempt != b"1" and origin in self._given:
                 self._crossings[self._given.pop(origin) + 1] += 1
                 self._crossings[event + 1] -= 1
-        if len(queue.elements) > MOST_KEPT:
+        if len(queue.elements) > MOST_OPENING_ELEMENTS:
             self._too_large.add(event + 1)
 
     def best(self, in_hand: Iterable[bytes], most: int, settled: int, must_cut: bool = False) -> Cut:

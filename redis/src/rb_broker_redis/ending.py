@@ -6,6 +6,8 @@ import sys
 import redis
 from redis.exceptions import RedisClusterException
 
+from rb_broker_formats.faults import Damaged, Wrong
+
 NAME = "rb_broker_redis"
 
 
@@ -20,7 +22,7 @@ class Failed(Exception):
 REDIS_FAULTS = (redis.RedisError, RedisClusterException)
 """What redis-py raises; that of a Cluster, as where a slot has no node, is no `RedisError`."""
 
-FAULTS = (Failed, *REDIS_FAULTS, OSError)
+FAULTS = (Failed, Damaged, Wrong, *REDIS_FAULTS, OSError)
 """What may keep a command from going on."""
 
 
@@ -30,4 +32,4 @@ def fail(fault: Exception) -> int:
     print(f"{NAME}: {why}", file=sys.stderr, flush=True)
     if isinstance(fault, Failed):
         return fault.status
-    return 3 if isinstance(fault, REDIS_FAULTS) else 2
+    return 3 if isinstance(fault, REDIS_FAULTS) else 1 if isinstance(fault, (Damaged, Wrong)) else 2

@@ -9,9 +9,11 @@ from collections.abc import Iterator, Sequence
 from itertools import chain
 from pathlib import Path
 
+from rb_broker_formats.grammar import HEADER, MOST_EVENTS
+from rb_broker_formats.queue import FollowedQueue
+
 from .cuts import Cuts
 from .ending import Failed
-from .history import HEADER, MOST_EVENTS, FollowedQueue
 from .pieces import Given, Text, text_of
 from .words import Parser, add_command, add_policy_words, policy_in, whole
 

@@ -12,9 +12,12 @@ from pathlib import Path
 import redis
 
 from rb_broker_formats.dates import date_text, nanoseconds_of
+from rb_broker_formats.element import Element
+from rb_broker_formats.grammar import GREATEST_OPENING_ID, MOST_OPENING_ELEMENTS
+from rb_broker_formats.queue import FollowedQueue
 
 from .ending import Failed
-from .history import GREATEST_ID, MOST_KEPT, Element, FollowedQueue, read_judged
+from .judged import read_judged
 from .protocol import GREATEST_NUMBER
 from .queue import Queue
 from .shards import Rendezvous
@@ -59,8 +62,8 @@ def left_by(runs: Sequence[FollowedQueue], began: Sequence[int]) -> FollowedQueu
             left.elements[it.id + left.next_id] = _moved(it, left.next_id, shift).words()
         left.next_id += run.next_id
         left.last = max(left.last, run.last + shift)
-    if len(left.elements) > MOST_KEPT or left.next_id > GREATEST_ID:
-        raise NotLoaded(f"a history begins with at most {MOST_KEPT:,} elements, and an id of at most 2^40")
+    if len(left.elements) > MOST_OPENING_ELEMENTS or left.next_id > GREATEST_OPENING_ID:
+        raise NotLoaded(f"a history begins with at most {MOST_OPENING_ELEMENTS:,} elements, and an id of at most 2^40")
     return left
 
 

@@ -14,7 +14,8 @@ from __future__ import annotations
 from collections.abc import Iterator, Mapping, Sequence
 from typing import NamedTuple
 
-from .history import MOST_EVENTS, MOST_KEPT, FollowedQueue
+from rb_broker_formats.grammar import MOST_EVENTS, MOST_OPENING_ELEMENTS
+from rb_broker_formats.queue import FollowedQueue
 
 MOST_GIVEN = 1_000_000
 """So many jobs are remembered that were given and have not come back: nobody tells that one is done."""
@@ -63,7 +64,7 @@ class Text(NamedTuple):
     @property
     def is_too_large(self) -> bool:
         """Whether `replay` takes no such text."""
-        return len(self.events) > MOST_EVENTS or len(self.opening) - 1 > MOST_KEPT
+        return len(self.events) > MOST_EVENTS or len(self.opening) - 1 > MOST_OPENING_ELEMENTS
 
 
 def text_of(queue: FollowedQueue, events: Sequence[bytes], gifts: Mapping[bytes, Gift]) -> Text:
@@ -75,7 +76,7 @@ def text_of(queue: FollowedQueue, events: Sequence[bytes], gifts: Mapping[bytes,
     if not are_chained:
         before = []
     elements, events, left_out = dict(queue.elements), list(events), 0
-    if len(elements) + len(before) > MOST_KEPT:
+    if len(elements) + len(before) > MOST_OPENING_ELEMENTS:
         elements, events, left_out = _without_those_that_stay(elements, events)
     elements.update((int(it.words.split(b" ", 1)[0]), it.words) for it in before)
     opened = FollowedQueue(queue.next_id, queue.last)

@@ -8,8 +8,9 @@ import redis
 from redis.cluster import ClusterNode, RedisCluster
 from redis.sentinel import Sentinel
 
+from rb_broker_formats.queue import FollowedQueue
+
 from .address import Address, Kind
-from .history import FollowedQueue
 from .keys import channel_of, keys_of
 from .library import SOURCE, name_of
 

@@ -7,8 +7,9 @@ from __future__ import annotations
 from collections.abc import Iterator
 from typing import NamedTuple
 
+from rb_broker_formats.queue import FollowedQueue
+
 from .ending import Failed
-from .history import FollowedQueue
 from .queue import Queue
 
 CHUNK = 5_000

@@ -10,10 +10,13 @@ from itertools import chain
 from pathlib import Path
 from typing import BinaryIO
 
+from rb_broker_formats.faults import Damaged
+from rb_broker_formats.grammar import GREATEST_OPENING_ID, HEADER, MOST_OPENING_ELEMENTS
+from rb_broker_formats.queue import FollowedQueue
 from rb_broker_formats.requests import Kind, LineCutter, read_request
 
 from .ending import Failed
-from .history import GREATEST_ID, HEADER, MOST_KEPT, Damaged, FollowedQueue, read_judged
+from .judged import Refused, read_judged
 from .protocol import MOST_CALLS, ErrorReply
 from .queue import Queue, connect
 from .session import BYE
@@ -66,9 +69,9 @@ def opening_of(path: str | None) -> FollowedQueue:
     try:
         with ends_with("cannot read history"):
             queue = read_judged(Path(path))
-    except Damaged:
+    except (Damaged, Refused):
         raise Failed("bad opening") from None
-    if queue.next_id > GREATEST_ID or len(queue.elements) > MOST_KEPT:
+    if queue.next_id > GREATEST_OPENING_ID or len(queue.elements) > MOST_OPENING_ELEMENTS:
         raise Failed("bad opening")
     return queue
 

@@ -11,10 +11,11 @@ import signal
 import socket
 import ssl
 
+from rb_broker_formats.grammar import MOST_EVENTS
+
 from .address import Kind
 from .ending import Failed
 from .gateway import MOST_REPLICAS, Gateway
-from .history import MOST_EVENTS
 from .protocol import SECOND
 from .queue import Queue, connect
 from .resp import ErrorAnswer

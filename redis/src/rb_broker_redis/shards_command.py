@@ -8,8 +8,9 @@ from typing import NamedTuple
 
 import redis
 
+from rb_broker_formats.element import Element
+
 from .ending import Failed
-from .history import Element
 from .keys import checked_name
 from .queue import Queue, connect
 from .queue_events import members_of

@@ -7,7 +7,7 @@ import heapq
 import random
 from collections.abc import Sequence
 
-from rb_broker_formats.history import Element
+from rb_broker_formats.element import Element
 from verifying.tests.support import Line
 
 DELAY, ATTEMPTS = 400, 3

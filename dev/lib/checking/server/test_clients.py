@@ -21,7 +21,8 @@ from checking.server.clients import Client, early
 from checking.testing import run_tool
 from common.program import tested_program
 from rb_broker_formats import acts
-from rb_broker_formats.history import NONE, History
+from rb_broker_formats.element import NONE
+from rb_broker_formats.history import History
 from rb_broker_formats.reader import read_history
 from serving.server import Ended, Server
 
