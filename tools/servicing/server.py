@@ -12,8 +12,9 @@ import time
 from typing import Callable, Iterable, Iterator, NamedTuple, Sequence
 
 from rb_broker_formats.files import open_history
+from rb_broker_formats.grammar import HEADER
 from servicing.memory import Kept, Memory
-from servicing.opening import VERSION, Left, left_in
+from servicing.opening import Left, left_in
 
 _COUNTS = re.compile(r"^sessions (\d+) faults \d+ lost (\d+)$", re.M)
 PIECE = 1 << 20
@@ -76,12 +77,12 @@ class Server:
             finally:
                 _close(opening, lock, kept.end)
                 self._kept = kept._replace(end=None)
-            file.write(VERSION)
+            file.write(HEADER)
             file.flush()
             while self.process.poll() is None and _unread(into):
                 time.sleep(SOON)
             first, *others = text()
-            file.writelines([first.removeprefix(VERSION), *others])
+            file.writelines([first.removeprefix(HEADER), *others])
 
     def drain(self) -> None:
         """Tells it to let nobody else in, and to end each session that holds no job."""
