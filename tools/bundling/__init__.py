@@ -1,7 +1,4 @@
 """The parts of tools/package."""
-from common.program import TOP
-
-SOURCES = f"{TOP}/packaging"
 
 
 class Fault(Exception):

@@ -1,7 +1,5 @@
-"""The Debian package, made of the tree by the commands of dpkg-dev and dpkg."""
+"""The Debian package, made by debhelper of copies of this checkout's files."""
 import email.utils
-import gzip
-import hashlib
 import os
 import re
 import shutil
@@ -9,12 +7,12 @@ import subprocess
 import tempfile
 from pathlib import Path
 
-from common.program import TOP
-from bundling import SOURCES, Fault
+from bundling import Fault
 from bundling.manuals import write_manuals
-from bundling.tree import DOCUMENTS, copy, lay_out, write
+from common.program import TOP
 
-OF_DPKG = ("conffiles", "postinst", "prerm", "postrm")  # files of packaging/debian that dpkg needs as they are
+FOLDERS = ("clients/python", "docs", "examples", "formats", "packaging", "redis", "tools")
+NOT_PACKED = shutil.ignore_patterns("tests", "__pycache__", "*.py[co]")
 
 # What changed is told by CHANGELOG.md, which lies beside it as changelog.gz.
 CHANGELOG = """rb-broker ({}) unstable; urgency=medium
@@ -32,20 +30,35 @@ def make_package(program: Path, folder: Path) -> Path:
     if not folder.is_dir():
         raise Fault(f"{folder} is no folder")
     version, moment = version_of_repository()
-    with tempfile.TemporaryDirectory(prefix="rb-package-") as name:
-        room = Path(name)
-        root = room / "root"
-        lay_out(root, program)
-        write_manuals(root, moment)
-        shutil.copytree(Path(SOURCES, "debian"), room / "debian")
-        changelog = CHANGELOG.format(version, email.utils.formatdate(moment)).encode()
-        write(room / "debian/changelog", changelog)
-        for kind, text in ((".Debian", changelog), ("", Path(TOP, "CHANGELOG.md").read_bytes())):
-            write(root / DOCUMENTS / f"changelog{kind}.gz", gzip.compress(text, mtime=0))
-        write_control(room, root)
-        path = folder / f"rb-broker_{version}_{run('dpkg', '--print-architecture').strip()}.deb"
-        run("dpkg-deb", "--root-owner-group", "-Zxz", "--build", root, path, moment=moment)
-        return path
+    with tempfile.TemporaryDirectory(prefix="rb-package-") as room:
+        tree = Path(room, "tree")
+        copy_to(tree, program)
+        write_manuals(tree, moment)
+        (tree / "debian/changelog").write_text(CHANGELOG.format(version, email.utils.formatdate(moment)), "utf-8")
+        build(tree)
+        (package,) = Path(room).glob("*.deb")
+        return Path(shutil.copy(package, folder))
+
+
+def copy_to(tree: Path, program: Path) -> None:
+    """Copies what debhelper packs. Each file gets the time of now, which is later than any that the package tells."""
+    for name in FOLDERS:
+        shutil.copytree(Path(TOP, name), tree / name, symlinks=True, ignore=NOT_PACKED, copy_function=shutil.copy)
+    (tree / "packaging/debian").rename(tree / "debian")
+    shutil.copy(Path(TOP, "CHANGELOG.md"), tree)
+    shutil.copy(program, tree / "rb_broker")
+    (tree / "rb_broker").chmod(0o755)
+
+
+def build(tree: Path) -> None:
+    """Makes the package beside a tree. The times in it are at most that of its changelog."""
+    try:
+        made = subprocess.run(["debian/rules", "binary"], cwd=tree, env={**os.environ, "LC_ALL": "C"}, encoding="utf-8",
+                              stdin=subprocess.DEVNULL, capture_output=True, check=False)
+    except OSError as fault:
+        raise Fault(f"there is no {fault.filename}") from None
+    if made.returncode:
+        raise Fault(f"debhelper makes no package: {' '.join(made.stderr.split())}")
 
 
 def version_of_repository() -> tuple[str, int]:
@@ -67,26 +80,3 @@ def git(*words: str) -> str:
     words, environment = ("git", "-C", TOP, *words), {**os.environ, "TZ": "UTC"}
     ran = subprocess.run(words, capture_output=True, encoding="utf-8", env=environment, check=False)
     return "" if ran.returncode else ran.stdout.strip()
-
-
-def run(*words: object, folder: Path | None = None, moment: int = 0) -> str:
-    """What a command of dpkg says. What it packs has no time behind this moment."""
-    environment = {**os.environ, "LC_ALL": "C", "SOURCE_DATE_EPOCH": str(moment)}
-    made = subprocess.run([*map(str, words)], cwd=folder, env=environment, capture_output=True, encoding="utf-8",
-                          check=False)
-    if made.returncode != 0:
-        raise Fault(f"{words[0]} makes no package: {' '.join(made.stderr.split())}")
-    return made.stdout
-
-
-def write_control(room: Path, root: Path) -> None:
-    """Writes the folder DEBIAN: what dpkg must know about the package, and a sum of each file that is no conffile, by
-    which `dpkg --verify` finds what was changed."""
-    run("dpkg-shlibdeps", "-Tneeds", f"-e{root}/usr/bin/rb_broker", folder=room)
-    control = run("dpkg-gencontrol", "-Tneeds", "-fdebian/files", f"-P{root}", "-O", folder=room)
-    paths = [it for it in sorted(root.glob("usr/**/*")) if it.is_file() and not it.is_symlink()]
-    sums = [f"{hashlib.md5(it.read_bytes()).hexdigest()}  {it.relative_to(root)}\n" for it in paths]
-    write(root / "DEBIAN/control", control.encode())
-    write(root / "DEBIAN/md5sums", "".join(sums).encode())
-    for name in OF_DPKG:
-        copy(Path(SOURCES, "debian", name), root / "DEBIAN" / name)

@@ -1,5 +1,4 @@
 """The manual pages of the tools, made of what their --help says."""
-import gzip
 import os
 import re
 import subprocess
@@ -8,8 +7,8 @@ import time
 from pathlib import Path
 
 from bundling import Fault
-from bundling.tree import COMMANDS, write
 
+COMMANDS = ("service", "report", "verify", "load")  # tools that become commands rb_broker_NAME
 COLUMNS = "78"  # as wide as a page is set at a terminal
 
 PAGE = """.\\" Made by tools/package of what the command says by \\-\\-help.
@@ -24,12 +23,15 @@ PAGE = """.\\" Made by tools/package of what the command says by \\-\\-help.
 """
 
 
-def write_manuals(root: Path, moment: int) -> None:
-    """Writes the page of each tool that is laid out below a folder, with the date of a moment."""
+def write_manuals(tree: Path, moment: int) -> None:
+    """Writes the page of each tool below a tree that has them, with the date of a moment."""
     date = time.strftime("%Y-%m-%d", time.gmtime(moment))
-    for name in (f"rb_broker_{it}" for it in COMMANDS):
-        page = page_of(name, _help_of(root / "usr/bin" / name), date)
-        write(root / f"usr/share/man/man1/{name}.1.gz", gzip.compress(page.encode(), mtime=0))
+    folder = tree / "manuals"
+    folder.mkdir()
+    for tool in COMMANDS:
+        command = folder / f"rb_broker_{tool}"  # by which name it tells of itself as it does where it is installed
+        command.symlink_to(f"../tools/{tool}")
+        (folder / f"{command.name}.1").write_text(page_of(command.name, _help_of(command), date), "utf-8")
 
 
 def page_of(name: str, says: str, date: str) -> str:

@@ -5,11 +5,12 @@ from pathlib import Path
 
 import pytest
 
+from bundling.manuals import COMMANDS
 from bundling.tests.running import Told, run
 from bundling.tests.serving_below import FEW, serving, talk
-from bundling.tree import COMMANDS, DOCUMENTS
 from common.program import TOP
 
+DOCUMENTS = "usr/share/doc/rb-broker"
 OF_A_CHECKOUT = {"package", "conform"}
 
 
@@ -28,7 +29,8 @@ def test_two_runs_of_a_service(root: Path, tmp_path: Path) -> None:
 def test_tools_that_pages_name(root: Path) -> None:
     """Each is a command, unless it is for those who have a checkout."""
     pages = "".join(page.read_text("utf-8") for page in Path(root, DOCUMENTS).rglob("*.md"))
-    assert {*re.findall(r"\btools/([a-z_]+)\b(?!/)", pages)} - OF_A_CHECKOUT == {*COMMANDS}
+    assert {*re.findall(r"\btools/([a-z_]+)\b(?!/)", pages)} - DOCUMENTS = "usr/share/doc/rb-broker"
+OF_A_CHECKOUT == {*COMMANDS}
 
 
 @pytest.mark.parametrize("name", COMMANDS)

@@ -7,8 +7,8 @@ from typing import Iterator, NamedTuple
 
 import pytest
 
-from bundling import SOURCES
 from bundling.tests.running import run
+from common.program import TOP
 
 # The options of each command, in the order of --help.
 COMMANDS = {name: options.split() for name, options in {
@@ -53,7 +53,7 @@ def options_in(text: str) -> set[str]:
 
 def text_of_page() -> str:
     """The page without the escapes of roff, and without the commas in numbers."""
-    page = Path(SOURCES, "rb_broker.1").read_text(encoding="utf-8")
+    page = Path(TOP, "packaging/rb_broker.1").read_text(encoding="utf-8")
     return re.sub(r"(?<=\d),(?=\d)", "", re.sub(r"\\f[BRI]|\\c", "", page).replace("\\-", "-"))
 
 

@@ -5,12 +5,11 @@ from pathlib import Path
 
 import pytest
 
-from bundling import SOURCES
 from bundling.tests.running import run
 from bundling.tests.test_options import options_in
 from common.program import TOP
 
-UNIT, DEFAULTS = Path(SOURCES, "rb_broker@.service"), Path(SOURCES, "rb_broker.default")
+UNIT, DEFAULTS = Path(TOP, "packaging/rb_broker@.service"), Path(TOP, "packaging/default/rb_broker")
 # What systemd does by itself: it takes the service as started when that says so, stops or kills the service alone and
 # not its server, for which it keeps descriptors, and starts it again.
 WORDS = {
