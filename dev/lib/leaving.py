@@ -100,7 +100,7 @@ def end_descendants(others: Collection[int] = ()) -> None:
     until = time.monotonic() + PATIENCE
     killed: set[int] = set()
     while time.monotonic() < until:
-        left = descendants(others) | {it for it in killed if os.path.exists(f"/proc/{it}")}
+        left = descendants(others) | {process for process in killed if os.path.exists(f"/proc/{process}")}
         if not left:
             return
         killed |= left  # one whose parent ends sooner stems from this process no longer

@@ -13,7 +13,7 @@ def side_by_side(
     off, those that have not begun never do."""
     pool = ThreadPoolExecutor(at_once)
     try:
-        lanes = {pool.submit(call, it): it for it in each}
+        lanes = {pool.submit(call, one): one for one in each}
         yield from ((lanes[lane], lane.result()) for lane in as_completed(lanes))
     finally:
         pool.shutdown(wait=False, cancel_futures=True)

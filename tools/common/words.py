@@ -16,7 +16,7 @@ PACKAGE: Final = "rb-broker"
 def parser_of(name: str, doc: str | None, usage: str | None = None) -> argparse.ArgumentParser:
     """The parser of a tool of this name, whose --help is the text of its file as it stands. An installed tool says
     rb_broker_NAME for tools/NAME, and where its documents are."""
-    name, doc = (_as_called(it) for it in (name, doc or ""))
+    name, doc = (_as_called(text) for text in (name, doc or ""))
     about, _, rest = doc.partition("\n\n")
     form = argparse.RawDescriptionHelpFormatter
     parser = argparse.ArgumentParser(name, usage, about, rest, formatter_class=form, allow_abbrev=False)

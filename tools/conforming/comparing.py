@@ -101,8 +101,8 @@ def _of_bytes(what: str, came: bytes, wanted: bytes) -> str | None:
         return None
     lines, others = lines_of(came), lines_of(wanted)
     same = sum(takewhile(bool, map(eq, lines, others)))
-    came_here, wanted_here = (ascii(it[same].decode(errors="replace")) if same < len(it) else "nothing"
-                              for it in (lines, others))
+    came_here, wanted_here = (ascii(text[same].decode(errors="replace")) if same < len(text) else "nothing"
+                              for text in (lines, others))
     return f"{what}, line {same + 1}: {came_here} in place of {wanted_here}"
 
 

@@ -41,7 +41,7 @@ def jobs_of(history: History, last: int | None) -> Jobs:
     latest = nlargest(MOST_LATEST, history.gifts(), key=itemgetter(2))
     last_given = (roots[row] for row, _, _ in history.gifts() if attempts[row] == last)
     return Jobs(
-        counts, [(it, offered[it], given[it]) for it in sorted(offered)],
+        counts, [(job, offered[job], given[job]) for job in sorted(offered)],
         array("i", (root for root, count in enumerate(counts) if count)), again,
         list(dict.fromkeys(roots[row] for row, _, _ in latest)), list(dict.fromkeys(last_given)))
 

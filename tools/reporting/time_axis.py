@@ -17,8 +17,8 @@ MOST_BUCKETS = 200
 # Round steps of time. All divide the day, or are days.
 DATE_STEPS = (
     *(factor * 10**power for power in range(9) for factor in (1, 2, 5)),
-    *(it * SECOND for it in (1, 2, 5, 10, 15, 30)), *(it * MINUTE for it in (1, 2, 5, 10, 15, 30)),
-    *(it * HOUR for it in (1, 2, 3, 6, 12)),
+    *(count * SECOND for count in (1, 2, 5, 10, 15, 30)), *(count * MINUTE for count in (1, 2, 5, 10, 15, 30)),
+    *(count * HOUR for count in (1, 2, 3, 6, 12)),
     *(factor * 10**power * DAY for power in range(6) for factor in (1, 2, 5)),
 )
 

@@ -32,7 +32,7 @@ class Times:
         self._earliest = array("q", accumulate(received, min))  # of the replies from each event on
         self._earliest.reverse()
         bounds = [*history.files, len(history)]
-        self._clocks = [self._compared(range(*it)) for it in zip(bounds, bounds[1:])]
+        self._clocks = [self._compared(range(*pair)) for pair in zip(bounds, bounds[1:])]
 
     def _compared(self, events: range) -> tuple[int, int] | None:
         """Between which two values the clients' clock is ahead of the server's, by those of a file's events that have

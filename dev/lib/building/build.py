@@ -60,11 +60,11 @@ class Build:
             self._waiting += self._order.get_ready()
             self._begin_those_that_may()
             time.sleep(TICK)
-            for it in [*self._running]:
-                has_ended = it.process.poll() is not None
-                self._progress.hear(it.crate, it.output())
+            for running in [*self._running]:
+                has_ended = running.process.poll() is not None
+                self._progress.hear(running.crate, running.output())
                 if has_ended:
-                    self._end(it)
+                    self._end(running)
         return self._progress.seconds()
 
     def _begin_those_that_may(self) -> None:
@@ -77,7 +77,7 @@ class Build:
     def _begin(self, crate: str) -> Running:
         """Begins with a crate. Those that run already and have a longer way up have precedence at the processors."""
         way_up = self._crates.way_up
-        nice = ASIDE * sum(way_up[it.crate] > way_up[crate] for it in self._running)
+        nice = ASIDE * sum(way_up[running.crate] > way_up[crate] for running in self._running)
 
         def prepare() -> None:
             prctl(PR_SET_PDEATHSIG, signal.SIGKILL, 0, 0, 0)
@@ -90,14 +90,14 @@ class Build:
         how = {"stdin": subprocess.DEVNULL, "stdout": file, "stderr": subprocess.STDOUT, "preexec_fn": prepare}
         return Running(crate, subprocess.Popen(words, cwd=folder, **how), file)
 
-    def _end(self, it: Running) -> None:
-        self._running.remove(it)
-        if it.process.returncode:
-            raise Failed(it.crate, it.process.returncode, self._rooms.with_own_paths(it.crate, it.output()))
-        self._rooms.leave(it.crate)
-        self._order.done(it.crate)
-        self._progress.built(it.crate)
-        it.file.close()
+    def _end(self, ended: Running) -> None:
+        self._running.remove(ended)
+        if ended.process.returncode:
+            raise Failed(ended.crate, ended.process.returncode, self._rooms.with_own_paths(ended.crate, ended.output()))
+        self._rooms.leave(ended.crate)
+        self._order.done(ended.crate)
+        self._progress.built(ended.crate)
+        ended.file.close()
 
 
 def may_begin(running: int, processors: int, available: int) -> bool:

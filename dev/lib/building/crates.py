@@ -30,8 +30,8 @@ class Crates:
         # the longest way delays the program.
         self.way_up: dict[str, int] = {}
         for name in reversed(order):
-            self.way_up[name] = lines[name] + max((self.way_up[it] for it in uses if name in uses[it]), default=0)
-        self.names = sorted(uses, key=lambda it: (-self.way_up[it], it))
+            self.way_up[name] = lines[name] + max((self.way_up[user] for user in uses if name in uses[user]), default=0)
+        self.names = sorted(uses, key=lambda name: (-self.way_up[name], name))
 
 
 def read_crates(top: str, program: str) -> Crates:
@@ -40,7 +40,7 @@ def read_crates(top: str, program: str) -> Crates:
     if program not in uses:
         raise BadTable(f"crates.txt does not list {program}")
     needed = with_those_below([program], uses)
-    return Crates({it: uses[it] for it in needed}, {it: lines_of(Path(top, "crates", it)) for it in needed})
+    return Crates({name: uses[name] for name in needed}, {name: lines_of(Path(top, "crates", name)) for name in needed})
 
 
 def read_uses(top: str) -> dict[str, list[str]]:
@@ -52,7 +52,7 @@ def read_uses(top: str) -> dict[str, list[str]]:
 def own_uses(top: str) -> dict[str, list[str]]:
     """Each crate of crates.txt in the top folder, with those of them that it names."""
     uses = read_uses(top)
-    return {name: [it for it in named if it in uses] for name, named in uses.items()}
+    return {name: [other for other in named if other in uses] for name, named in uses.items()}
 
 
 def with_those_below(names: Iterable[str], uses: dict[str, list[str]]) -> set[str]:
@@ -67,8 +67,8 @@ def with_those_below(names: Iterable[str], uses: dict[str, list[str]]) -> set[st
 
 
 def lines_of(crate: Path) -> int:
-    files = (it for part in PARTS for it in (crate / part).rglob("*") if it.is_file())
-    return sum(it.read_bytes().count(b"\n") for it in files)
+    files = (file for part in PARTS for file in (crate / part).rglob("*") if file.is_file())
+    return sum(file.read_bytes().count(b"\n") for file in files)
 
 
 def copy_crates(top: str, room: Path, left_out: Callable[[str], Collection[str]]) -> None:

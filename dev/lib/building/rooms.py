@@ -65,7 +65,7 @@ class Rooms:
 
     def _clear(self) -> None:
         """Removes all rooms. What was kept of a crate's builds goes back, unless somebody has begun it anew."""
-        for crate in (it.name for it in self._place.glob("rooms/*")):
+        for crate in (room.name for room in self._place.glob("rooms/*")):
             if self._made(crate).is_dir() and not os.path.lexists(self._own(crate)):
                 self._made(crate).rename(self._own(crate))
         shutil.rmtree(self._place, ignore_errors=True)

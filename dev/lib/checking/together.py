@@ -40,7 +40,7 @@ def try_parts(names: Iterable[str], words: Sequence[str] = ()) -> Iterator[Ended
 
     names = [*names]
     for is_alone, at_once in ((False, (PROCESSORS + 1) // 2), (True, 1)):
-        for _, ended in side_by_side(tried, [it for it in names if PARTS[it].is_alone is is_alone], at_once):
+        for _, ended in side_by_side(tried, [name for name in names if PARTS[name].is_alone is is_alone], at_once):
             ended.tell()
             yield ended
 

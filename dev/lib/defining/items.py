@@ -30,8 +30,8 @@ def spec_items(path: str, text: str) -> Iterator[Item]:
         lines, line = paragraph[0].splitlines(), text.count("\n", 0, paragraph.start()) + 1
         while sections and indent_of(lines[0]) <= indent_of(sections[-1][0]):
             sections.pop()
-        while blocks := [at for at, it in enumerate(lines) if it.lstrip().startswith("module _")]:
-            end = next(at for at, it in enumerate(lines) if at >= blocks[0] and it.endswith("where")) + 1
+        while blocks := [at for at, line in enumerate(lines) if line.lstrip().startswith("module _")]:
+            end = next(at for at, line in enumerate(lines) if at >= blocks[0] and line.endswith("where")) + 1
             sections.append(lines[blocks[0]:end])
             lines, line = lines[end:], line + end
         head = len(list(takewhile(is_comment, lines)))
@@ -61,8 +61,8 @@ def rust_items(path: str, text: str) -> Iterator[Item]:
             continue
         if name in values and not owner:
             code = [code[0].removesuffix(" {").removesuffix(";") + " { .. }", values[name]]
-        above = takewhile(lambda it: it.lstrip().startswith(("//", "#[")), reversed(lines[:at]))
-        comment = dedented([it for it in above if is_comment(it)][::-1])
+        above = takewhile(lambda line: line.lstrip().startswith(("//", "#[")), reversed(lines[:at]))
+        comment = dedented([line for line in above if is_comment(line)][::-1])
         yield Item(path, full, kind, at + 1, [], comment, code)
         owner = name if kind == "trait" else owner
 

@@ -29,7 +29,8 @@ class SourceFile:
         operators = [name for name in self.imported if "◌" in name]
         self.operators = {part: name for name in operators for part in name.split("◌") if part}
         # What the code sees: each name with the crate that it is from, and its name there.
-        self.uses = {alias or name: (root, name) for root, it in USE.findall(text) for name, alias in USED.findall(it)}
+        uses = ((root, *used) for root, names in USE.findall(text) for used in USED.findall(names))
+        self.uses = {alias or name: (root, name) for root, name, alias in uses}
         self.paragraphs = [*(rust_items if place.suffix == ".rt" else spec_items)(path, text)]
         self.items = [paragraph for paragraph in self.paragraphs if paragraph.kind != "more"]
         self.named = {item.name: item for item in self.items}
@@ -41,8 +42,8 @@ class SourceFile:
         path, names, alias = found.groups()
         if names is None:
             self.modules[alias or path.rsplit(".", 1)[-1]] = path
-        for it in (names or "").split(","):
-            name, _, local = it.strip().partition(" as ")
+        for name in (names or "").split(","):
+            name, _, local = name.strip().partition(" as ")
             if name:
                 self.imported[local or name] = (path, name)
         return "\n" * found[0].count("\n")
@@ -106,7 +107,7 @@ class Tree:
 
     def _declared(self, crate: str, path: list[str], name: str) -> Item | None:
         """The type or constant of src/ for which a generated module stands."""
-        at = next((at for at, it in enumerate(path) if it.startswith("The")), len(path))
+        at = next((at for at, part in enumerate(path) if part.startswith("The")), len(path))
         is_constant = path[at:at + 1] == ["TheConstants"]  # followed by the type, if it is one of a type's
         modules, names = (path[:at], [*path[at + 1:], name]) if is_constant else (path[:at - 1], path[at - 1:at])
         paths = [f"crates/{crate}/src/{stem}.rt" for stem in (["/".join(modules)] if modules else ["lib", "main"])]

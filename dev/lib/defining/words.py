@@ -21,7 +21,7 @@ TYPE_PARAMETERS = re.compile(r"\A([^<=]*)<[^(=]*?>(?= \{|;|\()")
 
 def words_of(item: Item, code: list[str], is_constructor: Callable[[str], bool]) -> Iterator[str]:
     """The free names of these lines of an item. In a pattern a constructor's name is free, and any other is bound."""
-    text = re.sub(r"\"[^\"\n]*\"", "", "\n".join(it.split(" -- ")[0] for it in code if not is_comment(it)))
+    text = re.sub(r"\"[^\"\n]*\"", "", "\n".join(line.split(" -- ")[0] for line in code if not is_comment(line)))
     functions = " ".join(function[1] or function[2] for function in FUNCTION.finditer(text))
     bound = {*re.findall(r"[\w']+", re.sub(r" : [^)]*", "", functions))}
     if item.path.endswith(".rt"):

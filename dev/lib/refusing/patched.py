@@ -112,14 +112,14 @@ class CrateTests:
         """Runs a test with the allocation of this number refused, or with this one and all later ones."""
         program = self.free.get()
         try:
-            with open(program, "r+b") as it:
+            with open(program, "r+b") as file:
                 for place in self.places:
                     code = comparison(number, jump)
                     behind = place + len(code) + 1
-                    it.seek(place)
-                    it.write(code)
-                    it.seek(behind)
-                    it.write(trap or self.code[behind : behind + len(TRAP)])
+                    file.seek(place)
+                    file.write(code)
+                    file.seek(behind)
+                    file.write(trap or self.code[behind : behind + len(TRAP)])
             with RUNS:
                 return self.ran(program, test)
         finally:
@@ -202,7 +202,8 @@ def tests_of_refusals(crate: str) -> list[str]:
     """The tests of which each allocation is refused, as the built program names them."""
     tests = re.compile(r"^#\[test\]\nfn (\w+)\(", re.M)
     texts = {module: source_of(crate, module) for module in KEPT}
-    return [f"tests::{it}::{name}" for it, text in texts.items() if REFUSALS.search(text) for name in tests.findall(text)]
+    refusing = {module: tests.findall(text) for module, text in texts.items() if REFUSALS.search(text)}
+    return [f"tests::{module}::{name}" for module, names in refusing.items() for name in names]
 
 
 def copied(crate: str, room: str) -> str:

@@ -62,8 +62,8 @@ class _Side(asyncio.Protocol):
     def lead_to(self, far: "_Side") -> None:
         """From now on each side leads to the other."""
         self._other, far._other = far, self
-        for it in self._came:
-            self._pass_on(it)
+        for data in self._came:
+            self._pass_on(data)
 
     def data_received(self, data: bytes) -> None:
         self._pass_on(data) if self._other else self._came.append(data)

@@ -28,7 +28,7 @@ class RecordedSession(Session):
         for request in requests:
             try:
                 if not replies:
-                    self.send(*(it.encode("latin-1") for it in requests))
+                    self.send(*(request.encode("latin-1") for request in requests))
                 replies.append(self.reply())
             except (OSError, EOFError):
                 self.note(sent, None, request)

@@ -40,8 +40,8 @@ def free_port() -> int:
     """A port at which nobody listens."""
     for _ in range(TRIES):
         port = random.choice(PORTS)
-        with socket.socket() as it, contextlib.suppress(OSError):
-            it.bind((HOST, port))
+        with socket.socket() as listener, contextlib.suppress(OSError):
+            listener.bind((HOST, port))
             return port
     raise NoServer("no port is free")
 

@@ -40,7 +40,8 @@ class Session:
 
     def send(self, *requests: str | bytes) -> None:
         """Sends requests in one piece, and reads no reply."""
-        self.socket.sendall(b"".join((it.encode() if isinstance(it, str) else it) + b"\n" for it in requests))
+        lines = (request.encode() if isinstance(request, str) else request for request in requests)
+        self.socket.sendall(b"".join(line + b"\n" for line in lines))
 
     def line(self) -> str:
         """The next line that the server sends. Raises an `EOFError` if the connection ended before."""

@@ -32,7 +32,7 @@ def reason_not_to_boot() -> str:
     """Why no systemd can be started here, or nothing."""
     if os.geteuid() != 0:
         return "this user is not root"
-    missing = [it for it in (SYSTEMD, "unshare", "nsenter", "setpriv") if not shutil.which(it)]
+    missing = [command for command in (SYSTEMD, "unshare", "nsenter", "setpriv") if not shutil.which(command)]
     if missing:
         return f"there is no {missing[0]}"
     return "" if own_cgroup() else "there are no cgroups of the second version"
@@ -41,7 +41,7 @@ def reason_not_to_boot() -> str:
 def is_removed(cgroup: str) -> bool:
     """Removes a cgroup with those in it, unless a process is left there. Gives whether it did."""
     try:
-        for folder in [it for it, _, _ in os.walk(cgroup, topdown=False)]:
+        for folder in [path for path, _, _ in os.walk(cgroup, topdown=False)]:
             os.rmdir(folder)
         return True
     except OSError:

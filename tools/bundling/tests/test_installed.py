@@ -29,8 +29,7 @@ def test_two_runs_of_a_service(root: Path, tmp_path: Path) -> None:
 def test_tools_that_pages_name(root: Path) -> None:
     """Each is a command, unless it is for those who have a checkout."""
     pages = "".join(page.read_text("utf-8") for page in Path(root, DOCUMENTS).rglob("*.md"))
-    assert {*re.findall(r"\btools/([a-z_]+)\b(?!/)", pages)} - DOCUMENTS = "usr/share/doc/rb-broker"
-OF_A_CHECKOUT == {*COMMANDS}
+    assert {*re.findall(r"\btools/([a-z_]+)\b(?!/)", pages)} - OF_A_CHECKOUT == {*COMMANDS}
 
 
 @pytest.mark.parametrize("name", COMMANDS)

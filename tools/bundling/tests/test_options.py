@@ -37,7 +37,7 @@ class Option(NamedTuple):
     @property
     def right(self) -> list[str]:
         """Values that must be accepted: the choices, or those at both ends of the range."""
-        return self.choices or [str(it) for it in self.ends]
+        return self.choices or [str(end) for end in self.ends]
 
     @property
     def wrong(self) -> list[str]:
@@ -146,8 +146,8 @@ def test_range(command: str, name: str, program: str) -> None:
 
 def uses_of(option: Option) -> Iterator[tuple[list[str], bool]]:
     """Words with the option or without it, and whether they must be accepted."""
-    yield from (([f"{option.name}={it}"], True) for it in option.right)
-    yield from (([f"{option.name}={it}"], False) for it in option.wrong)
+    yield from (([f"{option.name}={value}"], True) for value in option.right)
+    yield from (([f"{option.name}={value}"], False) for value in option.wrong)
     if option.excludes:
         both = [f"{option.name}=1", f"{option.excludes}=1"]
         yield both, False

@@ -29,7 +29,7 @@ class ProgressTest(RoomTest):
                     mock.patch("time.monotonic", side_effect=[0.0, *seconds]), Progress() as progress:
                 for text in says:
                     progress.say(text)
-            self.assertEqual(stderr.told, "".join(f"{ERASE}{it}" for it in told))
+            self.assertEqual(stderr.told, "".join(f"{ERASE}{line}" for line in told))
 
     def test_nothing_is_said_where_there_is_no_terminal(self) -> None:
         with mock.patch("sys.stderr") as stderr, mock.patch("time.monotonic", return_value=100.0):

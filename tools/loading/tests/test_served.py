@@ -13,23 +13,23 @@ from verifying.record import read_record
 LOADS = (
     ("--workers 4 --sessions 4 --calls 100000",
      "--clients 4 --rate 200 --delay 1ms --fail 0.3 --seconds 2", 0, r"\nerrors 0\Z",
-     lambda it: 0 < it["offered"] <= it["of"] == 400 and 0.15 < it["failed"] / it["taken"] < 0.45),
+     lambda counts: 0 < counts["offered"] <= counts["of"] == 400 and 0.15 < counts["failed"] / counts["taken"] < 0.45),
     ("--workers 2 --sessions 2", "--clients 2 --rate 50 --seconds 2", 0, r"\Aoffered \d+ of 100 ",
-     lambda it: 0 <= it["median"] <= it["percentile"] <= it["greatest"]),
+     lambda counts: 0 <= counts["median"] <= counts["percentile"] <= counts["greatest"]),
     # Clients that wait for a worker offer less.
     ("--workers 1 --sessions 3", "--clients 3 --rate 60 --seconds 1", 0, r"\Aoffered \d+ of 60 ",
-     lambda it: it["offered"] <= 20),
+     lambda counts: counts["offered"] <= 20),
     # Elements that do not expire are left.
     ("--workers 1 --sessions 1", "--clients 1 --rate 50 --delay 1h --seconds 1", 0,
-     "\nlateness in microseconds: none\n", lambda it: it["taken"] == 0 < it["offered"]),
+     "\nlateness in microseconds: none\n", lambda counts: counts["taken"] == 0 < counts["offered"]),
     # Nothing waits at this server.
     ("--workers 1 --sessions 1 --turns 0", "--clients 1 --rate 20 --delay 1us --seconds 1", 0, r"\nerrors 0\Z",
-     lambda it: it["taken"] > 0),
+     lambda counts: counts["taken"] > 0),
     # A full run ends the load.
     ("--workers 2 --sessions 2 --calls 20", "--clients 2 --rate 100 --seconds 50", 1,
-     r"\nerrors 2: 2 of ERR 6 full\Z", lambda it: it["calls"] == 20),
+     r"\nerrors 2: 2 of ERR 6 full\Z", lambda counts: counts["calls"] == 20),
     ("--workers 1 --sessions 1", f"--clients 1 --rate 20 --delay {2**64 - 1}ns --seconds 1", 1,
-     r"\nerrors (\d+): \1 of ERR 3 range\Z", lambda it: it["offered"] == 0),
+     r"\nerrors (\d+): \1 of ERR 3 range\Z", lambda counts: counts["offered"] == 0),
 )
 
 
@@ -79,9 +79,9 @@ class ServedTest(ServingTest):
         with open(path, "rb") as file:
             exchanges = list(read_record(file))
         self.expect_audit(server, counts, 2)
-        replies = collections.Counter(it.reply[0].split(" ")[0] for it in exchanges)
+        replies = collections.Counter(exchange.reply[0].split(" ")[0] for exchange in exchanges)
         told = (replies["OFFERED"], replies["ITEM"], replies["DONE"], replies["AGAIN"], replies["DEAD"], replies["BYE"])
-        self.assertEqual(told, (*(counts[it] for it in ("offered", "taken", "done", "again", "dead")), 2))
+        self.assertEqual(told, (*(counts[name] for name in ("offered", "taken", "done", "again", "dead")), 2))
         self.assertEqual(replies["OFFERED"] + replies["ITEM"] + replies["NONE"] + replies["AGAIN"], counts["calls"])
-        self.assertEqual(len({it.session for it in exchanges}), 2)
-        self.assertTrue(all(before < it.sent < (it.received or 0) < after for it in exchanges))
+        self.assertEqual(len({exchange.session for exchange in exchanges}), 2)
+        self.assertTrue(all(before < exchange.sent < (exchange.received or 0) < after for exchange in exchanges))

@@ -31,8 +31,8 @@ class StrangeServerTest(RoomTest):
         return listener.getsockname()[1]
 
     def test_a_port_with_nobody(self):
-        with socket.create_server(("127.0.0.1", 0)) as it:
-            port = it.getsockname()[1]
+        with socket.create_server(("127.0.0.1", 0)) as listener:
+            port = listener.getsockname()[1]
         status, lines, errors = load("--port", port, "--seconds", 1)
         told = f"load: no connection to 127.0.0.1:{port}: [Errno 111] Connection refused\n"
         self.assertEqual((status, lines, errors), (1, [], told))

@@ -89,7 +89,7 @@ class ReportPageTest(PageTest):
 
 def counts(lines: Sequence[str]) -> list[int]:
     """How many elements a report has at the start, offered, given, removed, cleared, and left at the end."""
-    return [int(it.replace(",", "")) for it in re.findall(r"(\d[\d,]*) [a-z]", lines[1])]
+    return [int(number.replace(",", "")) for number in re.findall(r"(\d[\d,]*) [a-z]", lines[1])]
 
 
 def call(*words: str) -> tuple[int, str, str]:

@@ -78,7 +78,7 @@ class CommandTest(ReportTest):
     def test_refused_words(self) -> None:
         for words, says in REFUSED:
             with self.subTest(words=words):
-                told = [self.history if it == "run.txt" else it for it in words.split()]
+                told = [self.history if word == "run.txt" else word for word in words.split()]
                 self.assertIn(says, self.refused(2, *told))
         self.assertEqual(Path(self.history).read_text("utf-8"), RUN)
 

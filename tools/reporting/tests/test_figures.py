@@ -51,6 +51,6 @@ class FiguresTest(unittest.TestCase):
             (mark, {0: "0 ns", 1: "1 ns", 500: "500 ns", 1000: "1 µs", SECOND: "1 s", 90 * SECOND: "90 s",
                     120 * SECOND: "2 min", 3600 * SECOND: "1 h", 86_400 * SECOND: "1 d", 10**12: "1,000 s"}),
         ):
-            self.assertEqual({it: form(it) for it in told}, told)
+            self.assertEqual({value: form(value) for value in told}, told)
         shares = [percent(1, 3), percent(1, 5000), percent(0, 9), percent(0, 0)]
         self.assertEqual(shares, ["33.3 %", "< 0.1 %", "0.0 %", "0.0 %"])

@@ -57,7 +57,7 @@ def lives_in(text: str) -> dict[str, list[Any]]:
 
 def hostile_text() -> str:
     lines = [offer(place, 0, payload) for place, payload in enumerate(HOSTILE)]
-    return text_of(*lines, f"1 9 9 drain 64 {' '.join(str(it) for it in range(len(HOSTILE)))}")
+    return text_of(*lines, f"1 9 9 drain 64 {' '.join(map(str, range(len(HOSTILE))))}")
 
 
 class PageTest(unittest.TestCase):

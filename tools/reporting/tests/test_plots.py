@@ -35,7 +35,7 @@ class TimeAxisTest(unittest.TestCase):
             self.assertEqual((axis.edges[0], axis.edges[-1]), (start, end + 1))
             self.assertEqual(len(set(axis.edges)), axis.count + 1)
             self.assertLessEqual(axis.count, most)
-            self.assertEqual([axis.bucket(it) for it in (start, end)], [0, axis.count - 1])
+            self.assertEqual([axis.bucket(moment) for moment in (start, end)], [0, axis.count - 1])
 
     def test_labels_at_the_axis(self) -> None:
         for nanoseconds, began, told, title in (
@@ -56,7 +56,7 @@ class PlotsTest(unittest.TestCase):
         ):
             ticks = svg.round_ticks(Scale(0, high, svg.BOTTOM, svg.TOP), DATE_STEPS, mark)
             self.assertEqual(" ".join(tick.label for tick in ticks), told)
-            self.assertTrue(all(svg.TOP <= it.place <= svg.BOTTOM for it in ticks))
+            self.assertTrue(all(svg.TOP <= tick.place <= svg.BOTTOM for tick in ticks))
 
     def test_a_backlog_of_ten_minutes(self) -> None:
         plot = plots_of(figures(backlog()))[-1]
@@ -70,7 +70,7 @@ class PlotsTest(unittest.TestCase):
         axis = TimeAxis(history, Clock(), 3)
         self.assertEqual(lateness_in(axis, history), [(20, 30, 3), None, (10, 10, 1)])
         plot = lateness_plot(lateness_in(axis, history), axis)
-        self.assertEqual([it for _, it in plot.lines.values()], [[92.7, None, 157.3], [28.0, None, 157.3]])
+        self.assertEqual([places for _, places in plot.lines.values()], [[92.7, None, 157.3], [28.0, None, 157.3]])
         self.assertEqual([says.split("\n")[1] for _, says in plot.readings],
                          ["median 20 ns", "nothing was given", "median 10 ns"])
 

@@ -30,12 +30,12 @@ WORDS = """(() => {
 # What has a color: words, and marks, each with the name of its color. What lies behind them is a plot's.
 WORDS_OF_PAGE = [("h2", "color"), (".note", "color"), ("td a", "color"), ("svg text.x", "fill"), ("input", "color"),
                  (".reading", "color")]
-MARKS = [(it, "stroke") for it in (".line.standing", ".line.expired", ".line.median", ".cursor")]
+MARKS = [(mark, "stroke") for mark in (".line.standing", ".line.expired", ".line.median", ".cursor")]
 
 
 def luminance(color: str) -> float:
     """The relative luminance of a color such as rgb(27, 33, 40), as WCAG 2 defines it."""
-    parts = [int(it) / 255 for it in color[color.index("(") + 1:-1].split(",")[:3]]
+    parts = [int(part) / 255 for part in color[color.index("(") + 1:-1].split(",")[:3]]
     red, green, blue = [part / 12.92 if part <= 0.04045 else math.pow((part + 0.055) / 1.055, 2.4) for part in parts]
     return 0.2126 * red + 0.7152 * green + 0.0722 * blue
 

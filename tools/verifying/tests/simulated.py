@@ -133,9 +133,9 @@ class Simulation:
                 most = len(given)  # or more would have been given
             else:
                 most = min(random.choice([3, 1000]) if len(given) < 3 else 3, 64 - held)
-            self._event(client, " ".join(map(str, ["drain", most, *(it.id for it in given)])))
+            self._event(client, " ".join(map(str, ["drain", most, *(element.id for element in given)])))
             request = f"DRAIN {most if most < 64 - held else 1000}"
-            client.note(self._at, request, f"DRAINED {len(given)}", *(f"ITEM {shown(it)}" for it in given))
+            client.note(self._at, request, f"DRAINED {len(given)}", *(f"ITEM {shown(element)}" for element in given))
             return
         element = self._taken(client)
         wait, request = (f" {self._at} 0", "POLLFOR 0") if keyword == "POLLFOR" else ("", keyword)
@@ -193,8 +193,8 @@ class Idle:
         self.seed = seed
         self.lines: list[Line] = []
         self._events: list[tuple[int, int, str]] = []  # with moment and seat
-        self._seats = [(0, it) for it in range(16)]  # with the moment at which each is free
-        self._come = [(random.randrange(self.WAIT // 50), it) for it in range(workers)]  # when, and how often before
+        self._seats = [(0, seat) for seat in range(16)]  # with the moment at which each is free
+        self._come = [(random.randrange(self.WAIT // 50), worker) for worker in range(workers)]  # when, and who
         while self._come:
             self._work(*heapq.heappop(self._come), random.choice(lengths))
         for id in range(offers):

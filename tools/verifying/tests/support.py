@@ -26,9 +26,9 @@ class Run:
 
     def __init__(self, lines: Iterable[str]) -> None:
         found = [(line, _TEXT.fullmatch(line)) for line in lines]
-        queues = sorted({it[1] or "" for _, it in found if it})
-        self.texts = [texts_of([it[2] for _, it in found if it and (it[1] or "") == queue]) for queue in queues]
-        self.record = [line_of(line) for line, it in found if not it]
+        queues = sorted({found[1] or "" for _, found in found if found})
+        self.texts = [texts_of([text[2] for _, text in found if text and (text[1] or "") == queue]) for queue in queues]
+        self.record = [line_of(line) for line, text in found if not text]
 
     @classmethod
     def named(cls, name: str) -> "Run":
@@ -44,7 +44,7 @@ class Run:
 def texts_of(lines: list[str]) -> list[str]:
     """The texts of the files of a history, of whose first one the head may be left out, and each without its end."""
     lines = lines if lines[0].startswith("history") else ["history 3", "open 0 0 0", *lines]
-    firsts = [number for number, it in enumerate(lines) if it.startswith("history")]
+    firsts = [number for number, line in enumerate(lines) if line.startswith("history")]
     files = [lines[first:end] for first, end in zip(firsts, [*firsts[1:], len(lines)])]
     return ["\n".join([*file, f"end {sum(line[0].isdigit() for line in file)}", ""]) for file in files]
 
@@ -59,7 +59,7 @@ def line_of(told: str) -> Line:
 
 
 def record_of(record: Iterable[Line]) -> str:
-    return "".join(f"{json.dumps(it)}\n" for it in record)
+    return "".join(f"{json.dumps(line)}\n" for line in record)
 
 
 def history_of(*texts: str, shard: int | None = None) -> History:
@@ -87,6 +87,6 @@ def judged(
     histories: Sequence[History], record: list[Line], is_whole: bool = True, has_leases: bool = False
 ) -> tuple[dict[str, int], list[str]]:
     """The number of faults of each kind that has any, and the lines of the faults."""
-    exchanges = (("record.jsonl", it) for it in read_record(io.BytesIO(record_of(record).encode())))
+    exchanges = (("record.jsonl", exchange) for exchange in read_record(io.BytesIO(record_of(record).encode())))
     lines = Verdict(histories, exchanges, is_whole, has_leases).lines()
     return counts_in("\n".join(lines)), [line for line in lines if re.search(r": (%s): " % "|".join(KINDS), line)]

@@ -29,7 +29,8 @@ class Case(NamedTuple):
 
     def fits(self, found: dict[str, int]) -> bool:
         """Whether these are the faults of each kind."""
-        kinds = dict(re.fullmatch(r"(\w+)(?:\*(\d*))?", it).groups("1") for it in self.kinds.split() if it[0].isalpha())
+        words = [word for word in self.kinds.split() if word[0].isalpha()]
+        kinds = dict(re.fullmatch(r"(\w+)(?:\*(\d*))?", word).groups("1") for word in words)
         kinds.pop("none", None)
         is_all = found.keys() == kinds.keys() if ".." not in self.kinds else found and found.keys() >= kinds.keys()
         return bool(is_all) and all(int(count or found[kind]) == found[kind] for kind, count in kinds.items())
@@ -60,18 +61,18 @@ def alternatives(change: str) -> list[str]:
 
 def changed(run: list[str], changes: tuple[str, ...]) -> Iterator[str]:
     """The lines of a run with these changes."""
-    lines, place = [[it] for it in run], len(run) - 1
+    lines, place = [[line] for line in run], len(run) - 1
     for change in changes:
         old, is_other, new = change.partition(" -> ")
         mark, _, told = change.partition(" ")
         if is_other:
-            (at,) = (it for it, line in enumerate(run) if old in line)
+            (at,) = (number for number, line in enumerate(run) if old in line)
             lines[at][0] = lines[at][0].replace(old, new)
         elif mark == "-":
-            left_out = [it for it, line in enumerate(run) if fnmatchcase(line, told)]
+            left_out = [number for number, line in enumerate(run) if fnmatchcase(line, told)]
             assert left_out, change
-            for it in left_out:
-                del lines[it][0]
+            for number in left_out:
+                del lines[number][0]
         elif mark == "@":
             place = run.index(told)
         else:
@@ -100,7 +101,7 @@ def test_more_jobs_than_a_session_holds(count: int, faults: dict[str, int]) -> N
     """A client that holds 63 jobs may be given one more, and with 64 none."""
     jobs = range(count + 1)
     events = [f"1 {job} {job} offer {job} {job} {job} {job} 1 x" for job in jobs]
-    events += [f"2 {100 + it} {100 + it} take {it}" for it in jobs]
-    events += [f"2 200 200 offer {count + 1 + it} 300 {it} {it} 2 x" for it in jobs]
-    record = [line_of(f"killed {100 + it} {100 + it} TAKE = ITEM {it} {it} 1 x") for it in jobs[:-1]]
+    events += [f"2 {100 + job} {100 + job} take {job}" for job in jobs]
+    events += [f"2 200 200 offer {count + 1 + job} 300 {job} {job} 2 x" for job in jobs]
+    record = [line_of(f"killed {100 + job} {100 + job} TAKE = ITEM {job} {job} 1 x") for job in jobs[:-1]]
     assert judged([history_of(text_of(*events))], record, is_whole=False)[0] == faults

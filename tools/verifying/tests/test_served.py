@@ -23,7 +23,8 @@ def test_clients_of_the_load(serve: Serve, tmp_path: Path, timer: str) -> None:
                    "--calls", 100_000, "--delay", 1_000_000)
     records = [tmp_path / f"{number}.jsonl" for number in range(2)]
     words = ["--port", str(server.port), "--clients", "4", "--rate", "400", "--fail", "0.3", "--seconds", "1"]
-    loads = [subprocess.Popen([*tool("load"), *words, "--record", it], stdout=subprocess.DEVNULL) for it in records]
+    commands = [[*tool("load"), *words, "--record", record] for record in records]
+    loads = [subprocess.Popen(command, stdout=subprocess.DEVNULL) for command in commands]
     assert [load.wait() for load in loads] == [0, 0]
     assert server.end().status == 0
     ran = verify(tmp_path / "run", *records, "--all")

@@ -34,7 +34,7 @@ def tells_its_place(line: Line) -> bool:
 
 def named_lines(run: Simulation, keywords: Sequence[str] = NAMED) -> list[int]:
     """The numbers of the lines whose replies begin with such a word."""
-    return [number for number, it in enumerate(run.lines) if keyword(it) in keywords]
+    return [number for number, line in enumerate(run.lines) if keyword(line) in keywords]
 
 
 def one_of(numbers: list[int]) -> int:
@@ -60,7 +60,7 @@ def test_runs_as_they_are(run: Simulation) -> None:
     """Also with the records of half of the clients. Most sessions of few requests name no element and fit at several
     places, at some of them out of order."""
     assert faults_of(run) == ({}, [])
-    sessions = sorted({it["session"] for it in run.lines})
+    sessions = sorted({line["session"] for line in run.lines})
     some = {*random.sample(sessions, len(sessions) // 2)}
     run.lines = [line for line in run.lines if line["session"] in some]
     assert faults_of(run, is_whole=False) == ({}, [])
@@ -127,7 +127,8 @@ def test_a_call_that_the_history_leaves_out(run: Simulation) -> None:
 def test_a_call_that_a_record_leaves_out(run: Simulation) -> None:
     """In a session that has another by which its calls are found."""
     tell = [line["session"] for line in run.lines if tells_its_place(line)]
-    number = one_of([it for it in named_lines(run, ("OFFERED",)) if tell.count(run.lines[it]["session"]) > 1])
+    offers = named_lines(run, ("OFFERED",))
+    number = one_of([number for number in offers if tell.count(run.lines[number]["session"]) > 1])
     words = run.lines.pop(number)["reply"][0].split(" ")
     counts, faults = faults_of(run)
     assert (counts.pop("unrecorded"), counts.pop("gap", 1), counts) == (1, 1, {}), faults
@@ -151,11 +152,11 @@ def test_two_calls_of_a_session_exchanged(run: Simulation) -> None:
 @given(RUNS)
 def test_a_call_at_another_seat(run: Simulation) -> None:
     numbers = named_lines(run)
-    sessions = [run.lines[it]["session"] for it in numbers]
-    number = one_of([it for it in numbers if keyword(run.lines[it]) == "OFFERED"
-                     and sessions.count(run.lines[it]["session"]) > 2])
+    sessions = [run.lines[number]["session"] for number in numbers]
+    number = one_of([number for number in numbers if keyword(run.lines[number]) == "OFFERED"
+                     and sessions.count(run.lines[number]["session"]) > 2])
     words = run.lines[number]["reply"][0].split(" ")
-    event = next(it for it, act in enumerate(run.events) if f" offer {words[1]} " in act)
+    event = next(event for event, act in enumerate(run.events) if f" offer {words[1]} " in act)
     seat, _, rest = run.events[event].partition(" ")
     run.events[event] = f"{int(seat) % 4 + 1} {rest}"
     counts, faults = faults_of(run)
@@ -167,13 +168,13 @@ def test_a_call_at_another_seat(run: Simulation) -> None:
 @given(RUNS)
 def test_a_reply_that_came_before_another_call_was_sent_stands_behind_it(run: Simulation) -> None:
     early = run.lines[one_of(named_lines(run))]
-    late = [number for number, it in enumerate(run.lines) if it["sent"] > early["received"]
-            and it["session"] != early["session"] and keyword(it) in NAMED]
+    late = [number for number, line in enumerate(run.lines) if line["sent"] > early["received"]
+            and line["session"] != early["session"] and keyword(line) in NAMED]
     line = run.lines[one_of(late)]
     shift = line["received"] - early["sent"] + 1
-    for it in run.lines:
-        if it["session"] == line["session"]:
-            it["sent"], it["received"] = it["sent"] - shift, it["received"] - shift
+    for line in run.lines:
+        if line["session"] == line["session"]:
+            line["sent"], line["received"] = line["sent"] - shift, line["received"] - shift
     counts, faults = faults_of(run)
     assert counts.keys() == {"time"}, faults
 

@@ -12,7 +12,7 @@ class PlanTest(unittest.TestCase):
     def test_the_longest_way_is_counted_in_lines(self) -> None:
         uses = {"low": [], "short": ["low"], "long": ["low"], "free": [], "top": ["short", "long", "free"]}
         crates = Crates(uses, {"low": 10, "short": 5, "long": 20, "free": 34, "top": 1})
-        self.assertEqual([crates.way_up[it] for it in ("low", "short", "long", "free", "top")], [31, 6, 21, 35, 1])
+        self.assertEqual(crates.way_up, {"low": 31, "short": 6, "long": 21, "free": 35, "top": 1})
         self.assertEqual(crates.names, ["free", "low", "long", "short", "top"])
         self.assertEqual(crates.below["top"], {"low", "short", "long", "free"})
         self.assertEqual(crates.below["low"], set())
@@ -20,9 +20,9 @@ class PlanTest(unittest.TestCase):
     def test_the_crates_of_this_program(self) -> None:
         crates = read_crates(TOP, "rb_broker")
         self.assertEqual(crates.below["rb_broker"], {*crates.names} - {"rb_broker"})
-        self.assertEqual([it for it in crates.names if it.endswith(("_tests", "_cases"))], [])
+        self.assertEqual([crate for crate in crates.names if crate.endswith(("_tests", "_cases"))], [])
         for above in crates.names:
-            self.assertTrue(all(crates.way_up[it] > crates.way_up[above] for it in crates.below[above]), above)
+            self.assertTrue(all(crates.way_up[below] > crates.way_up[above] for below in crates.below[above]), above)
 
     def test_a_crate_begins_beside_others_where_processors_and_memory_are_free(self) -> None:
         self.assertTrue(may_begin(0, 1, 0))
@@ -58,7 +58,7 @@ class BuildTest(CheckoutTest):
         ours = {"rb_base": 0, "rb_right": 0, "rb_broker": 0, "rb_left": 5, "rb_alone": 5}
         words = {crate: "run -- --help" if crate == "rb_broker" else "lib" for crate in ours}
         least = os.nice(0)
-        self.assertEqual(begun, {it: f"{words[it]} nice {min(19, least + more)}" for it, more in ours.items()})
+        self.assertEqual(begun, {crate: f"{words[crate]} nice {min(19, least + more)}" for crate, more in ours.items()})
         events = self.events()
         pairs = ("left", "base"), ("right", "base"), ("broker", "left"), ("broker", "right"), ("broker", "alone")
         for above, below in pairs:
@@ -75,12 +75,12 @@ class BuildTest(CheckoutTest):
     def test_one_processor_builds_one_at_a_time_the_longest_way_first(self) -> None:
         self.build(before=ONE)
         order = ["rb_base", "rb_right", "rb_left", "rb_alone", "rb_broker"]
-        self.assertEqual(self.events(), [f"{it} {what}" for it in order for what in ("begins", "ends")])
+        self.assertEqual(self.events(), [f"{crate} {what}" for crate in order for what in ("begins", "ends")])
 
     @unittest.skipIf(len(PROCESSORS) < 2, "one processor")
     def test_standard_error_tells_what_is_proved(self) -> None:
         others = "rb_left ends", "rb_alone ends"
-        waits = [f'until grep -q "{it}" "$STAND_IN/log"; do sleep 0.05; done' for it in others]
+        waits = [f'until grep -q "{other}" "$STAND_IN/log"; do sleep 0.05; done' for other in others]
         self.does("rb_right", "; ".join([*waits, "sleep 2.5"]))
         _, _, errors = self.build()
         self.assertRegex(errors, r"(?m)^broker: \d+ s: proving rb_right$")
@@ -108,7 +108,7 @@ class BuildTest(CheckoutTest):
         self.assertNotIn("right is being proved", errors)
         last = "broker: rb_broker could not be built: rb_left failed (rt ended with status 3)"
         self.assertEqual(errors.splitlines()[-1], last)
-        self.assertEqual([it for it in self.events() if "ends" in it], ["rb_base ends"])
+        self.assertEqual([event for event in self.events() if "ends" in event], ["rb_base ends"])
 
     def test_a_build_that_failed_goes_on_where_it_ended(self) -> None:
         self.build()

@@ -21,8 +21,9 @@ class SurroundingsTest(CheckoutTest):
     def run_with(self, *commands: str) -> tuple[int, str]:
         """Runs ./broker where there are these commands alone: its status and standard error."""
         with tempfile.TemporaryDirectory() as path:
-            for it in commands:
-                os.symlink(sys.executable if it == "python3" else shutil.which(it) or it, f"{path}/{it}")
+            for command in commands:
+                found = sys.executable if command == "python3" else shutil.which(command)
+                os.symlink(found or command, f"{path}/{command}")
             status, _, errors = self.build(before=[f"{path}/bash"], PATH=path)
             return status, errors
 

@@ -38,7 +38,7 @@ def declared_in(sources: list[SourceFile]) -> dict[str, set[str]]:
     """The functions, types and traits of sources, each with its clauses. A type or trait has its functions and their
     clauses too."""
     declared: defaultdict[str, set[str]] = defaultdict(set)
-    for item in (it for file in sources for it in file.items):
+    for item in (item for file in sources for item in file.items):
         owner, _, name = item.name.rpartition("::")
         clauses = ENSURES.findall("\n".join(item.code))
         declared[name].update(clauses)

@@ -37,7 +37,7 @@ def definitions_of(file: SourceFile) -> list[Item]:
 
 def cited_in(file: SourceFile) -> Iterator[tuple[str, str]]:
     """The module and name of each definition that a file names, outside comments and imports."""
-    texts = [it for item in file.paragraphs for it in (("", item.section), (item.name, item.code))]
+    texts = [text for item in file.paragraphs for text in (("", item.section), (item.name, item.code))]
     if file.path.endswith(".rt"):
         texts = [("", [file.bare])]
         for path, name in CITED_BY_TACTIC.findall(file.bare):

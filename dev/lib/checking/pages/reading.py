@@ -25,7 +25,7 @@ def section(name: str, heading: str) -> str:
 
 def blocks(text: str) -> list[str]:
     """The indented blocks of code, in their order."""
-    return [textwrap.dedent(it[0]).strip("\n") + "\n" for it in BLOCK.finditer(text) if it[0].strip()]
+    return [textwrap.dedent(block[0]).strip("\n") + "\n" for block in BLOCK.finditer(text) if block[0].strip()]
 
 
 def tables(text: str) -> list[list[list[str]]]:
@@ -35,7 +35,7 @@ def tables(text: str) -> list[list[list[str]]]:
 
 
 def cells_of(row: str) -> list[str]:
-    return [it.strip() for it in re.split(r" \|(?= )", row[1:-1])]
+    return [cell.strip() for cell in re.split(r" \|(?= )", row[1:-1])]
 
 
 def code(text: str) -> list[str]:

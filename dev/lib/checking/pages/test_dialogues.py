@@ -13,7 +13,7 @@ from common.program import TOP
 from serving.server import Server
 
 PROTOCOL, HISTORY = "docs/PROTOCOL.md", "docs/HISTORY.md"
-REFUSALS = {it[0].strip("`"): it for it in tables(section(PROTOCOL, "Refusals"))[0]}
+REFUSALS = {row[0].strip("`"): row for row in tables(section(PROTOCOL, "Refusals"))[0]}
 HELD = "OFFER 0 a\nPOLL\n"
 
 
@@ -36,7 +36,7 @@ def test_the_dialogue_of_the_protocol(run: Run) -> None:
 
 
 def test_each_request_is_in_the_table_and_the_grammar() -> None:
-    table = [it[0].strip("`").split()[0] for it in tables(section(PROTOCOL, "Requests"))[0]]
+    table = [row[0].strip("`").split()[0] for row in tables(section(PROTOCOL, "Requests"))[0]]
     grammar = section(PROTOCOL, "Grammar").partition("    line-end")[0]
     assert table == re.findall(r'%s"([A-Z]+)"', grammar)
 
@@ -60,7 +60,7 @@ def test_the_commands_of_histories(run: Run) -> None:
         told[line] = ran.stdout
         assert ran.returncode == 0, (line, ran)
     verdict = code(tables(page(HISTORY))[0][0][0])[0]
-    assert [it.strip() for line, it in told.items() if " replay " in line] == [verdict] * 2
+    assert [said.strip() for line, said in told.items() if " replay " in line] == [verdict] * 2
 
 
 @pytest.mark.parametrize("history", [block for block in blocks(page(HISTORY)) if block.startswith("history ")])
@@ -71,8 +71,8 @@ def test_a_history_of_the_page(run: Run, tmp_path: Path, history: str) -> None:
 
 @pytest.mark.parametrize("line", blocks(section(HISTORY, "A report on a history"))[0].splitlines())
 def test_the_commands_of_reports(run: Run, line: str) -> None:
-    for it in blocks(page(HISTORY))[0].splitlines():
-        run(it)
+    for line in blocks(page(HISTORY))[0].splitlines():
+        run(line)
     ran = run(re.split(r" {2,}", line)[0])
     assert ran.returncode == 0 and ran.stdout, ran
 
@@ -103,7 +103,7 @@ def refusals() -> Iterator[tuple[str, str, str]]:
         if it := re.fullmatch(r"a line of (\d+) bytes", example_of):
             yield reply, int(it[1]) * "x", ""
         elif example_of == "a tab or an `é` in it":
-            yield from ((reply, f"OFFER 0 a{it}b", "") for it in "\té")
+            yield from ((reply, f"OFFER 0 a{character}b", "") for character in "\té")
         elif it := re.fullmatch("`(.*)` after `(.*)`", example_of):
             yield reply, f"{it[2]}\n{it[1]}", ""
         elif it := re.fullmatch(r"the second `(.*?)`(?: with `(.*)`)?", example_of):
@@ -130,7 +130,7 @@ def test_a_line_of_the_greatest_length_is_no_fault(run: Run) -> None:
 def test_the_examples_that_the_protocol_names(run: Run) -> None:
     told = "`examples/refusals.txt` shows refusals 1 to 4 and 8, `examples/retries.txt` failures and a `DRAIN`."
     assert told in page(PROTOCOL)
-    refusals, retries = (run(f"./broker script < examples/{it}.txt").stdout for it in ("refusals", "retries"))
+    refusals, retries = (run(f"./broker script < examples/{name}.txt").stdout for name in ("refusals", "retries"))
     assert {*re.findall(r"^ERR (\d)", refusals, re.M)} == {"1", "2", "3", "4", "8"}
     words = [line.split()[0] for line in retries.splitlines() if line.split()[0] != "NOW"]
     assert words == "OFFERED ITEM AGAIN ITEM AGAIN ITEM DONE OFFERED OFFERED DRAINED ITEM ITEM DONE AGAIN BYE".split()
@@ -200,7 +200,7 @@ def test_the_end_of_a_run_with_two_clients(program: str) -> None:
         with socket.create_connection(place) as one, socket.create_connection(place) as two:
             one.sendall(worker.encode().decode("unicode_escape").encode())
             two.sendall(giver.encode().decode("unicode_escape").encode())
-            replies = [it.makefile().read() for it in (one, two)]
+            replies = [client.makefile().read() for client in (one, two)]
         status, told, _ = server.end()
-    assert (status, "".join(f"{it}\n" for it in told)) == (0, blocks(text)[1]), replies
+    assert (status, "".join(f"{line}\n" for line in told)) == (0, blocks(text)[1]), replies
     assert "`listening 127.0.0.1:P`" in text

@@ -8,7 +8,7 @@ from checking.pages.conftest import Run
 from checking.pages.reading import code, page, section, tables
 from common.program import TOP
 
-PROTOCOL, HISTORY, OPERATING = (f"docs/{it}.md" for it in ("PROTOCOL", "HISTORY", "OPERATING"))
+PROTOCOL, HISTORY, OPERATING = (f"docs/{name}.md" for name in ("PROTOCOL", "HISTORY", "OPERATING"))
 ENDS = [(int(row[0]), "".join(code(row[1])[:1])) for row in tables(section(PROTOCOL, "How a run ends"))[0]]
 # Runs that end by a fault, each with its line.
 RUNS = {
@@ -50,16 +50,16 @@ def test_a_fault_of_a_run(run: Run, line: str) -> None:
 
 def test_the_refusals_of_requests() -> None:
     texts = re.findall(r'b"(ERR \d [\w-]+)"', source("crates/rb_protocol/src/line_reply.rt"))
-    table = [it[0].strip("`") for it in tables(section(PROTOCOL, "Refusals"))[0]]
+    table = [row[0].strip("`") for row in tables(section(PROTOCOL, "Refusals"))[0]]
     grammar = re.findall(r'%s"(\d [\w-]+)"', section(PROTOCOL, "Grammar"))
-    assert sorted(table) == sorted(texts) == sorted(f"ERR {it}" for it in grammar)
+    assert sorted(table) == sorted(texts) == sorted(f"ERR {fault}" for fault in grammar)
 
 
 def test_the_reasons_of_replays() -> None:
     unreadable = {row[0].strip("`") for row in tables(section(HISTORY, "Why a text can't be read"))[0]}
     headings = "Why a history is not legal", "Why retries are not right"
     rows = [row for heading in headings for row in tables(section(HISTORY, heading))[0]]
-    reasons = {it for row in rows for it in re.findall(r": `([a-z ]+)`|, `([a-z ]+)`", row[1])}
+    reasons = {reason for row in rows for reason in re.findall(r": `([a-z ]+)`|, `([a-z ]+)`", row[1])}
     assert unreadable | {one or other for one, other in reasons} == verdicts()
 
 

@@ -43,7 +43,7 @@ class Served:
     def wait(self, form: str, count: int = 1) -> str:
         """The last of so many lines with this, once they are there."""
         end = time.monotonic() + PATIENCE
-        while len(found := [it for it in self.lines if re.search(form, it)]) < count:
+        while len(found := [line for line in self.lines if re.search(form, line)]) < count:
             assert time.monotonic() < end and self.process.poll() is None, self.lines
             time.sleep(0.02)
         return found[-1]
@@ -74,28 +74,28 @@ def names(line: str) -> list[str]:
 
 def test_the_first_lines(served: Served) -> None:
     told = LINES.splitlines()
-    assert [names(it) for it in served.lines[:2]] == [names(it) for it in told]
+    assert [names(line) for line in served.lines[:2]] == [names(line) for line in told]
     assert SERVING.search(told[1]) and SERVING.search(served.lines[1]).groups() == ("1", str(served.port), "0")
 
 
 def test_the_requests_by_hand(served: Served) -> None:
     """And the greeting that comes first."""
     text = section(OPERATING, "Starting")
-    greeting, *requests = (re.search(rf"such as {it}", text)[1] for it in ("`(RUN [^`]*)`", "`(OFFER [^`]*)`"))
+    greeting, *requests = (re.search(rf"such as {form}", text)[1] for form in ("`(RUN [^`]*)`", "`(OFFER [^`]*)`"))
     assert re.search(r"such as `OFFER 0 letter`, `TAKE`, `DONE` with the id in its reply, and `QUIT`", text)
-    with Session(served.port) as it:
-        assert re.sub(r"\d+$", "0", it.line()) == greeting
-        assert it.ask(requests[0]).startswith("OFFERED ")
-        words = it.ask("TAKE").split(" ")
-        assert (words[0], words[4], it.ask(f"DONE {words[1]}"), it.ask("QUIT")) == (
+    with Session(served.port) as session:
+        assert re.sub(r"\d+$", "0", session.line()) == greeting
+        assert session.ask(requests[0]).startswith("OFFERED ")
+        words = session.ask("TAKE").split(" ")
+        assert (words[0], words[4], session.ask(f"DONE {words[1]}"), session.ask("QUIT")) == (
             "ITEM", "letter", f"DONE {words[1]}", "BYE")
 
 
 def test_the_greeting_costs_no_call(served: Served) -> None:
     form = re.search("`(RUN n lost k at m)`", section(OPERATING, "The greeting"))[1]
-    with Session(served.port) as it:
-        assert re.fullmatch(re.sub(r"\b[nkm]\b", r"\\d+", form), it.line())
-        it.ask("QUIT")
+    with Session(served.port) as session:
+        assert re.fullmatch(re.sub(r"\b[nkm]\b", r"\\d+", form), session.line())
+        session.ask("QUIT")
     assert served.stop() == 0
     saved = json.loads((served.folder / "run-1.json").read_text("ascii"))["end"]
     assert saved["calls"] % 4 == 0, "the service's own calls alone"
@@ -104,10 +104,10 @@ def test_the_greeting_costs_no_call(served: Served) -> None:
 @pytest.mark.skipif(not shutil.which("perl"), reason="there is no perl")
 def test_the_worker_in_perl(served: Served, tmp_path: Path) -> None:
     command = re.search(r"`(examples/worker\.pl 7011) COMMAND`", section(OPERATING, "Starting"))[1]
-    with Session(served.port) as it:
-        it.line()
-        it.ask("OFFER 0 letter")
-        it.ask("QUIT")
+    with Session(served.port) as session:
+        session.line()
+        session.ask("OFFER 0 letter")
+        session.ask("QUIT")
     does = "sh", "-c", f'echo "$1" >> {tmp_path}/done', "sh"
     words = ["perl", *command.replace("7011", str(served.port)).split(), *does]
     with subprocess.Popen(words, cwd=TOP, stderr=subprocess.DEVNULL) as worker:
@@ -185,7 +185,7 @@ def test_tls(served: Served, tmp_path: Path) -> None:
         subprocess.run(line.replace("server.example", "localhost"), shell=True, cwd=tmp_path, check=True,
                        capture_output=True)
     for name, parts in (("server", ("server-certificate.pem", "server.key")), ("clients", ("client.pem",))):
-        (tmp_path / f"{name}.pem").write_bytes(b"".join((tmp_path / it).read_bytes() for it in parts))
+        (tmp_path / f"{name}.pem").write_bytes(b"".join((tmp_path / part).read_bytes() for part in parts))
     port = free_port()
     for old, new in ("7012", f"127.0.0.1:{port}"), ("7011", str(served.port)), ("/etc/stunnel", str(tmp_path)):
         file = file.replace(old, new)
@@ -222,11 +222,11 @@ def test_the_ends_that_are_told(served: Served, tmp_path: Path, program: str) ->
         assert re.search(re.escape(line).replace(r"\.\.", ".*"), ran.stderr.splitlines()[-1])
 
 
-@pytest.mark.parametrize(("status", "line"), [it for it in ends() if it[1] not in TAKEN])
+@pytest.mark.parametrize(("status", "line"), [end for end in ends() if end[1] not in TAKEN])
 def test_an_end_is_one_of_the_service(status: str, line: str) -> None:
     """Its words are in the sources of the service."""
     files = [Path(TOP, "tools/service"), *Path(TOP, "tools/servicing").glob("*.py")]
-    sources = re.sub(r'"\s+f?"', "", " ".join(it.read_text("utf-8") for it in files))
+    sources = re.sub(r'"\s+f?"', "", " ".join(file.read_text("utf-8") for file in files))
     assert status in ("1", "2")
     for part in filter(None, re.split(r"\.\.|\bN\b|event=", line)):
         assert part.strip(" ,") in sources, part

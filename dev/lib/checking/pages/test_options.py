@@ -31,7 +31,7 @@ def defaults(*words: str) -> dict[str, str]:
     """The options of a command, each with its default, or nothing."""
     rows = re.findall(r"^ +(?:-h, )?--([a-z-]+)(?: [^ ].*?)?(?:  +|\n +)(.*)$", help_of(*words), re.M)
     found = {name: DEFAULT.search(text) for name, text in rows}
-    return {name: it[1] if it else "" for name, it in found.items() if name != "help"}
+    return {name: default[1] if default else "" for name, default in found.items() if name != "help"}
 
 
 def of_program(command: str) -> dict[str, str]:
@@ -59,33 +59,37 @@ def test_a_synopsis(command: str) -> None:
     assert {*re.findall(r"--([a-z-]+)", text)} == {*of_program(command)}
 
 
-RANGES = [it.groups() for it in TOLD.finditer(page(PROTOCOL))]
+def accepts_just(option: str, least: str, most: str) -> bool:
+    """Whether the program takes the numbers of this range, and none beside it."""
+    low, high = int(plain(least)), int(plain(most))
+    return [accepts(option, value) for value in (low - 1, low, high, high + 1)] == [False, True, True, False]
+
+
+RANGES = [found.groups() for found in TOLD.finditer(page(PROTOCOL))]
 
 
 @pytest.mark.parametrize(("option", "least", "most", "default"), RANGES)
 def test_a_range_of_the_protocol(option: str, least: str, most: str, default: str | None) -> None:
     low, high = int(plain(least)), int(plain(most))
-    assert [accepts(option, it) for it in (low, high, high + 1)] == [True, True, False]
+    assert [accepts(option, value) for value in (low, high, high + 1)] == [True, True, False]
     assert low == 0 or not accepts(option, low - 1)
     assert default is None or plain(default) == of_program("serve")[option]
 
 
 def test_the_ranges_that_are_told() -> None:
     wanted = {"calls", "workers", "sessions", "turns", "socket", "silent"}
-    assert wanted <= {it[0] for it in RANGES}
+    assert wanted <= {told[0] for told in RANGES}
     least, most = re.search(r"at port P \(([\d,]+) to ([\d,]+)\)", page(PROTOCOL)).groups()
-    assert [accepts("port", int(plain(it)) + by) for it, by in ((least, -1), (least, 0), (most, 0), (most, 1))] == \
-        [False, True, True, False]
+    assert accepts_just("port", least, most)
 
 
 def test_the_defaults_of_jobs() -> None:
     rows = {re.match("`--([a-z]+)", row[0])[1]: row for row in tables(section(PROTOCOL, "Jobs"))[0]}
     told = {name: (re.findall(r"^[\d,]+", row[2]) or [""])[0] for name, row in rows.items()}
-    there = {it: of_program("serve")[it] for it in ("delay", "rate", "attempts")}
-    assert {name: plain(it) for name, it in told.items()} == there
+    there = {name: of_program("serve")[name] for name in ("delay", "rate", "attempts")}
+    assert {name: plain(default) for name, default in told.items()} == there
     least, most = re.search(r"([\d,]+) to ([\d,]+)", rows["attempts"][1]).groups()
-    assert [accepts("attempts", int(plain(it)) + by) for it, by in ((least, -1), (least, 0), (most, 0), (most, 1))] == \
-        [False, True, True, False]
+    assert accepts_just("attempts", least, most)
     assert f"(default `{of_program('script')['timer']}`)" in page(PROTOCOL)
 
 
@@ -100,8 +104,8 @@ def options_of_service() -> list[tuple[str, str]]:
     """The options in the table of OPERATING, each with its default."""
     found = []
     for row in tables(section(OPERATING, "Before production"))[0]:
-        names = [it.partition(" ")[0].removeprefix("--") for it in code(row[0]) if it.startswith("--")]
-        found += zip(names, [plain(it) for it in row[1].split("; ")])
+        names = [word.partition(" ")[0].removeprefix("--") for word in code(row[0]) if word.startswith("--")]
+        found += zip(names, [plain(default) for default in row[1].split("; ")])
     return found
 
 
@@ -119,7 +123,7 @@ def test_ranges_of_the_service() -> None:
 
 def rows_of_gateways() -> list[tuple[list[str], str]]:
     rows = tables(section("redis/README.md", "Gateways"))[0]
-    return [([it.partition(" ")[0].removeprefix("--") for it in code(row[0])], row[1]) for row in rows]
+    return [([word.partition(" ")[0].removeprefix("--") for word in code(row[0])], row[1]) for row in rows]
 
 
 @pytest.mark.parametrize(("options", "text"), rows_of_gateways())
@@ -127,14 +131,15 @@ def test_a_row_of_the_gateway(options: list[str], text: str) -> None:
     """Each option is there, and what stands in brackets first, as `(30s, 20 attempts)`, is a default of one."""
     there = of_gateway()
     assert {*options} <= {*there}
-    told = [re.match(r"\w+", it)[0] for brackets in re.findall(r"\((\d[^()]*)\)", text) for it in brackets.split(", ")
-            if re.match(r"\d", it)]
+    parts = [part for brackets in re.findall(r"\((\d[^()]*)\)", text) for part in brackets.split(", ")]
+    told = [re.match(r"\w+", part)[0] for part in parts if part[:1].isdigit()]
     assert {*told} <= {there[option] for option in options}, text
 
 
 def test_defaults_that_gateways_have_told() -> None:
     told = " ".join(text for _, text in rows_of_gateways())
-    assert re.findall(r"\((\d+s?)[,)]", told) == [of_gateway()[it] for it in ("delay", "lease", "grace", "replicas")]
+    names = "delay", "lease", "grace", "replicas"
+    assert re.findall(r"\((\d+s?)[,)]", told) == [of_gateway()[name] for name in names]
     assert f"`--timeout` ({of_gateway()['timeout']})" in page("redis/README.md")
 
 

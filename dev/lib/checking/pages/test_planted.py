@@ -12,7 +12,7 @@ from checking.pages.reading import TESTED
 from checking.pages.test_words import PAGES
 from common.program import TOP
 
-PROTOCOL, HISTORY, OPERATING = (f"docs/{it}.md" for it in ("PROTOCOL", "HISTORY", "OPERATING"))
+PROTOCOL, HISTORY, OPERATING = (f"docs/{name}.md" for name in ("PROTOCOL", "HISTORY", "OPERATING"))
 REDIS, JAVA, PYTHON = "redis/README.md", "clients/java/README.md", "clients/python/README.md"
 # The page, a text that stands there, what is planted in its place, and the test.
 PLANTED = [
@@ -80,7 +80,7 @@ def test_a_planted_fault(tmp_path: Path, name: str, old: str, new: str, test: st
 
 @pytest.mark.parametrize(("name", "old", "new"), LINKS)
 def test_a_planted_link(tmp_path: Path, name: str, old: str, new: str) -> None:
-    for it in (False, True):
-        plant(tmp_path, name, old, new if it else old)
+    for is_planted in (False, True):
+        plant(tmp_path, name, old, new if is_planted else old)
         faults = filter(None, links.find(tmp_path))
-        assert any(fault.startswith(f"{name}:") and new[1:-1] in fault for fault in faults) is it
+        assert any(fault.startswith(f"{name}:") and new[1:-1] in fault for fault in faults) is is_planted

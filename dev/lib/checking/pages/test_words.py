@@ -14,7 +14,7 @@ from common.program import TOP
 
 FOLDERS = ("*.md", "docs/*.md", "clients/*/README.md", "redis/README.md")
 PAGES = sorted(path.relative_to(TOP).as_posix() for folder in FOLDERS for path in Path(TOP).glob(folder))
-NOW = [it for it in PAGES if it not in ("CHANGELOG.md", "docs/DECISIONS.md")]  # which speak of what was, too
+NOW = [name for name in PAGES if name not in ("CHANGELOG.md", "docs/DECISIONS.md")]  # which speak of what was, too
 PATH = re.compile(r"(?<![\w/~.-])(?:\.\./)*"
                   r"((?:examples|tools|dev|crates|clients|redis|docs|bench|packaging)/[\w./-]*\w)")
 COMMAND = re.compile(r"(?:^|[\s(])((?:tools|dev)/[a-z_]+)((?: [^|;&\n#)]+)?)")
@@ -34,9 +34,9 @@ def spoken(name: str) -> str:
 @pytest.mark.parametrize("name", NOW)
 def test_each_file_is_there(name: str) -> None:
     """Below the top folder or beside the page. A name before a star or a brace is the beginning of one."""
-    for it in {*PATH.findall(spoken(name))} - MADE:
-        places = Path(TOP, it), Path(TOP, name).parent / it
-        assert any([*place.parent.glob(f"{place.name}*")] for place in places), it
+    for path in {*PATH.findall(spoken(name))} - MADE:
+        places = Path(TOP, path), Path(TOP, name).parent / path
+        assert any([*place.parent.glob(f"{place.name}*")] for place in places), path
 
 
 @cache
@@ -58,22 +58,22 @@ def test_each_option_of_a_tool_is_there(name: str) -> None:
 @pytest.mark.parametrize("name", NOW)
 def test_each_part_is_there(name: str) -> None:
     found = re.findall(r"dev/check((?: [a-z][a-z-]*)+)", spoken(name))
-    assert {it for words in found for it in words.split()} <= {*PARTS}
+    assert {word for words in found for word in words.split()} <= {*PARTS}
 
 
 def test_the_parts_in_the_table() -> None:
     """It has each part that is left out where something is missing."""
-    told = {it for row in tables(section("docs/TESTING.md", "The gate and the checks"))[1] for it in code(row[0])}
+    told = {part for row in tables(section("docs/TESTING.md", "The gate and the checks"))[1] for part in code(row[0])}
     assert {name for name, part in PARTS.items() if part.needs} <= told <= {*PARTS}
 
 
 @pytest.mark.parametrize(("folder", "kind"), [("clients/python", "py"), ("clients/java", "java")])
 def test_each_name_of_a_client_is_there(folder: str, kind: str) -> None:
     """Classes, such as `NotOfferedError`, and calls, such as `done()`, are in the package or its examples."""
-    files = [it for part in ("src", "examples") for it in Path(TOP, folder, part).rglob(f"*.{kind}")]
+    files = [file for part in ("src", "examples") for file in Path(TOP, folder, part).rglob(f"*.{kind}")]
     text, spoken_of = "\n".join(file.read_text("utf-8") for file in files), "\n".join(code(page(f"{folder}/README.md")))
     words = {*re.findall(r"\b(?:[A-Z][a-z]+){2,}\b", spoken_of)} | {*re.findall(r"(?<![\w.])(\w+)\(\)", spoken_of)}
-    assert not {it for it in words - OTHERS if not re.search(rf"\b{it}\b", text)}
+    assert not {word for word in words - OTHERS if not re.search(rf"\b{word}\b", text)}
 
 
 def test_pages_are_those_of_the_folder_that_is_tested() -> None:

@@ -23,6 +23,6 @@ def run(tmp_path: Path, program: str) -> Run:
         environment = {**os.environ, **{name: str(it) for name, it in settings.items()}}
         how = {"cwd": tmp_path, "env": environment, "capture_output": True, "timeout": PATIENCE}
         done = subprocess.run(words, input=given.encode(), check=False, **how)
-        return done.returncode, *(it.decode(errors="backslashreplace") for it in (done.stdout, done.stderr))
+        return done.returncode, *(text.decode(errors="backslashreplace") for text in (done.stdout, done.stderr))
 
     return ran

@@ -43,7 +43,7 @@ class Refused:
             return
         assert text.startswith(BEGINS)
         assert run("rb_broker replay f")[0] == 0, text
-        lost = [it for it in re.findall(r"^OFFERED (\d+)", self.replies, re.M) if f" offer {it} " not in text]
+        lost = [id for id in re.findall(r"^OFFERED (\d+)", self.replies, re.M) if f" offer {id} " not in text]
         assert not lost, text
 
 

@@ -38,4 +38,4 @@ def test_what_is_wrong_is_found(tmp_path: Path, program: str, monkeypatch: pytes
     ran = subprocess.run(words, capture_output=True, encoding="utf-8", check=False)
     failed = re.findall(r"^FAILED \S+?::(.*?)(?: - .*)?$", ran.stdout, re.M)
     assert len(failed) == len(WRONG), ran.stdout
-    assert all(any(it.startswith(test) for it in failed) for _, _, test in WRONG), failed
+    assert all(any(name.startswith(test) for name in failed) for _, _, test in WRONG), failed

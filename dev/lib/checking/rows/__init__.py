@@ -14,7 +14,7 @@ PROVED, UNPROVED = CRATE / "out/rb_cases", CRATE / "out/unproved"
 def rb_cases(room: str) -> Path:
     """The program that the gate left, or an earlier call of this. If there is none, or a source is newer, `rt try` makes
     one without proofs, which takes some minutes."""
-    newest = max(it.stat().st_mtime for it in (CRATE / "src").rglob("*.rt"))
+    newest = max(source.stat().st_mtime for source in (CRATE / "src").rglob("*.rt"))
     for path in (PROVED, UNPROVED):
         if os.access(path, os.X_OK) and path.stat().st_mtime > newest:
             return path

@@ -16,15 +16,15 @@ SILENT = 500_000_000  # nanoseconds
 
 def ended(status: int, *lines: str, **counts: int) -> Ended:
     """The end of a worker with these lines before its counts, of which the others are 0, and no error."""
-    told = ", ".join(f"{it} {counts.get(it, 0)}" for it in ("done", "again", "dead", "lost", "unheard"))
+    told = ", ".join(f"{name} {counts.get(name, 0)}" for name in ("done", "again", "dead", "lost", "unheard"))
     return Ended(status, [*lines, told], "")
 
 
 def say(server: Server, *requests: str) -> None:
     """A session of its own that sends these, and reads to the end."""
-    with Session(server.port) as it:
-        it.send(*requests, "QUIT")
-        it.rest()
+    with Session(server.port) as session:
+        session.send(*requests, "QUIT")
+        session.rest()
 
 
 class WorkerTest(ServingTest):
@@ -66,7 +66,7 @@ class WorkerTest(ServingTest):
         with Session(behind_others.port) as silent:
             silent.ask("SIZE")
             self.expect_stop_within(behind_others)
-        self.assertEqual([it.end().status for it in (with_a_job, idle, behind_others)], [0, 0, 0])
+        self.assertEqual([worker.end().status for worker in (with_a_job, idle, behind_others)], [0, 0, 0])
 
     def test_it_ends_without_a_server_that_serves_it(self) -> None:
         unserved = "worker.pl: no server at port {port} has served it for 1 s\n"
