@@ -1,19 +1,18 @@
 """What tests of several tools need: a folder of their own, and a tool as a command or within this process."""
-import functools
+import importlib
 import io
 import os
 import subprocess
 import sys
 import tempfile
 import unittest
-from importlib.machinery import SourceFileLoader
 from pathlib import Path
-from types import ModuleType
 from unittest import mock
 
 from common.program import TOP
 
 PATIENCE = 600  # seconds after which a command has failed
+FOLDERS = {"report": "reporting", "load": "loading"}  # of the tools that are run within this process
 
 
 class RoomTest(unittest.TestCase):
@@ -46,22 +45,13 @@ def run_tool(name: str, *words: object, given: str = "") -> subprocess.Completed
                           timeout=PATIENCE, check=False)
 
 
-@functools.lru_cache(None)
-def module_of(name: str, folder: str = "tools") -> ModuleType:
-    """A tool, or another command, as a module."""
-    loader = SourceFileLoader(f"{name}_command", f"{TOP}/{folder}/{name}")
-    module = ModuleType(loader.name)
-    sys.modules[loader.name] = module  # where dataclasses look for it
-    loader.exec_module(module)
-    return module
-
-
 def call_tool(name: str, *words: str) -> tuple[int, bytes, str]:
     """Runs a tool within this process, which is quicker: its status, what it writes, and standard error."""
+    main = importlib.import_module(f"{FOLDERS[name]}.command").main
     streams = [io.TextIOWrapper(io.BytesIO(), "utf-8", write_through=True) for _ in range(2)]
     with mock.patch.multiple(sys, argv=[name, *words], stdout=streams[0], stderr=streams[1]):
         try:
-            status = module_of(name).main()
+            status = main()
         except SystemExit as end:
             status = end.code
     written, errors = (stream.detach().getvalue() for stream in streams)

@@ -8,8 +8,9 @@ from typing import Sequence
 
 import pytest
 
+import attacking
 from checking.parts import PARTS, packages_of
-from checking.testing import PATIENCE, module_of
+from checking.testing import PATIENCE
 from common.program import TOP
 
 PACKAGES = packages_of(PARTS)
@@ -84,9 +85,8 @@ def test_the_tests_of_a_part_are_there(name: str) -> None:
 
 
 def test_each_attack_is_in_one_tenth() -> None:
-    attack = module_of("attack", "dev")
-    tenths = [attack.tenth_of([*attack.USES], number) for number in range(10)]
+    tenths = [attacking.tenth_of([*attacking.USES], number) for number in range(10)]
     tried = [(crate, edit) for tenth in tenths for crate, edits in tenth.items() for edit in edits]
-    assert sorted(tried) == sorted((crate, edit) for crate in attack.USES for edit in attack.edits_of(crate))
+    assert sorted(tried) == sorted((crate, edit) for crate in attacking.USES for edit in attacking.edits_of(crate))
     sizes = [sum(map(len, tenth.values())) for tenth in tenths]
     assert max(sizes) - min(sizes) <= 1

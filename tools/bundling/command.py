@@ -1,0 +1,32 @@
+"""Makes a Debian package of rb_broker: tools/package [--program PATH] [--output FOLDER], from any folder.
+
+The package contains the program, manual pages, a systemd unit for a service at each port, the tools, the examples,
+the Python packages of clients and of gateways to Redis, and the documents for users. Its sources are in packaging/. The
+program is packed byte for byte as it is; without --program, ./broker first builds it if it has to. The version is the
+repository's: that of its tag, or else the time and the name of the last commit. The same files make the same package.
+
+It needs git and debhelper, and no network. Printed is the path of the package.
+
+Exit status: 0 if the package was made, 2 if it was not; one line on standard error then says why.
+"""
+import sys
+from pathlib import Path
+
+from common.program import built_program
+from common.words import parser_of
+from bundling import Fault
+from bundling.debian import make_package
+
+
+def main() -> int:
+    parser = parser_of("tools/package", __doc__)
+    parser.add_argument("--program", metavar="PATH", help="the program to pack (default: that of ./broker)")
+    parser.add_argument("--output", metavar="FOLDER", default=".", type=Path,
+                        help="where the package goes (default: this folder)")
+    given = parser.parse_args()
+    try:
+        print(make_package(Path(built_program(given.program)), given.output))
+        return 0
+    except (Fault, OSError) as fault:
+        print(f"package: {fault}", file=sys.stderr)
+        return 2

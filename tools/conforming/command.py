@@ -1,0 +1,90 @@
+"""Runs case files against a program that speaks the protocol: tools/conform [OPTION ..] [FILE ..] [PROGRAM ..]
+
+FILE .. are case files, whose names end in .case; without one, all of crates/rb_cases/data. PROGRAM .. is a command, to
+which the words of docs/PROTOCOL.md are appended: `PROGRAM script ..`, `PROGRAM replay ..`. All words behind its first
+are its own. Without one, this repository's own program is tested with its four timers. It is built first if it has to
+be, but no case has to be compiled.
+
+A case gives the words, the input, the replies, the history and the end of a run. How a run ends is its exit status
+and, after a fault, the line on standard error, which may begin with any name. With each timer a script is run three
+times: its input is sent whole, byte by byte, and seven bytes at a time; an input of more than 64 KiB is sent whole,
+and 4,095 bytes at a time. A case passes if all its runs do. The gate runs the same cases in memory, and
+crates/rb_cases/src/case.rt describes how one is written.
+
+A few cases need something that a command can't be given, such as a flush that fails. They are skipped. So is a
+case for a single timer, unless the timers are tried, since other programs may give elements of equal expiry in any
+order.
+
+Printed are a line for each case that fails, with the first difference; a line for each case that is skipped, with the
+reason; and finally `N passed, M failed, K skipped`.
+
+Exit status: 0 if M is 0, 1 if it is not, and 2 if an argument is wrong, a file is malformed, which a line tells with
+its number, no case is chosen, or the program can't be run.
+"""
+import argparse
+import collections
+import os
+import shutil
+import sys
+from concurrent.futures import ThreadPoolExecutor
+from itertools import takewhile
+from pathlib import Path
+
+from common.program import TOP, built_program
+from common.words import exit_status, parser_of
+from conforming.cases import TIMERS, Case, Malformed, read_cases
+from conforming.comparing import difference, reason_to_skip
+from conforming.program import Program
+
+CASES = Path(TOP, "crates/rb_cases/data")
+
+
+def judge(program: Program, case: Case, timers: list[str]) -> tuple[str, str | None]:
+    """What to count for the case, and what to print about it, if anything."""
+    if reason := reason_to_skip(case, timers):
+        return "skipped", f"skipped: {reason}"
+    differs = difference(program, case, timers)
+    return "failed" if differs else "passed", differs
+
+
+def conform(program: Program, cases: list[Case], timers: list[str]) -> int:
+    """Runs the cases, and prints the results. Returns the exit status."""
+    counts: collections.Counter[str] = collections.Counter()
+    with ThreadPoolExecutor(os.cpu_count()) as pool:
+        runs = [pool.submit(judge, program, case, timers) for case in cases]
+        try:
+            for case, run in zip(cases, runs):
+                kind, told = run.result()
+                counts[kind] += 1
+                if told:
+                    print(f"{case.file}:{case.line}: {case.name}: {told}", flush=True)
+        finally:
+            pool.shutdown(cancel_futures=True)
+    print(", ".join(f"{counts[kind]} {kind}" for kind in ("passed", "failed", "skipped")))
+    return 1 if counts["failed"] else 0
+
+
+def main() -> int:
+    parser = parser_of("tools/conform", __doc__, "%(prog)s [OPTION ..] [FILE ..] [PROGRAM ..]")
+    parser.add_argument("words", nargs=argparse.REMAINDER, metavar="FILE .. PROGRAM ..", help="files, then the command")
+    parser.add_argument("--timers", action="store_true", help="runs each script with each of `--timer` "
+                        f"{', '.join(TIMERS)} (default: only this repository's program)")
+    parser.add_argument("--only", default="", metavar="WORD", help="only cases that have this in their name or their "
+                        "file's")
+    given = parser.parse_args()
+    files = [*takewhile(lambda word: word.endswith(".case"), given.words)]
+    command = given.words[len(files):]
+    if command and not shutil.which(command[0]):
+        parser.error(f"there is no program {command[0]}")
+    try:
+        cases = [case for path in files or sorted(CASES.glob("*.case")) for case in read_cases(str(path))
+                 if given.only in case.name or given.only in case.file]
+    except (Malformed, OSError) as fault:
+        says = f"{fault.filename}: {fault.strerror}" if isinstance(fault, OSError) else fault
+        print(says, file=sys.stderr)
+        return 2
+    if not cases:
+        parser.error(f"no case has {given.only!r} in its name")
+    program = Program(command or [built_program()])
+    timers = [] if command and not given.timers else [*TIMERS]
+    return exit_status("conform", lambda: conform(program, cases, timers))
