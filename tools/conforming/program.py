@@ -79,6 +79,7 @@ class Program:
             yield b"".join(lines[replies:])
 
         with self._started(words, Input(halves())) as process:
+            assert process.stdout and process.stderr
             output = b"".join(process.stdout.readline() for _ in range(replies))
             with STARTING:
                 process.stdout.close()

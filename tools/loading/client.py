@@ -87,7 +87,8 @@ class Client:
 
     def _offer(self, number: int) -> None:
         before = time.monotonic_ns()
-        offered = self.broker.offer(f"load-{self.number}-{number}", delay=Fraction(self.plan.delay, SECOND))
+        delay = Fraction(self.plan.delay, SECOND)  # which is exact, as no float is
+        offered = self.broker.offer(f"load-{self.number}-{number}", delay=delay)  # type: ignore[arg-type]
         self.counts.add_offer(offered.expires_at_ns - self.plan.delay, before, time.monotonic_ns())
 
     def _take(self, timeout: float) -> None:

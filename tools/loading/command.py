@@ -23,13 +23,14 @@ import signal
 import sys
 import threading
 import time
-from contextlib import nullcontext
+from contextlib import ExitStack
 from typing import TextIO
 
 from common.words import give_up_output, number, parser_of, span
-from loading.client import SECOND, Client, Plan
+from loading.client import Client, Plan
 from loading.counts import summary, total
 from rb_broker_client import Broker
+from rb_broker_formats.durations import SECOND
 
 CONNECTING = 5  # seconds in which a connection has to be made
 
@@ -44,7 +45,8 @@ def connected(port: int, record: TextIO | None) -> Broker:
 
 def run(given: argparse.Namespace) -> int:
     """Runs the clients, prints the summary, and returns the status."""
-    with open(given.record, "w", encoding="ascii") if given.record else nullcontext() as record:
+    with ExitStack() as last:
+        record = last.enter_context(open(given.record, "w", encoding="ascii")) if given.record else None
         brokers = [connected(given.port, record) for _ in range(given.clients)]
         begin = time.monotonic_ns()
         plan = Plan(begin, begin + int(given.seconds * SECOND), given.clients, given.rate, given.delay, given.fail)

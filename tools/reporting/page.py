@@ -84,7 +84,7 @@ def _plot(plot: Plot) -> str:
 
 def _table(told: Table) -> str:
     """A section with a table. Each job leads to its life."""
-    rows: Iterable[Sequence[str]] = ([*map(escape, row)] for row in told.rows)
+    rows: Iterable[Sequence[str]] = ([escape(cell) for cell in row] for row in told.rows)
     if told.is_of_jobs:
         rows = ([_link(origin), f"<code>{payload}</code>", *others] for origin, payload, *others in rows)
     cells = grid(told.heading, rows, f' class="words-{told.left}"') if told.rows else ""

@@ -96,7 +96,7 @@ class Settings:
     keep: Keep = _option("how many old runs are kept, or for how long", _keep, "7d", "N|TIME")
     http: tuple[str, int] | None = _option(
         "serves a page, /metrics and /health there (nowhere)", _address, None, "HOST:PORT")
-    allow_changes: bool = field(metadata={
+    allow_changes: bool = field(default=False, metadata={
         "help": "lets whoever sees the page end the run there", "action": "store_true"})
 
     @property

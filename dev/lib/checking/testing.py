@@ -48,11 +48,11 @@ def run_tool(name: str, *words: object, given: str = "") -> subprocess.Completed
 def call_tool(name: str, *words: str) -> tuple[int, bytes, str]:
     """Runs a tool within this process, which is quicker: its status, what it writes, and standard error."""
     main = importlib.import_module(f"{FOLDERS[name]}.command").main
-    streams = [io.TextIOWrapper(io.BytesIO(), "utf-8", write_through=True) for _ in range(2)]
+    written, errors = io.BytesIO(), io.BytesIO()
+    streams = [io.TextIOWrapper(stream, "utf-8", write_through=True) for stream in (written, errors)]
     with mock.patch.multiple(sys, argv=[name, *words], stdout=streams[0], stderr=streams[1]):
         try:
             status = main()
         except SystemExit as end:
             status = end.code
-    written, errors = (stream.detach().getvalue() for stream in streams)
-    return status, written, errors.decode()
+    return status, written.getvalue(), errors.getvalue().decode()

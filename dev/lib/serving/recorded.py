@@ -24,7 +24,8 @@ class RecordedSession(Session):
 
     def exchange(self, *requests: str) -> list[list[str]]:
         """Sends requests in one piece. Returns the lines of each reply."""
-        sent, replies = time.monotonic_ns(), []
+        sent = time.monotonic_ns()
+        replies: list[list[str]] = []
         for request in requests:
             try:
                 if not replies:

@@ -72,6 +72,7 @@ class Server:
 
     def _first_line(self) -> str:
         """Its first line, and no byte behind that, since `communicate` leaves out what was read before."""
+        assert self.process.stdout
         said = b""
         while not said.endswith(b"\n") and (byte := os.read(self.process.stdout.fileno(), 1)):
             said += byte
@@ -85,6 +86,7 @@ class Server:
 
     def drain(self) -> None:
         """Tells one that is attended to end once no session holds a job, and waits for that."""
+        assert self.process.stdin
         self.process.stdin.write("drain\n")
         self.process.stdin.flush()
         with contextlib.suppress(subprocess.TimeoutExpired):

@@ -18,7 +18,8 @@ class Terminal(io.TextIOWrapper):
     @property
     def told(self) -> str:
         """What was written."""
-        return self.buffer.getvalue().decode()  # type: ignore[attr-defined]
+        written: bytes = self.buffer.getvalue()  # type: ignore[attr-defined]
+        return written.decode()
 
 
 @contextmanager

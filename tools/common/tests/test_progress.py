@@ -9,7 +9,7 @@ from common.progress import ERASE, Progress
 from common.tests.support import Terminal, long_work_at_terminal
 
 # What work says that says something after each of so many seconds, and what it writes at a terminal of 20 columns.
-SAID = [
+SAID: list[tuple[list[str], list[float], list[str]]] = [
     (["counting"], [1.9, 1.9], []), (["counting"] * 3, [1.9, 2.0, 2.1, 2.1], ["counting", "counting", ""]),
     ([30 * "a"], [2.0, 2.0], [19 * "a", ""]),
 ]

@@ -8,10 +8,13 @@ import re
 import signal
 import subprocess
 import sys
+from collections.abc import Callable
 from pathlib import Path
 
+Change = Callable[[bytes], bytes]
+
 # What becomes of a line of standard output.
-LINES = {
+LINES: dict[str, Change] = {
     "a wait ends with NONE": lambda line: line.replace(b"STOPPED", b"NONE"),
     "attempts are not counted": lambda line: re.sub(rb"^(ITEM \d+ \d+) \d+ ", rb"\1 1 ", line),
     "lines end with CR LF": lambda line: line.replace(b"\n", b"\r\n"),
@@ -21,7 +24,8 @@ LINES = {
 }
 
 # What becomes of the history.
-HISTORIES = {"the history is empty": lambda text: b"", "a history has no end": lambda text: text[:-1]}
+HISTORIES: dict[str, Change] = {
+    "the history is empty": lambda text: b"", "a history has no end": lambda text: text[:-1]}
 
 
 def main() -> int:
@@ -29,6 +33,7 @@ def main() -> int:
     flaw, *command = sys.argv[1:]
     errors = subprocess.DEVNULL if flaw == "the fault is not told" else None
     process = subprocess.Popen(command, stdout=subprocess.PIPE, stderr=errors)
+    assert process.stdout
     change = LINES.get(flaw, lambda line: line)
     try:
         for line in process.stdout:  # each as it comes

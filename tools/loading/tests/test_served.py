@@ -3,6 +3,7 @@ import collections
 import json
 import re
 import time
+from collections.abc import Callable
 
 from checking.testing import run_tool
 from serving.server import Server
@@ -10,7 +11,7 @@ from serving.testing import ServingTest
 from verifying.record import read_record
 
 # The options of a server and of a load, the load's status, a part of what it prints, and what its counts are.
-LOADS = (
+LOADS: tuple[tuple[str, str, int, str, Callable[[dict[str, int]], bool]], ...] = (
     ("--workers 4 --sessions 4 --calls 100000",
      "--clients 4 --rate 200 --delay 1ms --fail 0.3 --seconds 2", 0, r"\nerrors 0\Z",
      lambda counts: 0 < counts["offered"] <= counts["of"] == 400 and 0.15 < counts["failed"] / counts["taken"] < 0.45),
@@ -56,7 +57,7 @@ class ServedTest(ServingTest):
         wanted = {"calls": counts["calls"], "cleared": 0, "given": counts["taken"], "offered": offered, "opening": 0}
         self.assertEqual(json.loads(lines[1]), {**wanted, "left": offered - counts["taken"], "removed": 0})
 
-    def test_what_a_load_counts(self):
+    def test_what_a_load_counts(self) -> None:
         for options, words, status, says, holds in LOADS:
             with self.subTest(words):
                 server, lines, counts = self.loaded(options, words, status)
@@ -70,7 +71,7 @@ class ServedTest(ServingTest):
                 self.assertEqual(counts["failed"], counts["again"] + counts["dead"])
                 self.expect_audit(server, counts, int(options.split()[3]))
 
-    def test_a_record_has_every_request(self):
+    def test_a_record_has_every_request(self) -> None:
         path = self.path("load.jsonl")
         before = time.monotonic_ns()
         server, _, counts = self.loaded("--workers 2 --sessions 2",

@@ -28,16 +28,17 @@ class StrangeServerTest(RoomTest):
                 connection.close()
 
         threading.Thread(target=serve, daemon=True).start()
-        return listener.getsockname()[1]
+        port: int = listener.getsockname()[1]
+        return port
 
-    def test_a_port_with_nobody(self):
+    def test_a_port_with_nobody(self) -> None:
         with socket.create_server(("127.0.0.1", 0)) as listener:
             port = listener.getsockname()[1]
         status, lines, errors = load("--port", port, "--seconds", 1)
         told = f"load: no connection to 127.0.0.1:{port}: [Errno 111] Connection refused\n"
         self.assertEqual((status, lines, errors), (1, [], told))
 
-    def test_servers_that_are_no_broker(self):
+    def test_servers_that_are_no_broker(self) -> None:
         for answer, told in [
             (b"HTTP/1.1 400 Bad Request\r\n", "errors 1: 1 of 'HTTP/1.1 400 Bad Request\\r' is no reply"),
             (b"ERR 1 syntax\nOFFERED soon\n", "errors 1: 1 of 'OFFERED soon' is no reply"),
@@ -51,7 +52,7 @@ class StrangeServerTest(RoomTest):
                 self.assertEqual((status, errors), (1, ""))
                 self.assertEqual(lines[-1], told)
 
-    def test_a_record_of_a_request_without_a_reply(self):
+    def test_a_record_of_a_request_without_a_reply(self) -> None:
         path = self.path("load.jsonl")
         load("--port", self.listen(None), "--clients", 1, "--seconds", 0.2, "--record", path)
         with open(path, encoding="ascii") as file:
@@ -59,12 +60,12 @@ class StrangeServerTest(RoomTest):
         told = [(line["request"], line["received"], line["reply"]) for line in told]
         self.assertEqual(told, [("AT 0", None, [])])
 
-    def test_a_record_that_can_not_be_written(self):
+    def test_a_record_that_can_not_be_written(self) -> None:
         status, lines, errors = load("--port", self.listen(None), "--record", self.path("none/load.jsonl"))
         self.assertEqual((status, lines), (1, []))
         self.assertRegex(errors, r"^load: .*No such file or directory.*\n$")
 
-    def test_words_that_are_refused(self):
+    def test_words_that_are_refused(self) -> None:
         for words in ("", "--port 0", "--port 65536", "--port x", "--port 1 --clients 0", "--port 1 --rate 0",
                       "--port 1 --rate nan", "--port 1 --delay 5", "--port 1 --delay -1s",
                       f"--port 1 --delay {2**64}ns", "--port 1 --fail 1.5", "--port 1 --seconds 0", "--port 1 more"):

@@ -111,7 +111,8 @@ class Browser:
             if message.get("id") == number:
                 if "error" in message:
                     raise AssertionError(f"{method}: {message['error']}")
-                return message["result"]
+                result: dict[str, Any] = message["result"]
+                return result
             self._take(message)
 
     def _take(self, message: dict[str, Any]) -> None:
@@ -129,4 +130,5 @@ class Browser:
                 raise AssertionError("the browser has gone")
             self._rest += some
         text, _, self._rest = self._rest.partition(b"\0")
-        return json.loads(text)
+        message: dict[str, Any] = json.loads(text)
+        return message

@@ -79,12 +79,13 @@ class ReportPageTest(PageTest):
 
     def place(self, selector: str) -> list[float]:
         """Left, top, width and height of what a selector names, once it is in sight."""
-        return self.browser.value(f"""(() => {{
+        place: list[float] = self.browser.value(f"""(() => {{
             const it = document.querySelector('{selector}');
             it.scrollIntoView({{ block: "center" }});
             const {{ left, top, width, height }} = it.getBoundingClientRect();
             return [left, top, width, height];
         }})()""")
+        return place
 
 
 def counts(lines: Sequence[str]) -> list[int]:

@@ -19,7 +19,8 @@ class FiguresTest(unittest.TestCase):
             (text_of(*leaving), [0, 0, 0, 0, 5, 6, 6, 7, 7], [0, 1, 2, 3, 3, 2, 1, 1, 0], [0, 0, 0, 0, 1, 0, 0, 1, 0]),
         ):
             depth = depth_of(read(text))
-            self.assertEqual([*map(list, (depth.moments, depth.standing, depth.expired))], [moments, standing, expired])
+            told = [[*column] for column in (depth.moments, depth.standing, depth.expired)]
+            self.assertEqual(told, [moments, standing, expired])
 
     def test_lateness(self) -> None:
         lateness = figures(RUN).lateness

@@ -29,15 +29,17 @@ class Case(NamedTuple):
 
     def fits(self, found: dict[str, int]) -> bool:
         """Whether these are the faults of each kind."""
-        words = [word for word in self.kinds.split() if word[0].isalpha()]
-        kinds = dict(re.fullmatch(r"(\w+)(?:\*(\d*))?", word).groups("1") for word in words)
+        words = (word.partition("*") for word in self.kinds.split() if word[0].isalpha())
+        kinds = {kind: count if times else "1" for kind, times, count in words}
         kinds.pop("none", None)
         is_all = found.keys() == kinds.keys() if ".." not in self.kinds else found and found.keys() >= kinds.keys()
         return bool(is_all) and all(int(count or found[kind]) == found[kind] for kind, count in kinds.items())
 
 
 def cases() -> Iterator[Case]:
-    name, run, changes, is_run, is_told = "", [], [], False, False
+    name, is_run, is_told = "", False, False
+    run: list[str] = []
+    changes: list[str] = []
     for line in RUNS.splitlines():
         word, _, rest = line.partition(" ")
         if word in ("run", "case"):

@@ -21,7 +21,7 @@ def test_clients_of_the_load(serve: Serve, tmp_path: Path, timer: str) -> None:
     """Another run has not what they recorded."""
     server = serve("--timer", timer, "--history", tmp_path / "run", "--workers", 8, "--sessions", 8,
                    "--calls", 100_000, "--delay", 1_000_000)
-    records = [tmp_path / f"{number}.jsonl" for number in range(2)]
+    records = [str(tmp_path / f"{number}.jsonl") for number in range(2)]
     words = ["--port", str(server.port), "--clients", "4", "--rate", "400", "--fail", "0.3", "--seconds", "1"]
     commands = [[*tool("load"), *words, "--record", record] for record in records]
     loads = [subprocess.Popen(command, stdout=subprocess.DEVNULL) for command in commands]

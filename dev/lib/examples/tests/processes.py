@@ -21,6 +21,7 @@ class Worker:
 
     def line(self) -> str:
         """Its next line."""
+        assert self.process.stdout
         return self.process.stdout.readline().rstrip("\n")
 
     def lines(self, count: int) -> list[str]:
