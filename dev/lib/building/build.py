@@ -87,8 +87,9 @@ class Build:
         # the system weighs niceness within a session alone. There are no threads here, so prepare is safe.
         words = ["rt", "run", "--", "--help"] if crate == self._program else ["rt", "lib"]
         folder, file = self._rooms.enter(crate), tempfile.TemporaryFile()
-        how = {"stdin": subprocess.DEVNULL, "stdout": file, "stderr": subprocess.STDOUT, "preexec_fn": prepare}
-        return Running(crate, subprocess.Popen(words, cwd=folder, **how), file)
+        process = subprocess.Popen(words, cwd=folder, stdin=subprocess.DEVNULL, stdout=file, stderr=subprocess.STDOUT,
+                                   preexec_fn=prepare)
+        return Running(crate, process, file)
 
     def _end(self, ended: Running) -> None:
         self._running.remove(ended)

@@ -33,9 +33,10 @@ def try_parts(names: Iterable[str], words: Sequence[str] = ()) -> Iterator[Ended
     alone. Prints a line for each and gives how it ended."""
 
     def tried(name: str) -> Ended:
-        began, how = time.monotonic(), {"stdout": subprocess.PIPE, "stderr": subprocess.STDOUT}
+        began = time.monotonic()
         command = [sys.executable, "-B", f"{TOP}/dev/check", name, *words]
-        ran = subprocess.run(command, text=True, errors="replace", check=False, **how)
+        ran = subprocess.run(command, stdout=subprocess.PIPE, stderr=subprocess.STDOUT, text=True, errors="replace",
+                             check=False)
         return Ended(name, ran.returncode, ran.stdout.strip(), time.monotonic() - began)
 
     names = [*names]

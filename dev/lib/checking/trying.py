@@ -16,8 +16,9 @@ def built(folder: str, room: str, *words: str) -> str:
     inside, kept = f"{room}/try", f"{room}/program"
     os.mkdir(inside)
     with open(f"{room}/said", "w+b") as said:
-        how = {"stdin": subprocess.DEVNULL, "stdout": said, "stderr": said, "env": {**os.environ, "TMPDIR": inside}}
-        with subprocess.Popen(["rt", "try", *words], cwd=folder, **how) as trying:
+        environment = {**os.environ, "TMPDIR": inside}
+        with subprocess.Popen(["rt", "try", *words], cwd=folder, env=environment, stdin=subprocess.DEVNULL, stdout=said,
+                              stderr=said) as trying:
             while trying.poll() is None:
                 for path in glob.glob(f"{inside}/*/*/program"):
                     if not os.path.exists(kept):

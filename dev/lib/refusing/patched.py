@@ -17,6 +17,7 @@ import threading
 from dataclasses import dataclass
 from functools import cached_property
 from pathlib import Path
+from typing import Any
 from queue import SimpleQueue
 
 from building.crates import copy_crates
@@ -126,11 +127,12 @@ class CrateTests:
             self.free.put(program)
 
     def ran(self, program: Path, test: str) -> Ran:
-        how = {"cwd": self.room, "env": {**os.environ, "ASAN_OPTIONS": COUNTING}, "timeout": PATIENCE, "check": False}
-        streams = {"stdin": subprocess.DEVNULL, "stdout": subprocess.PIPE, "stderr": subprocess.STDOUT}
+        environment = {**os.environ, "ASAN_OPTIONS": COUNTING}
+        how: dict[str, Any] = {"cwd": self.room, "env": environment, "timeout": PATIENCE, "check": False}
+        how |= {"stdin": subprocess.DEVNULL, "stdout": subprocess.PIPE, "stderr": subprocess.STDOUT}
         while True:
             try:
-                ran = subprocess.run([program, test], **how, **streams)
+                ran = subprocess.run([str(program), test], **how)
                 return Ran(ran.returncode, ran.stdout.decode(errors="replace"))
             except subprocess.TimeoutExpired:
                 return Ran(None, "")

@@ -48,7 +48,8 @@ class CheckoutTest(RoomTest):
         self.environment = {**os.environ, "STAND_IN": str(self.stand_in), "PATH": path}
         self.addCleanup(self.kill)
         # Under nohup or in the background of a shell they are ignored, and builds that are started then do so too.
-        for number, action in ((signal.SIGHUP, signal.SIG_DFL), (signal.SIGINT, signal.default_int_handler)):
+        handlers: dict[int, Any] = {signal.SIGHUP: signal.SIG_DFL, signal.SIGINT: signal.default_int_handler}
+        for number, action in handlers.items():
             self.addCleanup(signal.signal, number, signal.signal(number, action))
 
     def tearDown(self) -> None:
@@ -70,7 +71,7 @@ class CheckoutTest(RoomTest):
         """Starts ./broker in a session of its own, by a command that may have words before it, and with these settings
         instead of those of the tests."""
         pipe = subprocess.PIPE
-        how = {"env": settings or self.environment, "text": True, "start_new_session": True}
+        how: dict[str, Any] = {"env": settings or self.environment, "text": True, "start_new_session": True}
         return subprocess.Popen([*before, f"{self.top}/broker", *words], stdin=pipe, stdout=pipe, stderr=pipe, **how)
 
     def build(self, *words: str, told: str = "", **how: Any) -> tuple[int, str, str]:

@@ -23,7 +23,7 @@ def run(tmp_path: Path, program: str) -> Run:
     def ran(line: str, given: str = "") -> Ended:
         line = line.replace("./broker ", "rb_broker ").replace("tools/", f"{sys.executable} -B {TOP}/tools/")
         words = ["sh", "-c", f'program="{program}"; rb_broker() {{ "$program" "$@"; }}\n{line}']
-        how = {"cwd": tmp_path, "input": given, "capture_output": True, "timeout": PATIENCE, "encoding": "utf-8"}
-        return subprocess.run(words, check=False, **how)
+        return subprocess.run(words, cwd=tmp_path, input=given, capture_output=True, timeout=PATIENCE, encoding="utf-8",
+                              check=False)
 
     return ran

@@ -2,7 +2,7 @@
 import os
 import subprocess
 from pathlib import Path
-from typing import Callable
+from typing import Any, Callable
 
 import pytest
 
@@ -21,8 +21,9 @@ def run(tmp_path: Path, program: str) -> Run:
     def ran(line: str, given: str = "", **settings: object) -> Ended:
         words = ["sh", "-c", line.replace("rb_broker", '"$0"'), program]
         environment = {**os.environ, **{name: str(it) for name, it in settings.items()}}
-        how = {"cwd": tmp_path, "env": environment, "capture_output": True, "timeout": PATIENCE}
+        how: dict[str, Any] = {"cwd": tmp_path, "env": environment, "capture_output": True, "timeout": PATIENCE}
         done = subprocess.run(words, input=given.encode(), check=False, **how)
-        return done.returncode, *(text.decode(errors="backslashreplace") for text in (done.stdout, done.stderr))
+        said, errors = (text.decode(errors="backslashreplace") for text in (done.stdout, done.stderr))
+        return done.returncode, said, errors
 
     return ran

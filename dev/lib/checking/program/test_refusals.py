@@ -94,9 +94,10 @@ def test_refused_calls(
         file.write_text(BEFORE, "ascii")
         told, tell = os.pipe()
         refusing = {"LD_PRELOAD": str(library), "RB_REFUSED": str(number), "RB_TOLD": str(tell)}
-        pipe, how = subprocess.PIPE, {"cwd": tmp_path, "env": {**os.environ, **refusing}, "pass_fds": [tell]}
+        pipe, environment = subprocess.PIPE, {**os.environ, **refusing}
         command = [program, *words.format(port=port).split()]
-        process = subprocess.Popen(command, stdin=pipe, stdout=pipe, stderr=pipe, **how)
+        process = subprocess.Popen(command, stdin=pipe, stdout=pipe, stderr=pipe, cwd=tmp_path, env=environment,
+                                   pass_fds=[tell])
         os.close(tell)
         with os.fdopen(told, "rb") as reading, process:
             replies = visit(process, port)

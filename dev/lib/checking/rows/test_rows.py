@@ -30,8 +30,8 @@ def reads(tmp_path_factory: pytest.TempPathFactory) -> Reads:
 
     def read(text: str) -> subprocess.CompletedProcess[str]:
         (room / "tried.rows").write_text(text, "utf-8")
-        how = {"cwd": room, "capture_output": True, "encoding": "utf-8", "timeout": PATIENCE, "check": False}
-        return subprocess.run([program, "tried.rows"], **how)
+        return subprocess.run([program, "tried.rows"], cwd=room, capture_output=True, encoding="utf-8",
+                              timeout=PATIENCE, check=False)
 
     return read
 

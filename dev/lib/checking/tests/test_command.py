@@ -8,6 +8,7 @@ import time
 from pathlib import Path
 
 import pytest
+from typing import Any
 
 from checking.testing import PATIENCE
 from common.program import TOP
@@ -17,7 +18,7 @@ CHECK = [sys.executable, "-B", f"{TOP}/dev/check"]
 
 def check(room: Path, *words: str, **settings: str) -> subprocess.CompletedProcess[str]:
     environment = {**os.environ, "TMPDIR": str(room), **settings}
-    how = {"capture_output": True, "text": True, "timeout": PATIENCE, "env": environment}
+    how: dict[str, Any] = {"capture_output": True, "text": True, "timeout": PATIENCE, "env": environment}
     return subprocess.run([*CHECK, *words], check=False, **how)
 
 
