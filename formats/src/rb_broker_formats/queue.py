@@ -75,9 +75,9 @@ class FollowedQueue:
         elif act == "remove" and event["remove"] == b"yes":
             self._leave(event["removed"])
         elif act == "clear":
-            self.elements.clear()
-        elif act == "size" and int(event["size"]) != len(self.elements):
-            raise Wrong(f"the queue holds {len(self.elements)}")
+            self._clear()
+        elif act == "size":
+            self._test_size(int(event["size"]))
         self._test_none(event)
 
     def opening(self) -> Iterator[bytes]:
@@ -94,6 +94,15 @@ class FollowedQueue:
             raise Wrong(f"its id is not the next one, {self.next_id}")
         self.elements[self.next_id] = self.offered = words
         self.next_id += 1
+
+    # What follows is for other queues to do in another way.
+
+    def _clear(self) -> None:
+        self.elements.clear()
+
+    def _test_size(self, size: int) -> None:
+        if size != len(self.elements):
+            raise Wrong(f"the queue holds {len(self.elements)}")
 
     def _test_none(self, event: Match[bytes]) -> None:
         """Tests an event for what it did not find."""
