@@ -53,6 +53,25 @@ def tenth_of(crates: Sequence[str], number: int) -> Chosen:
     return chosen
 
 
+def edited(crate: Path, edit: Path) -> dict[Path, str]:
+    """The files that an edit changes of a crate, with their texts then. Raises a `ValueError` if an old text does not
+    stand there once: the prover would never see the edit."""
+    texts: dict[Path, str] = {}
+    file, old = crate, ""
+    for line in edit.read_text("utf-8").splitlines():
+        word, _, text = line.partition(": ")
+        if word == "file":
+            file = crate / text
+            texts.setdefault(file, file.read_text("utf-8"))
+        elif word == "old":
+            old = text
+        elif word == "new":
+            if texts[file].count(old) != 1:
+                raise ValueError(f"{edit.name}: {old!r} stands {texts[file].count(old)} times in {file.name}")
+            texts[file] = texts[file].replace(old, text)
+    return texts
+
+
 def copy_to(room: Path, chosen: Chosen) -> None:
     """Copies what is proved, with these attacks as must-fail/."""
     copy_crates(TOP, room, lambda crate: {"must-fail", "out"})

@@ -90,3 +90,12 @@ def test_each_attack_is_in_one_tenth() -> None:
     assert sorted(tried) == sorted((crate, edit) for crate in attacking.USES for edit in attacking.edits_of(crate))
     sizes = [sum(map(len, tenth.values())) for tenth in tenths]
     assert max(sizes) - min(sizes) <= 1
+
+
+@pytest.mark.parametrize("crate", [crate for crate in attacking.USES if Path(TOP, "crates", crate, "attacks").is_dir()])
+def test_each_attack_reaches_the_prover(crate: str) -> None:
+    """What it changes is there, once, and is changed."""
+    folder = Path(TOP, "crates", crate)
+    for edit in [*folder.glob("attacks/*.edit"), *folder.glob("must-fail/*.edit")]:
+        texts = attacking.edited(folder, edit)
+        assert texts and all(text != path.read_text("utf-8") for path, text in texts.items()), edit

@@ -6,6 +6,7 @@ import subprocess
 import sys
 from pathlib import Path
 
+from attacking import edited
 from checking.testing import PATIENCE, RoomTest
 from common.program import TOP
 
@@ -20,18 +21,8 @@ class BodyTest(RoomTest):
             shutil.copy2(f"{TOP}/{name}", self.room)
         for name in ("crates", "dev", "tools"):
             shutil.copytree(f"{TOP}/{name}", self.path(name), ignore=LEFT_OUT)
-        crate = Path(self.path("crates"), os.path.dirname(body))
-        source, old = crate, ""
-        for line in (BODIES / f"{body}.edit").read_text("utf-8").splitlines():
-            word, _, text = line.partition(": ")
-            if word == "file":
-                source = crate / text
-            elif word == "old":
-                old = text
-            else:
-                before = source.read_text("utf-8")
-                self.assertEqual(("new", 1), (word, before.count(old)), line)
-                source.write_text(before.replace(old, text), "utf-8")
+        for path, text in edited(Path(self.path("crates"), os.path.dirname(body)), BODIES / f"{body}.edit").items():
+            path.write_text(text, "utf-8")
 
     def expect(self, crate: str, body: str, said: str) -> None:
         """Expects that with this body the tests of the crate fail, and why."""
