@@ -11,6 +11,7 @@ from common.words import number, parser_of, span
 
 TURN = 20_000_000  # nanoseconds that a turn of a wait lasts while nothing happens
 
+
 class Keep(NamedTuple):
     """Which old runs are kept: so many, or those of so many nanoseconds."""
 
