@@ -15,3 +15,10 @@ class Damaged(Exception):
 
     def __str__(self) -> str:
         return f"{self.file}: line {self.line}: {self.what}" if self.file else f"line {self.line}: {self.what}"
+
+
+class BadCompression(OSError):
+    """A file is damaged as a compressed one."""
+
+    def __init__(self, path: str) -> None:
+        super().__init__(0, "damaged as a compressed file", path)

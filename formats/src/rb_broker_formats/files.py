@@ -4,7 +4,7 @@ import zlib
 from contextlib import contextmanager
 from typing import BinaryIO, Callable, Iterator, Sequence
 
-from .faults import Damaged
+from .faults import BadCompression, Damaged
 from .history import History
 from .reader import Reader
 from .text import Text
@@ -27,7 +27,7 @@ def open_history(path: str, opener: Opener = _open) -> Iterator[BinaryIO]:
             # A GzipFile is read as a BinaryIO is.
             yield gzip.GzipFile(fileobj=file) if path.endswith(COMPRESSED) else file  # type: ignore[misc]
         except (EOFError, zlib.error, gzip.BadGzipFile) as fault:
-            raise OSError(0, "damaged as a compressed file", path) from fault
+            raise BadCompression(path) from fault
         except Damaged as fault:
             fault.file = path
             raise

@@ -5,13 +5,14 @@ import shutil
 import subprocess
 from pathlib import Path
 
+from rb_broker_formats.faults import BadCompression
 from rb_broker_formats.queue import LegalQueue, read_queue
 
 from .ending import Failed
 
 
 class Refused(Failed):
-    """The program refuses it."""
+    """The program refuses it, or it can't be read as a compressed one."""
 
 
 def read_judged(path: Path) -> LegalQueue:
@@ -22,4 +23,7 @@ def read_judged(path: Path) -> LegalQueue:
         ran = subprocess.run([program, "replay", path], capture_output=True, text=True, check=False)
         if ran.returncode == 1:
             raise Refused(f"{path}: rb_broker replay: {ran.stdout.strip()}")
-    return read_queue(path)
+    try:
+        return read_queue(path)
+    except BadCompression as fault:
+        raise Refused(f"{path}: it is {fault.strerror}") from None
