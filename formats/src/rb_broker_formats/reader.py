@@ -39,7 +39,7 @@ class Reader:
         first = len(history.events)
         if history.runs:
             take_each([(text.head_lines, head)], self._continue)
-            take_each(text.kept(), self._keeper(head.version))
+            take_each(text.kept(), self._comparer(head.version))
         else:
             history.next_id = self._queue.next_id = head.next_id
             take_each(text.kept(), self._queue.keep)
@@ -57,7 +57,7 @@ class Reader:
         if head.opened_at < self._last:
             raise self._other(f"opens at moment {head.opened_at}", f"{self._last} or a later one")
 
-    def _keeper(self, version: int) -> Callable[[Match[bytes]], None]:
+    def _comparer(self, version: int) -> Callable[[Match[bytes]], None]:
         """What tests the `keep` lines of a run that continues. There are as many as elements in the queue."""
         rows, element = self._queue.rows(), self.history.elements.element
         # A first expiry that a text leaves out is that of the text's earliest line, which need not be the job's.
