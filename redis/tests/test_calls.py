@@ -108,3 +108,22 @@ class CallsTest(unittest.IsolatedAsyncioTestCase):
         self.link.sent[0](b"OFFERED 0 5\n")
         self.calls.use(None)
         self.assertEqual(self.replies, [[b"OFFERED 0 5\n"], None])
+
+    async def test_a_reply_waits_for_each_replica_that_the_redis_has_when_it_is_given(self) -> None:
+        """Also for one that came while others were waited for."""
+        wanted = iter((2, 2, 3))
+        self.calls.replicas, self.calls.saw_role = 1, lambda role: setattr(self.calls, "replicas", next(wanted))
+        await self.submit(1)
+        self.answer(b"OFFERED 0 5\n", 1, [])
+        self.assertEqual(self.replies, [])
+        self.answer(2, [])
+        self.assertEqual(self.replies, [[b"OFFERED 0 5\n"]])
+        await self.submit(1)
+        self.answer(b"OFFERED 1 5\n", 2, [])
+        self.assertEqual(self.replies, [[b"OFFERED 0 5\n"]])
+
+    def answer(self, *answers: Answer) -> None:
+        """All that was sent is answered."""
+        sent, self.link.sent = self.link.sent, []
+        for take, answer in zip(sent, answers, strict=True):
+            take(answer)

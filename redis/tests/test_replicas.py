@@ -1,10 +1,11 @@
-"""How many replicas are waited for, by what Sentinels say."""
+"""How many replicas are waited for, by what Sentinels and the primary say."""
 from __future__ import annotations
 
 import unittest
 
 from rb_broker_redis.address import read_address
-from rb_broker_redis.replicas import Replica, Replicas, Told, following
+from rb_broker_redis.replicas import Replica, Replicas, Told
+from rb_broker_redis.resp import ErrorAnswer
 
 ONE, TWO, THREE = (("127.0.0.1", port) for port in (7001, 7002, 7003))
 
@@ -20,6 +21,18 @@ def down(place: tuple[str, int]) -> Replica:
 def apart(place: tuple[str, int]) -> Replica:
     """One that is up, and is no replica, or has not got all yet."""
     return Replica(place, is_down=False, follows=False)
+
+
+def info(*lines: tuple[tuple[str, int], str, int, int]) -> bytes:
+    """What a primary's INFO says of replicas, each with its state, what it has, and when it said that."""
+    replicas = (f"slave{number}:ip={host},port={port},state={state},offset={offset},lag={lag}\r\n"
+                for number, ((host, port), state, offset, lag) in enumerate(lines))
+    return f"# Replication\r\nrole:master\r\n{''.join(replicas)}master_failover_state:x".encode()
+
+
+def role(*offsets: tuple[tuple[str, int], int]) -> list[object]:
+    """What its ROLE says of replicas, with what each has."""
+    return [b"master", 9, [[host.encode(), b"%d" % port, b"%d" % offset] for (host, port), offset in offsets]]
 
 
 class ReplicasTest(unittest.TestCase):
@@ -76,8 +89,57 @@ class ReplicasTest(unittest.TestCase):
             self.replicas.take(told)
             self.assertEqual((self.replicas.named, self.replicas.primary), (named, primary))
 
-    def test_who_follows_the_primary(self) -> None:
+    def test_who_follows_the_primary_by_its_own_word_counts_though_no_sentinel_reaches_it(self) -> None:
         """Not one that is not in step, or has stood still or is cut off for a while."""
-        lines = [f"slave{number}:ip=127.0.0.1,port=70{number:02},state={state},offset=7,lag={lag}\r\n"
-                 for number, (state, lag) in enumerate((("online", 0), ("online", 2), ("online", 3), ("send_bulk", 0)))]
-        self.assertEqual(following(f"# Replication\r\nrole:master\r\n{''.join(lines)}master_failover_state:x".encode()), 2)
+        self.assert_wanted(1, Told(ONE, [down(TWO), down(THREE)]))
+        for state, lag, wanted in (("online", 0, 2), ("online", 2, 2), ("online", 3, 1), ("send_bulk", 0, 1)):
+            self.replicas.follow(info((TWO, "online", 7, 1), (THREE, state, 7, lag)))
+            self.assertEqual(self.replicas.wanted, wanted, (state, lag))
+
+    def test_one_that_only_the_primary_counts_does_not_stand_for_one_that_only_sentinels_count(self) -> None:
+        """The primary before has come back, and the third takes over before a Sentinel knows that the first follows."""
+        self.assert_wanted(2, Told(ONE, [follows(TWO), follows(THREE)]))
+        self.assert_wanted(1, Told(TWO, [apart(ONE), follows(THREE)]))
+        self.replicas.follow(info((ONE, "online", 7, 0), (THREE, "online", 7, 0)))
+        self.assertEqual(self.replicas.wanted, 2)
+        for _ in range(2):  # the third leaves, and a Sentinel that knows why has not told the others yet
+            self.replicas.take([Told(TWO, [apart(ONE), follows(THREE)])] * 2 + [Told(THREE, [apart(ONE), apart(TWO)])])
+            self.replicas.follow(info((ONE, "online", 8, 0)))
+            self.assertEqual(self.replicas.wanted, 2)
+
+    def test_so_too_where_the_first_takes_over(self) -> None:
+        self.assert_wanted(2, Told(ONE, [follows(TWO), follows(THREE)]))
+        self.assert_wanted(1, Told(TWO, [apart(ONE), follows(THREE)]))
+        self.replicas.see(role((ONE, 7), (THREE, 7)))
+        self.assert_wanted(2, Told(TWO, [apart(ONE), follows(THREE)]))
+        self.replicas.follow(info((THREE, "online", 8, 0)))
+        self.assertEqual(self.replicas.wanted, 2)
+
+    def test_one_that_follows_counts_from_the_first_call_on_that_the_primary_answers_with_it(self) -> None:
+        told = Told(ONE, [follows(TWO), down(THREE)])
+        self.assert_wanted(1, told)
+        for seen, wanted in ((role((TWO, 7)), 1), (role((TWO, 8), (THREE, 5)), 2), (role((TWO, 9)), 2)):
+            self.replicas.see(seen)
+            self.assertEqual(self.replicas.wanted, wanted)
+        self.replicas.follow(info((TWO, "online", 9, 0)))
+        self.assertEqual(self.replicas.wanted, 1)
+
+    def test_one_that_stands_still_counts_once_it_has_more(self) -> None:
+        """Its connection may last for a minute."""
+        self.assert_wanted(1, Told(ONE, [follows(TWO), down(THREE)]))
+        self.replicas.follow(info((TWO, "online", 7, 0), (THREE, "online", 5, 3)))
+        for seen, wanted in ((role((TWO, 8), (THREE, 5)), 1), (role((TWO, 9), (THREE, 6)), 2)):
+            self.replicas.see(seen)
+            self.assertEqual(self.replicas.wanted, wanted)
+
+    def test_what_is_no_answer_of_a_primary_tells_nothing(self) -> None:
+        self.assert_wanted(1, Told(ONE, [follows(TWO), down(THREE)]))
+        for answer in (None, ErrorAnswer("NOPERM"), [b"slave", b"127.0.0.1", 7002, b"connected", 7]):
+            self.replicas.see(answer)
+            self.assertEqual(self.replicas.wanted, 1)
+
+    def test_where_sentinels_have_other_names_the_greater_count_is_wanted(self) -> None:
+        self.assert_wanted(2, Told(ONE, [follows(("b", 7002)), follows(("c", 7003))]))
+        self.replicas.see(role((TWO, 7), (THREE, 7)))
+        self.assertEqual(self.replicas.wanted, 2)
+        self.assert_wanted(2, Told(ONE, [down(("b", 7002)), down(("c", 7003))]))

@@ -19,7 +19,7 @@ from talker import Talker
 USERS = (Path(__file__).parents[1] / "users.acl").read_text()
 ROWS = dict(re.findall("^user (\\w+) on (.*)$", USERS, re.M))
 
-ELSEWHERE = {"wait", "cluster|slots", "command", "client|kill", "ping"}
+ELSEWHERE = {"wait", "role", "cluster|slots", "command", "client|kill", "ping"}
 """What is used where there are replicas, a Cluster, a link that is half lost, or nothing is heard for seconds."""
 OWN = {"acl|log", "config|resetstat", "info", "auth", "zcard"}
 """What these tests use themselves."""

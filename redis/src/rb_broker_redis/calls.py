@@ -17,6 +17,8 @@ LOG = logging.getLogger(__name__)
 SEATS_OF_A_GATEWAY = 10**9
 """broker.lua has the same number."""
 
+ROLE = command("ROLE")
+
 CALLS, SPARE = (name_of(it).encode() for it in ("rb_calls", "rb_spare"))
 
 MOST_IN_FLIGHT = 2
@@ -61,6 +63,8 @@ class Calls:
         self._loop = asyncio.get_event_loop()
         self._is_scheduled = False
         self.gateway_is_unknown: Callable[[], None] = lambda: None
+        self.saw_role: Callable[[Answer], None] | None = None
+        """Gets what the Redis says of its replicas behind each wait for them, and may change how many are wanted."""
 
     @property
     def is_connected(self) -> bool:
@@ -136,14 +140,14 @@ class Calls:
         calls = batch.calls()
         count = b"*%d\r\n" % (13 + len(calls))
         data = b"".join([count, self._heads[batch.function], batch.front, bulks(calls)])
-        if not self.replicas:
+        if not self.replicas and not self.saw_role:
             link.send(data, lambda answer: self._answered(link, batch, answer))
             return
-        before: list[Answer] = []
-        link.send(data + self._wait(), before.append, lambda count: self._copied(link, batch, before[0], count))
+        told: list[Answer] = []
+        link.send(data + self._wait(), told.append, told.append, lambda role: self._copied(link, batch, role, *told))
 
     def _wait(self) -> bytes:
-        return command("WAIT", self.replicas, MILLISECONDS_OF_WAIT)
+        return command("WAIT", self.replicas, MILLISECONDS_OF_WAIT) + ROLE
 
     def _answered(self, link: Link, batch: Batch, answer: Answer) -> None:
         """A batch is answered, or it is in doubt, for None."""
@@ -174,13 +178,16 @@ class Calls:
         for part in whole:
             part.answered(part.replies)
 
-    def _copied(self, link: Link, batch: Batch, answer: Answer, count: Answer) -> None:
+    def _copied(self, link: Link, batch: Batch, role: Answer, answer: Answer, count: Answer) -> None:
         """So many replicas have what the batch did. If they are too few, a fail-over may lose it: others are waited for,
         until it is in doubt. How many are wanted may change meanwhile."""
+        if self.saw_role:
+            self.saw_role(role)
         if not isinstance(answer, bytes) or isinstance(count, int) and count >= self.replicas:
             self._answered(link, batch, answer)
         elif isinstance(count, int) and link is self._link and time.monotonic() - batch.sent < self.patience:
-            link.send(self._wait(), lambda count: self._copied(link, batch, answer, count))
+            counts: list[Answer] = []
+            link.send(self._wait(), counts.append, lambda role: self._copied(link, batch, role, answer, *counts))
         else:
             self._answered(link, batch, None)
 

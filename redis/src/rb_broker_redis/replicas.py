@@ -5,8 +5,10 @@ since a Sentinel may know of its state before that. A primary that is replaced, 
 replica that replaces it: so it can answer nothing any more. It need not have what is done itself before it follows the
 new one: the Sentinels know that it has less.
 
-Who follows the primary is counted in any case. A Sentinel on a busy machine may not reach one that does; if that were
-not waited for, its word would do in the place of another's, and the other may take over.
+Who follows the primary by its own word is waited for in any case, from the first call on that it answers with that
+replica. A Sentinel may not reach one that follows, or not know yet that the primary before follows now. Both words are
+of the same nodes, and only those that are in neither are not waited for: two counts would not do, since a replica that
+only one of them counts would stand for one that only the other counts, and that one may take over.
 """
 from __future__ import annotations
 
@@ -21,6 +23,7 @@ from redis.asyncio.sentinel import Sentinel
 from redis.exceptions import RedisError
 
 from .address import Address
+from .resp import Answer
 
 SECONDS_TO_ANSWER = 1.0
 MOST_LAG = 2
@@ -55,10 +58,27 @@ class Replicas:
         """The node that most of those named that answered last."""
         self.primary: Place | None = None
         """The node that a majority named last."""
-        self.wanted: int | None = None
-        """How many replicas have to have what is done, as a majority said last."""
+        self._least: int | None = None
+        """How many replicas are a majority with the primary, once a majority of the Sentinels has said it."""
+        self._known: set[Place] = set()
+        """The replicas that Sentinels know, and those of them that one reaches."""
+        self._reached: set[Place] = set()
+        self._following: set[Place] = set()
+        """Those that follow by the primary's own word."""
+        self._still: dict[Place, int] = {}
+        """Those that the primary has not heard for a while, and what they had then."""
         self._replaced: set[Place] = set()
         """Those that were the primary, and do not follow yet."""
+
+    @property
+    def wanted(self) -> int | None:
+        """How many replicas have to have what is done, or None if that is not known yet."""
+        if self._least is None:
+            return None
+        reached, following = self._reached - self._replaced, self._following - {self.primary}
+        if following.isdisjoint(self._known):  # as where the Sentinels have other names for them
+            return max(self._least, len(reached), len(following))
+        return max(self._least, len(reached | following))
 
     async def look(self) -> None:
         """Asks them."""
@@ -76,9 +96,24 @@ class Replicas:
         if len(told) >= least:
             replicas = [it for one in told for it in one.replicas]
             self._replaced -= {it.place for it in replicas if it.follows and not it.is_down}
-            known = {it.place for it in replicas} - {self.primary}
-            reached = {it.place for it in replicas if not it.is_down} - {self.primary}
-            self.wanted = max((len(known) + 1) // 2, len(reached - self._replaced))
+            self._known = {it.place for it in replicas} - {self.primary}
+            self._reached = {it.place for it in replicas if not it.is_down} - {self.primary}
+            self._least = (len(self._known) + 1) // 2
+
+    def follow(self, info: bytes) -> None:
+        """Takes what the primary's INFO says of its replicas."""
+        lines = re.findall(rb"^slave\d+:ip=(.*),port=(\d+),state=online,offset=(\d+),lag=(\d+)\r$", info, re.M)
+        self._still = {_place(host, int(port)): int(offset) for host, port, offset, lag in lines if int(lag) > MOST_LAG}
+        self._following = {_place(host, int(port)) for host, port, _, _ in lines} - self._still.keys()
+        self._replaced -= self._following
+
+    def see(self, role: Answer) -> None:
+        """Takes what the primary's ROLE says of its replicas. None that follows is forgotten before the next INFO."""
+        if isinstance(role, list) and role[0] == b"master":
+            places = ((_place(host, int(port)), int(offset)) for host, port, offset in role[2])
+            following = {place for place, offset in places if self._still.get(place) != offset}
+            self._following |= following
+            self._replaced -= following
 
     async def _told_by(self, sentinel: Redis[bytes]) -> Told:
         async with asyncio.timeout(SECONDS_TO_ANSWER):
@@ -92,11 +127,6 @@ class Replicas:
         """Closes the connections."""
         for it in self._sentinels:
             await it.close()
-
-
-def following(info: bytes) -> int:
-    """How many replicas follow a primary, by its INFO about its replication."""
-    return sum(int(lag) <= MOST_LAG for lag in re.findall(rb"^slave\d+:.*,state=online,.*,lag=(\d+)\r$", info, re.M))
 
 
 def _replica(it: dict[str, Any]) -> Replica:

@@ -21,8 +21,8 @@ from .leases import Leases
 from .library import load_functions, name_of
 from .link import Link, closed_on_failure, is_set_in_time
 from .place import connect_to_queue
-from .replicas import Replicas, following
-from .resp import ErrorAnswer
+from .replicas import Replicas
+from .resp import Answer, ErrorAnswer
 from .words import NO_POLICY
 
 if TYPE_CHECKING:
@@ -257,22 +257,28 @@ class Upkeep:
     async def _follow_replicas(self) -> None:
         """Lets replies wait for all replicas that are up, and leaves a primary that the Sentinels have replaced."""
         replicas = Replicas(self._address)
+
+        def want() -> None:
+            if replicas.wanted is not None:
+                self._calls.replicas = replicas.wanted
+
+        def see(role: Answer) -> None:
+            replicas.see(role)
+            want()
+
+        self._calls.saw_role = see
         try:
             while True:
                 await replicas.look()
-                if replicas.wanted is not None:
-                    self._calls.replicas = max(replicas.wanted, await self._count_of_following())
+                with contextlib.suppress(OSError, ErrorAnswer):
+                    if self._link:
+                        replicas.follow(await self._link.ask("INFO", "replication"))
+                want()
                 if self._link and replicas.primary not in (None, self._link.place):
                     self._link.close()
                 await asyncio.sleep(SECONDS_BETWEEN_LOOKS)
         finally:
             await replicas.close()
-
-    async def _count_of_following(self) -> int:
-        """How many replicas follow the primary, by its own word."""
-        with contextlib.suppress(OSError, ErrorAnswer):
-            return following(await self._link.ask("INFO", "replication")) if self._link else 0
-        return 0
 
     async def _until_done(self, make: Callable[[], Awaitable[Link]]) -> Link:
         told = ""
