@@ -43,7 +43,7 @@ const WARM_UP: u64 = 20;
 const TAKES_SENT: usize = 30;
 
 /// The front of a call of the functions of redis/.
-const FCALL: &str = "*14\r\n$5\r\nFCALL\r\n$10\r\nrb_calls_6\r\n$1\r\n8\r\n$11\r\n{bench}:due\r\n$11\r\n{bench}:ids\r\n\
+const FCALL: &str = "*14\r\n$5\r\nFCALL\r\n$10\r\nrb_calls_7\r\n$1\r\n8\r\n$11\r\n{bench}:due\r\n$11\r\n{bench}:ids\r\n\
     $12\r\n{bench}:held\r\n$13\r\n{bench}:state\r\n$15\r\n{bench}:history\r\n$12\r\n{bench}:dead\r\n\
     $16\r\n{bench}:gateways\r\n$15\r\n{bench}:opening\r\n$0\r\n\r\n$0\r\n\r\n";
 

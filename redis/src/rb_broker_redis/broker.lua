@@ -1,4 +1,4 @@
-#!lua name=rb_broker_6
+#!lua name=rb_broker_7
 -- The broker's calls as functions of a Redis (7.0 or later). docs/PROTOCOL.md has the requests, docs/HISTORY.md the
 -- lines of events.
 --
@@ -27,7 +27,7 @@
 --   format    the version of all this, '1' where there is none
 --   shards    how many queues there are under this name: 1, or those named NAME.0, NAME.1 and so on
 --   wake      an offer below this expiry is published: a gateway waits, and knows of none below it
---   lease:GATEWAY  the microseconds of its lease, and the token with which it joined
+--   lease:GATEWAY  the microseconds of its lease, and the token with which it joined, unless its sessions are ended
 --   clients:GATEWAY  how many clients it served when it renewed that
 --   returned  how many jobs failed and came back        died  how many failed for the last time
 --   most      'N drop' or 'N refuse': how many events history may have, and whether the oldest go then, or offers are
@@ -48,7 +48,7 @@
 -- rb_renew, which ends the sessions if the score is still the same. From then on no call is made in the name of the late
 -- gateway: it gets the error LEASE, and has to join anew. So nothing is given at a seat that has ended.
 --
--- Functions. ARGS are those after the keys. The name of each ends in the version of this library, as rb_calls_6 does,
+-- Functions. ARGS are those after the keys. The name of each ends in the version of this library, as rb_calls_7 does,
 -- and so does that of the library. So gateways of several versions serve a queue side by side, as long as its format is
 -- one that they know; of a later one they get the error FORMAT.
 --   rb_version                                    the version of this library; it needs no keys
@@ -93,7 +93,7 @@
 --
 -- A publish is 'HEAD NOW': the expiry of an element that has become the earliest, and what the clock shows.
 
-local VERSION = '6'
+local VERSION = '7'
 local FORMAT = '1'
 local LAST = '18446744073709551615'
 local MOST_HELD = 64
@@ -106,7 +106,7 @@ local NOT_HELD, FULL, MEMORY, HELD = 'ERR 5 not-held\n', 'ERR 6 full\n', 'ERR 7 
 local MOST_DROPPED = 50000 -- events that go at once
 local READ_AHEAD = 16 -- elements that are read at once from the front of due
 local MOST_NEW = 64 -- elements of a step that due does not have yet
-local MOST_KNOWN = 20000 -- members of held that are remembered
+local MOST_KNOWN = 20000 -- members of held that are remembered, and calls that are a word alone
 local ENDED = '0' -- in the place of a score: the gateway's sessions are ended
 
 -- What stands before a number of so many digits. A library that is loaded may not use string.rep.
@@ -121,14 +121,18 @@ local function pad(number) return ZEROS[#number] .. number end
 local function whole(number) return string.format('%d', number) end
 local function plain(digits) return sub(digits, find(digits, '[^0]') or -1) end
 
--- The last three digits of each number, and those in front of them of some, by the number without its last three.
-local ENDS, fronts, front_count = {}, {}, 0
-for last = 0, 999 do ENDS[last] = (last < 10 and '00' or last < 100 and '0' or '') .. last end
+-- The numbers below 1,000, each in digits and in three digits, and what stands in front of these in some others, by the
+-- number without its last three.
+local SMALL, ENDS, fronts, front_count = {}, {}, {}, 0
+for last = 0, 999 do
+    SMALL[last] = '' .. last
+    ENDS[last] = (last < 10 and '00' or last < 100 and '0' or '') .. last
+end
 
 -- A number that is counted, in digits: it costs less than to format each.
 local function counted(number)
+    if number < 1000 then return SMALL[number] end
     local last = number % 1000
-    if number == last then return whole(number) end
     local front = fronts[number - last]
     if not front then
         if front_count == 1000 then fronts, front_count = {}, 0 end
@@ -200,14 +204,6 @@ local function is_loading() return redis.error_reply('LOADING_QUEUE a load into 
 local function is_later(format) return redis.error_reply('FORMAT ' .. format .. ' ' .. FORMAT) end
 local function lease_is_over() return redis.error_reply('LEASE the lease of this gateway is over') end
 
--- Whether the sessions of a gateway are ended just now.
-local function is_ended(keys, gateway)
-    for _, ended in ipairs(redis.call('ZRANGE', keys[7], ENDED, ENDED, 'BYSCORE')) do
-        if ended == gateway then return true end
-    end
-    return false
-end
-
 -- The step, of which there is one at a time: what it has read, and what it is still to write. Events, counters and the
 -- wake are written by `close`, once for all calls of a step; what changes in due and ids by `settle`, and in held by
 -- `settle_held`, at the end or before somebody looks for it there. So an element that is given in the step that offers it
@@ -225,7 +221,7 @@ local new, new_ids, fresh, least = {}, {}, 0, nil -- elements that are new, and 
 local holds, ends, hold_count = {}, {}, 0 -- jobs that are fetched, and the calls that say DONE of them
 local done, done_at, done_count = {}, {}, 0 -- jobs that are done, and which replies say so
 local counts = {} -- how many jobs a session holds, for those of which it was counted
-local replies, reply_count = {}, 0
+local replies = {}
 local known_here -- the members of held that are known
 
 local function learn_most(text)
@@ -242,7 +238,7 @@ local function open(keys, moment, gateway)
     if loading then return is_loading() end
     if (format or FORMAT) ~= FORMAT then return is_later(format) end
     if not calls then return redis.error_reply('NOQUEUE there is no such queue') end
-    if gateway ~= '' and (not lease or is_ended(keys, gateway)) then return lease_is_over() end
+    if gateway ~= '' and not (lease and find(lease, ' ', 1, true)) then return lease_is_over() end
     plain_clock = moment == '' and clock() or plain(moment)
     local now = pad(plain_clock)
     at = now > last and now or last
@@ -255,7 +251,7 @@ local function open(keys, moment, gateway)
     if end_of_history ~= most_text then learn_most(end_of_history) end
     calls_before, wake_before, earlier, attempts = call_count, wake, nil, nil
     is_spare, work, returned, died = false, 0, 0, 0
-    line_count, popped, fresh, least, hold_count, done_count, reply_count = 0, 0, 0, nil, 0, 0, 0
+    line_count, popped, fresh, least, hold_count, done_count = 0, 0, 0, nil, 0, 0
     heads, first, ahead, is_all = {}, 1, 1, nil
     if next(counts) then counts = {} end
     known_here = gateway ~= '' and known_of(keys, gateway)
@@ -280,7 +276,7 @@ end
 -- Writes what the step did to the elements.
 local function settle()
     if popped > 0 then
-        call('ZREMRANGEBYRANK', due, '0', whole(popped - 1))
+        call('ZREMRANGEBYRANK', due, '0', counted(popped - 1))
         call('HDEL', ids, unpack(taken, 1, popped))
         popped = 0
     end
@@ -353,7 +349,7 @@ end
 local function head_of()
     local head = heads[first]
     if not head and not is_all then
-        heads = call('ZRANGE', due, whole(popped), whole(popped + ahead - 1))
+        heads = call('ZRANGE', due, counted(popped), counted(popped + ahead - 1))
         first, is_all = 1, #heads < ahead
         head = heads[1]
     end
@@ -638,11 +634,11 @@ function requests.DONE(seat, id)
     return 'DONE ' .. id .. '\n'
 end
 
--- The same, where the member of held is known.
-local function done_known(text, member)
+-- The same, where the member of held is known, for the reply at this place.
+local function done_known(text, member, place)
     local gap = find(text, ' ', 1, true)
     done_count = done_count + 1
-    done[done_count], done_at[done_count] = member, reply_count + 1
+    done[done_count], done_at[done_count] = member, place
     known_here[text], known_count = nil, known_count - 1
     if next(counts) then count_held(sub(text, 1, gap - 1), -1) end
     return sub(text, gap + 1) .. '\n'
@@ -674,34 +670,55 @@ function requests.DROP(seat, id)
     return 'DROPPED ' .. id .. '\n'
 end
 
+-- The seats and the requests of calls that are a word alone, which a session makes again and again.
+local seats, words, word_count = {}, {}, 0
+
+local function remember(text, seat, word)
+    if word_count == MOST_KNOWN then seats, words, word_count = {}, {}, 0 end
+    seats[text], words[text], word_count = seat, requests[word], word_count + 1
+end
+
+-- Makes the call of this text. -> its reply
+local function carry_out(text)
+    local seat = seats[text]
+    if seat then return words[text](seat, '', '') end
+    local behind_seat = find(text, ' ', 1, true)
+    local behind_word = find(text, ' ', behind_seat + 1, true)
+    seat = sub(text, 1, behind_seat - 1)
+    if not behind_word then
+        remember(text, seat, sub(text, behind_seat + 1))
+        return words[text](seat, '', '')
+    end
+    local behind_number = find(text, ' ', behind_word + 1, true)
+    return requests[sub(text, behind_seat + 1, behind_word - 1)](seat,
+        sub(text, behind_word + 1, behind_number and behind_number - 1), behind_number and sub(text, behind_number + 1) or '')
+end
+
 -- Whether a step has taken its time.
-local function is_late(began)
-    return work >= MOST_WORK or microseconds() - began >= MOST_MICROSECONDS
+local function is_late(began, calls)
+    return calls + work >= MOST_WORK or microseconds() - began >= MOST_MICROSECONDS
 end
 
 local function perform(keys, args, spare)
     local fault = open(keys, args[1], args[2])
     if fault then return fault end
-    local known, next_look, began = known_here or {}, WORK_BETWEEN_LOOKS, nil
-    is_spare, ahead = spare, math.min(#args - 2, READ_AHEAD)
-    for place = 3, #args do
-        local text = args[place]
+    local known, next_look, began, count, replies = known_here or {}, WORK_BETWEEN_LOOKS, nil, #args - 2, replies
+    is_spare, ahead = spare, math.min(count, READ_AHEAD)
+    for place = 1, count do
+        local text = args[place + 2]
         local member = known[text]
-        if member then
-            replies[place - 2] = done_known(text, member)
-        else
-            local seat, word, number, rest = string.match(text, '^(%d+) (%a+) ?(%S*) ?(%S*)$')
-            replies[place - 2] = requests[word](seat, number, rest)
-        end
-        work, reply_count = work + 1, place - 2
-        if work >= next_look then
+        replies[place] = member and done_known(text, member, place) or carry_out(text)
+        if place + work >= next_look then
             began = began or args[1] == '' and tonumber(plain_clock) / 1e3 or microseconds()
-            if is_late(began) then break end
-            next_look = work + WORK_BETWEEN_LOOKS
+            if is_late(began, place) then
+                count = place
+                break
+            end
+            next_look = place + work + WORK_BETWEEN_LOOKS
         end
     end
     close()
-    return table.concat(replies, '\0', 1, reply_count)
+    return table.concat(replies, '\0', 1, count)
 end
 
 local function make_queue(keys, pace, period, attempts)
@@ -752,6 +769,12 @@ local function held_by(gateway)
     return '[' .. pad(gateway .. '000000000'), '(' .. pad(whole(tonumber(gateway) + 1) .. '000000000')
 end
 
+-- A gateway of version 2 says nothing of its lease, and its score is the microsecond at which that ends.
+local function lease_of(keys, gateway, score)
+    local lease = redis.call('HGET', keys[4], 'lease:' .. gateway)
+    return lease and string.match(lease, '^%d+') or whole(math.max(tonumber(score) - microseconds(), 0))
+end
+
 -- Ends some of the sessions of a gateway that has this score. -> how many jobs they held, or nil and an error
 local function end_gateway(keys, late, score)
     local found = redis.call('ZSCORE', keys[7], late)
@@ -759,6 +782,7 @@ local function end_gateway(keys, late, score)
     local fault = open(keys, '', '')
     if fault then return nil, fault end
     forget_known(keys, late)
+    call('HSET', state, 'lease:' .. late, lease_of(keys, late, score)) -- without a token, so it makes no call any more
     local lowest, above = held_by(late)
     local members = call('ZRANGEBYLEX', held, lowest, above, 'LIMIT', 0, MOST_ENDED)
     local ended
@@ -772,17 +796,9 @@ local function end_gateway(keys, late, score)
     return #members
 end
 
--- A gateway of version 2 says nothing of its lease, and its score is the microsecond at which that ends.
-local function lease_of(keys, gateway, score)
-    local lease = redis.call('HGET', keys[4], 'lease:' .. gateway)
-    return lease and string.match(lease, '^%d+') or whole(math.max(tonumber(score) - microseconds(), 0))
-end
-
 local function renew(keys, args)
     local gateway, lease, token, clients, late, score = unpack(args)
-    if redis.call('HGET', keys[4], 'lease:' .. gateway) ~= lease .. ' ' .. token or is_ended(keys, gateway) then
-        return lease_is_over()
-    end
+    if redis.call('HGET', keys[4], 'lease:' .. gateway) ~= lease .. ' ' .. token then return lease_is_over() end
     forget_known(keys, gateway)
     redis.call('ZADD', keys[7], whole(microseconds() + tonumber(lease)), gateway)
     redis.call('HSET', keys[4], 'clients:' .. gateway, clients)
