@@ -109,6 +109,22 @@ class CallsTest(unittest.IsolatedAsyncioTestCase):
         self.calls.use(None)
         self.assertEqual(self.replies, [[b"OFFERED 0 5\n"], None])
 
+    async def test_behind_a_command_goes_the_next_once_it_has_as_many_calls(self) -> None:
+        self.calls.submit([b"1 SIZE"] * 3, self.replies.append)
+        await self.let_go_out()
+        await self.submit(2, b"2 SIZE")
+        self.assert_sent(*[b"1 SIZE"] * 3)
+        await self.submit(1, b"3 SIZE")
+        self.assert_sent(b"2 SIZE", b"2 SIZE", b"3 SIZE")
+        await self.submit(1, b"4 SIZE")
+        first, second = self.link.sent
+        first(b"\0".join([b"SIZE 0\n"] * 3))
+        await self.let_go_out()
+        self.assertEqual(len(self.link.sent), 2)
+        second(b"\0".join([b"SIZE 0\n"] * 3))
+        await self.let_go_out()
+        self.assert_sent(b"4 SIZE")
+
     async def test_a_reply_waits_for_each_replica_that_the_redis_has_when_it_is_given(self) -> None:
         """Also for one that came while others were waited for."""
         wanted = iter((2, 2, 3))

@@ -56,7 +56,7 @@ class TurnsTest(unittest.TestCase):
 
     def make(self, batch: Batch, count: int | None = None) -> None:
         """So many of its calls are made, or all."""
-        batch.take([b"SIZE 0\n"] * (len(batch) if count is None else count))
+        batch.take([b"SIZE 0\n"] * (batch.count if count is None else count))
         self.turns.put_back(batch)
 
     def test_one_alone_gets_all(self) -> None:
@@ -112,7 +112,7 @@ class TurnsTest(unittest.TestCase):
     def test_a_batch_has_one_gateway(self) -> None:
         self.add("one", 1)
         self.turns.add(Part(b"later front", [b"x SIZE"], lambda replies: None, 1))
-        self.assertEqual([len(self.taken()[0]) for _ in range(2)], [1, 1])
+        self.assertEqual([self.taken()[0].count for _ in range(2)], [1, 1])
 
     def test_the_most_follows_what_the_redis_gets_done(self) -> None:
         self.add("one", 100_000)
@@ -121,5 +121,5 @@ class TurnsTest(unittest.TestCase):
                 (100, 10, 0.01, LEAST), (LEAST, LEAST, 1.0, LEAST), (10, 10, 0.001, LEAST)):
             self.turns.adapt(sent, made, seconds)
             batch, _ = self.taken()
-            self.assertEqual(len(batch), most)
+            self.assertEqual((batch.count, len(batch.calls())), (most, most))
             self.make(batch)

@@ -22,7 +22,8 @@ ROLE = command("ROLE")
 CALLS, SPARE = (name_of(it).encode() for it in ("rb_calls", "rb_spare"))
 
 MOST_IN_FLIGHT = 2
-"""How many commands are under way at once. While they are, further calls are gathered."""
+"""How many commands are under way at once. While they are, further calls are gathered. Behind one the next goes out once
+it has as many calls: what a command costs apart from its calls is a third of what it costs with eight."""
 
 SECONDS_BETWEEN_TRIES = 0.05
 MILLISECONDS_OF_WAIT = 250
@@ -117,7 +118,10 @@ class Calls:
             self._loop.call_soon(self._flush)
 
     def _can_send(self) -> bool:
-        return self._link is not None and not self._is_leaving and len(self._flying) < MOST_IN_FLIGHT
+        if self._link is None or self._is_leaving:
+            return False
+        last = next(reversed(self._flying), None)
+        return last is None or len(self._flying) < MOST_IN_FLIGHT and (bool(self._again) or self._turns.fill(last.count))
 
     def _flush(self) -> None:
         self._is_scheduled = False
@@ -168,7 +172,7 @@ class Calls:
     def _made(self, batch: Batch, replies: list[bytes]) -> None:
         """The calls of a batch are made, or the first of them, as far as the Redis came in its time."""
         now = time.monotonic()
-        self._turns.adapt(len(batch), len(replies), now - max(batch.sent, self._answered_at))
+        self._turns.adapt(batch.count, len(replies), now - max(batch.sent, self._answered_at))
         self._answered_at = now
         whole = batch.take(replies)
         if len(whole) < len(batch.parts):

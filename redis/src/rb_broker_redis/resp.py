@@ -28,7 +28,18 @@ def command(*words: bytes | str | int) -> bytes:
 
 def bulks(words: Iterable[bytes]) -> bytes:
     """The bytes of a command's words."""
-    return b"".join([piece for word in words for piece in (b"$%d\r\n" % len(word), word, b"\r\n")])
+    return b"\r\n".join([piece for word in words for piece in (_FRONTS[len(word)], word)] + [b""])
+
+
+class _Fronts(dict[int, bytes]):
+    """What stands before a word, by its length: each is made once."""
+
+    def __missing__(self, length: int) -> bytes:
+        front = self[length] = b"$%d" % length
+        return front
+
+
+_FRONTS = _Fronts()
 
 
 def reader() -> Any:

@@ -34,22 +34,19 @@ NO_WAIT = b"POLLFOR 0"
 TRUNCATED = refused(ErrorReply.LINE)
 
 
+NO_PLAN: list[bytes | None] = []
+"""Of lines to which the queue gives all replies."""
+
 CALL, WAIT, QUIT, AT = Kind.CALL, Kind.WAIT, Kind.QUIT, Kind.AT
 
 MORE_HELD = {b"ITEM": 1, b"DONE": -1, b"AGAI": -1, b"DEAD": -1}
 """By the first bytes of a reply."""
 
 
-def more_held_by(replies: list[bytes]) -> int:
-    """How many more jobs a session holds behind these replies."""
-    more = 0
-    for reply in replies:
-        start = reply[:4]
-        if start in MORE_HELD:
-            more += MORE_HELD[start]
-        elif start == b"DRAI":
-            more += int(reply.partition(b"\n")[0].split(b" ")[1])
-    return more
+def more_held_by(reply: bytes) -> int:
+    """How many more jobs a session holds behind this reply."""
+    start = reply[:4]
+    return int(reply.partition(b"\n")[0].split(b" ")[1]) if start == b"DRAI" else MORE_HELD.get(start, 0)
 
 
 class Session(asyncio.Protocol):
@@ -63,7 +60,7 @@ class Session(asyncio.Protocol):
         self._transport: asyncio.Transport
         self._seat = b""
         """What stands before each of its calls: its number at the queue, and a space. Its lines wait for it."""
-        self._plan: list[bytes | None] = []
+        self._plan = NO_PLAN
         """The replies to the lines that are carried out, with None for those that the queue gives; empty if it gives all."""
         self._wait_request = b""
         """The request of a plan that may have to wait."""
@@ -99,9 +96,14 @@ class Session(asyncio.Protocol):
     def data_received(self, data: bytes) -> None:
         if self._is_over or self._is_at_end:
             return
-        self._lines += self._cutter.cut(data)
+        lines = self._cutter.cut(data)
         if not self._is_busy:
+            if len(lines) == 1 and not self._lines and self._call_alone(lines[0]):
+                return
+            self._lines += lines
             self._go_on()
+        else:
+            self._lines += lines
         if len(self._lines) > MOST_WAITING_LINES and not self._is_paused:
             self._is_paused = True
             self._transport.pause_reading()
@@ -181,14 +183,22 @@ class Session(asyncio.Protocol):
         self._lines.clear()
         self._is_at_end = True
 
+    def _call_alone(self, line: bytes) -> bool:
+        """Carries out a line that nothing waits before, as most are, unless it needs more than a call."""
+        if self._is_retiring or self._is_full or not self._seat:
+            return False
+        kind, text = read_request(line)
+        if kind is WAIT:
+            text = self._call_that_may_wait(text, True)
+        elif kind is not CALL:
+            return False
+        self._is_busy = self._has_called = True
+        self._plan = NO_PLAN
+        self._gateway.calls.submit([self._seat + text], self._answered)
+        return True
+
     def _calls_of_next(self) -> list[bytes]:
         lines, seat, is_retiring = self._lines, self._seat, self._is_retiring
-        if len(lines) == 1 and not is_retiring and (only := lines[0]) is not None:
-            kind, text = read_request(only)
-            if kind is CALL or kind is WAIT:  # as most are
-                lines.clear()
-                self._plan = []
-                return [seat + (text if kind is CALL else self._call_that_may_wait(text, True))]
         calls: list[bytes] = []
         plan: list[bytes | None] = []
         while lines and len(plan) < MOST_AT_ONCE:
@@ -214,7 +224,7 @@ class Session(asyncio.Protocol):
                 break
             else:
                 plan.append(ErrorReply.SYNTAX if kind is AT else text)
-        self._plan = plan if any(plan) else []
+        self._plan = plan if any(plan) else NO_PLAN
         return calls
 
     def _call_that_may_wait(self, request: bytes, is_first: bool) -> bytes:
@@ -238,11 +248,13 @@ class Session(asyncio.Protocol):
     def _send(self, replies: list[bytes]) -> bytes | None:
         """Sends the replies of a plan. Returns that of a call that has to wait."""
         later = None
-        if self._wait_request and replies[-1].startswith(LATER):
-            later = replies.pop()
-        else:
-            self._wait_request = b""
-        self._held += more_held_by(replies)
+        if self._wait_request:
+            if replies[-1].startswith(LATER):
+                later = replies.pop()
+            else:
+                self._wait_request = b""
+        for reply in replies:
+            self._held += more_held_by(reply)
         if self._plan:
             given = iter(replies)
             replies = [next(given) if reply is None else reply for reply in self._plan] + list(given)
@@ -251,7 +263,7 @@ class Session(asyncio.Protocol):
         return later
 
     def _begin_wait(self, later: bytes) -> None:
-        request, self._wait_request, self._plan = self._wait_request, b"", []
+        request, self._wait_request, self._plan = self._wait_request, b"", NO_PLAN
         if self._is_at_end:
             self._wait_ended(STOPPED)
             return

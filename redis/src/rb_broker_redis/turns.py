@@ -55,8 +55,8 @@ class Part:
         """`front` names the gateway whose sessions make the calls; `sessions` is how many these are."""
         self.front, self.calls, self.answered, self.sessions = front, calls, answered, sessions
         self.replies = NONE
-        self.count = 0
-        """How many calls are under way."""
+        self.count = len(calls)
+        """How many calls are under way, or go out next."""
 
     def under_way(self) -> list[bytes]:
         """The calls that are under way."""
@@ -77,10 +77,11 @@ class Part:
 class Batch:
     """Calls that go out together."""
 
-    __slots__ = ("parts", "front", "function", "sent")
+    __slots__ = ("parts", "count", "front", "function", "sent")
 
-    def __init__(self, parts: list[Part], function: bytes) -> None:
-        self.parts, self.function, self.front = parts, function, parts[0].front
+    def __init__(self, parts: list[Part], count: int, function: bytes) -> None:
+        """Of these parts so many calls go out."""
+        self.parts, self.count, self.function, self.front = parts, count, function, parts[0].front
         self.sent = 0.0
 
     def calls(self) -> list[bytes]:
@@ -88,17 +89,18 @@ class Batch:
         return [call for part in self.parts
                 for call in (part.calls if part.count == len(part.calls) else part.under_way())]
 
-    def __len__(self) -> int:
-        return sum([part.count for part in self.parts])
-
     def take(self, replies: list[bytes]) -> list[Part]:
         """Gives each part its replies. There may be fewer than calls: then the last ones were not made. Returns the parts
         that have all of theirs."""
+        if len(self.parts) == self.count == len(replies):  # one for each, as most are
+            for part, reply in zip(self.parts, replies):
+                part.replies = [*part.replies, reply]
+            return [it for it in self.parts if len(it.replies) == len(it.calls)]
         start, whole = 0, []
         for part in self.parts:
             end = start + part.count
             part.replies = part.replies + replies[start:end] if part.replies else replies[start:end]
-            part.count = 0
+            part.count = len(part.calls) - len(part.replies)
             if len(part.replies) == len(part.calls):
                 whole.append(part)
             start = end
@@ -127,6 +129,10 @@ class Turns:
     def __iter__(self) -> Iterator[Part]:
         yield from self._new
         yield from self._others
+
+    def fill(self, count: int) -> bool:
+        """Whether so many calls, or as many as a command carries, would go out next."""
+        return bool(self._others) or self._new_calls >= min(count, self._most)
 
     def add(self, part: Part) -> None:
         """A part is new."""
@@ -157,13 +163,11 @@ class Turns:
         for part, left in waiting:  # what others leave is shared in the same order
             more = min(left, room)
             part.count, room = part.count + more, room - more
-        return Batch(parts, function)
+        return Batch(parts, self._most - room, function)
 
     def _all_new(self, function: bytes) -> Batch:
         """The calls of all new parts: nobody has to wait for another turn."""
-        batch = Batch([*self._new], function)
-        for part in batch.parts:
-            part.count = len(part.calls)
+        batch = Batch([*self._new], self._new_calls, function)
         self._new.clear()
         self._new_calls = 0
         return batch
