@@ -5,8 +5,10 @@ played as well: what was not synced is cut off the node's file.
 """
 from __future__ import annotations
 
+import contextlib
 import os
 import random
+import re
 import shutil
 import subprocess
 import tempfile
@@ -21,7 +23,7 @@ from typing import NamedTuple
 import redis
 
 from gateways import Gateway
-from nodes import ALWAYS, EVERYSEC, FORGETFUL, PATIENCE, Node, Replicas, Sentinels, wait_until
+from nodes import ALWAYS, EVERYSEC, FORGETFUL, PATIENCE, Node, NotReady, Replicas, Sentinels, wait_until
 from redis_test import RoomTest
 from serving import HOST
 from serving.session import Session
@@ -205,14 +207,13 @@ class TwoReplicasTest(LostTest):
     """A primary with two replicas, under Sentinel."""
 
     def struck(self, strike: Callable[[Sentinels], None], *options: object) -> Callable[[Path], Lost]:
-        """Something befalls the primary, and another node has its place."""
+        """Something befalls the nodes, and the primary is another one."""
 
         def round_of(room: Path) -> Lost:
             watched = Replicas(room / "nodes", 2, ALWAYS)
             sentinels = Sentinels(room / "sentinels", watched)
             try:
-                offers, struck = self.offered_until(
-                    room, sentinels.url, lambda: self.replace(sentinels, strike), *options)
+                offers, struck = self.offered_until(room, sentinels.url, lambda: strike(sentinels), *options)
                 return self.missing(offers, struck, sentinels.primary())
             finally:
                 sentinels.kill()
@@ -220,21 +221,42 @@ class TwoReplicasTest(LostTest):
 
         return round_of
 
-    def replace(self, sentinels: Sentinels, strike: Callable[[Sentinels], None]) -> None:
+    def replace(self, sentinels: Sentinels, strike: Callable[[Node], object], undo: Callable[[Node], object]) -> None:
+        """Something befalls the primary, and is undone once another node has its place."""
         before = sentinels.primary()
-        strike(sentinels)
+        strike(before)
         wait_until(lambda: sentinels.primary() is not before and sentinels.primary().replication()["role"] == "master",
                    "no replica takes over")
-        before.go_on()
+        undo(before)
         wait_until(lambda: before.replication()["role"] == "slave", "the primary before does not follow")
 
     def fail_over(self, sentinels: Sentinels) -> None:
-        """As planned."""
-        redis.Redis(HOST, sentinels.ports[0]).execute_command("SENTINEL", "FAILOVER", sentinels.name)
+        """As planned. On a busy machine the Sentinels may give it up."""
+
+        def strike(before: Node) -> None:
+            while sentinels.primary() is before:
+                with contextlib.suppress(redis.ResponseError, NotReady):
+                    redis.Redis(HOST, sentinels.ports[0]).execute_command("SENTINEL", "FAILOVER", sentinels.name)
+                    wait_until(lambda: sentinels.primary() is not before, "no replica takes over", 15)
+
+        self.replace(sentinels, strike, Node.go_on)
 
     def test_planned_fail_overs(self) -> None:
         self.tried("2 replicas, --replicas 1, SENTINEL FAILOVER", self.struck(self.fail_over, "--replicas", 1))
         total = self.tried("2 replicas, --replicas 2, SENTINEL FAILOVER", self.struck(self.fail_over, "--replicas", 2))
+        self.assertEqual(total.lost, 0)
+
+    def test_a_planned_fail_over_as_soon_as_the_primary_before_follows(self) -> None:
+        """Which the Sentinels may not know yet."""
+
+        def strike(sentinels: Sentinels) -> None:
+            self.replace(sentinels, Node.kill, Node.start)
+            wait_until(lambda: [it["state"] for name, it in sentinels.primary().replication().items()
+                                if re.fullmatch(r"slave\d", name)] == ["online"] * 2, "the replicas are not in step")
+            self.fail_over(sentinels)
+
+        total = self.tried("2 replicas, --replicas all, primary killed and back, SENTINEL FAILOVER",
+                           self.struck(strike, "--replicas", "all", "--timeout", "60s"))
         self.assertEqual(total.lost, 0)
 
     def test_all_that_are_up(self) -> None:
@@ -263,5 +285,5 @@ class TwoReplicasTest(LostTest):
     def test_a_primary_that_stands_still(self) -> None:
         for replicas in (1, "all"):
             total = self.tried(f"2 replicas, --replicas {replicas}, primary stands still",
-                               self.struck(lambda it: it.primary().pause(), "--replicas", replicas))
+                               self.struck(lambda it: self.replace(it, Node.pause, Node.go_on), "--replicas", replicas))
         self.assertEqual(total.lost, 0)
