@@ -78,7 +78,9 @@ def produce(client: Client, notes: Notes) -> None:
     for payload in map(str.strip, sys.stdin):
         notes.add(f"offer {payload}")
         try:
-            reply = session.reply_to(f"OFFER {client.random.choice(DELAYS)} {payload}")[0]
+            offer = f"OFFER {client.random.choice(DELAYS)} {payload}"
+            while (reply := session.reply_to(offer)[0]) == "ERR 7 memory":
+                time.sleep(PAUSE)
             if not reply.startswith("OFFERED "):
                 raise ValueError(f"an offer is answered {reply}")
             notes.add(f"offered {payload}")

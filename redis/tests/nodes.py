@@ -158,9 +158,12 @@ class Node(Process):
         ran, waited = map(int, Path(f"/proc/{self.pid}/schedstat").read_text().split()[:2])
         times = 1 + waited / max(ran, 1)
         most = LONGEST * (times if times < 1.5 else 5 * times)
+        return [it for it in self.logged() if it[0] > most]
+
+    def logged(self) -> list[tuple[int, str]]:
+        """The commands that took longer than `LONGEST`, with their microseconds."""
         with self.client() as client:
-            return [(it["duration"], it["command"].decode()[:200]) for it in client.slowlog_get(10_000)
-                    if it["duration"] > most]
+            return [(it["duration"], it["command"].decode()[:200]) for it in client.slowlog_get(10_000)]
 
     def replication(self) -> dict[str, Any]:
         """What it says about its replicas, or as one."""

@@ -1,6 +1,6 @@
 """Days on which all goes wrong: gateways, clients, the archive and the Redis itself are killed at any moment, links of
-gateways are cut, and a gateway may stand still until its lease is over. The clock of one Redis is set back again and
-again, slots of a Cluster are moved, and primaries of Sentinels are replaced as planned.
+gateways are cut, and a gateway may stand still until its lease is over. One Redis has its clock set back again and again,
+and no memory left for a while; slots of a Cluster are moved, and primaries of Sentinels are replaced as planned.
 
 Afterwards the program accepts each history that was archived, with its retries. Each job that was offered is in them
 once, each of its attempts came after a failure of the one before, and its last attempt was given and did not come
@@ -29,7 +29,7 @@ from checking.testing import run_tool
 from crew import Crew, Producer, compiled_java
 from gateways import COMMAND, POLICY, Gateway
 from judging import faults_in, replay_chains
-from nodes import ALWAYS, Cluster, Node, NotReady, Process, Replicas, Sentinels, wait_until
+from nodes import ALWAYS, LONGEST, Cluster, Node, NotReady, Process, Replicas, Sentinels, wait_until
 from rb_broker_redis.archive_folder import ArchiveFolder
 from rb_broker_redis.shards import shard_names
 from redis_test import RoomTest
@@ -41,12 +41,11 @@ PATIENCE = 600 + JOBS / 10  # seconds until all jobs are done
 GATEWAYS = 3
 PRODUCERS = 3
 EACH = 2  # workers of each kind
-LEASE = 4  # seconds, which a busy machine may well let pass: then sessions lose their jobs while their gateway lives
-SERVING = (*POLICY, "--wait", "200ms", "--lease", f"{LEASE}s")
+SERVING = (*POLICY, "--wait", "200ms")
 QUEUE = "jobs"
 
 WEIGHTS = {"gateway": 2, "worker": 5, "producer": 1, "archive": 1, "lease": 0.5, "redis": 1, "links": 1, "clock": 0.5,
-           "slot": 1, "planned": 0.5}
+           "memory": 0.5, "slot": 1, "planned": 0.5}
 """How often something befalls something, beside the others."""
 
 
@@ -54,6 +53,8 @@ class Day(RoomTest):
     """What all days have."""
 
     shards = 1
+    lease = 4
+    """Seconds, which a busy machine may well let pass: then sessions lose their jobs while their gateway lives."""
 
     def setUp(self) -> None:
         super().setUp()
@@ -61,6 +62,7 @@ class Day(RoomTest):
         self.draw = random.Random()
         self.pauses: list[threading.Timer] = []
         self.slow: list[tuple[int, str]] = []
+        self.longest = 0
         self.strikes: dict[str, Callable[[], None]] = {
             "gateway": lambda: self.kill(self.gateways), "worker": self.kill_worker,
             "producer": lambda: self.kill(self.producers), "archive": lambda: self.kill([self.archiving]),
@@ -74,7 +76,7 @@ class Day(RoomTest):
         """Lets the day pass, and judges it. `strikes` befall the Redis."""
         self.strikes |= strikes
         self.kills = dict.fromkeys(self.strikes, 0)
-        serving = (*serving, "--shards", self.shards)
+        serving = (*serving, "--shards", self.shards, "--lease", f"{self.lease}s")
         self.gateways = [self.till_end(Gateway(self.room, url, QUEUE, serving)) for _ in range(GATEWAYS)]
         self.crew = Crew(self.room, [it.port for it in self.gateways], compiled_java(self.room / "java"))
         for it in self.gateways:
@@ -126,7 +128,7 @@ class Day(RoomTest):
         """Lets a gateway stand still, unless it is killed, for about as long as its lease or longer."""
         gateway = self.draw.choice(self.gateways)
         gateway.pause()
-        going_on = threading.Timer(LEASE * self.draw.uniform(0.8, 2), gateway.go_on)
+        going_on = threading.Timer(self.lease * self.draw.uniform(0.8, 2), gateway.go_on)
         going_on.start()
         self.pauses.append(going_on)
 
@@ -150,7 +152,7 @@ class Day(RoomTest):
 
     def is_empty(self) -> bool:
         """Whether no job is in the queue or in hand, and stays so for longer than a lease."""
-        for _ in range(5 * (LEASE + 1)):
+        for _ in range(5 * (self.lease + 1)):
             if self.gateways[0].ask("SIZE") != ["SIZE 0"]:
                 return False
             time.sleep(0.2)
@@ -168,6 +170,7 @@ class Day(RoomTest):
     def note_slow(self, node: Node) -> None:
         """Notes the commands that took long of a node that is about to end."""
         self.slow += node.slow()
+        self.longest = max([self.longest, *(took for took, _ in node.logged())])
 
     def judge(self) -> None:
         self.assertEqual(self.slow, [])
@@ -195,7 +198,8 @@ class Day(RoomTest):
         self.assertEqual(early, [])
         self.assertEqual(day.done_once + len(day.in_doubt), day.jobs)
         self.assertLessEqual(len(day.unseen), sum(self.kills.values()), day.unseen)
-        print(f"{type(self).__name__}: {JOBS} jobs in {self.took:.0f} s; killed: "
+        print(f"{type(self).__name__}: {JOBS} jobs in {self.took:.0f} s, {self.shards} queues, leases of {self.lease} s; "
+              f"commands over {LONGEST / 1_000:.0f} ms: longest {self.longest / 1_000:.0f} ms; killed: "
               f"{', '.join(f'{it} {count}' for it, count in self.kills.items())}; {len(offered)} offers answered, "
               f"{day.jobs} made; {day.done_once} jobs done once, {len(day.done_twice)} twice, {len(day.in_doubt)} in "
               f"doubt, of which {len(day.unseen)} without a note; {len(early)} early; {day.handled_again} handled again, "
@@ -222,10 +226,17 @@ class OneNodeTest(Day):
         return [self.node]
 
     def test_one_node_that_is_killed_again_and_again_and_whose_clock_is_set_back(self) -> None:
+        self.shards, self.lease = self.draw.choice([(1, 4), (3, 4), (1, 1)])
         clock = Clock(self.room, "clock")
         self.node = self.till_end(Node(self.room / "node", ALWAYS, clock.environment))
-        self.run_day(self.node.url, redis=self.kill_redis, clock=lambda: clock.set(-self.kills["clock"]))
+        self.run_day(self.node.url, redis=self.kill_redis, clock=lambda: clock.set(-self.kills["clock"]),
+                     memory=self.fill_memory)
         self.assertEqual(list(self.archive.glob("*.lost-*")), [])
+
+    def fill_memory(self) -> None:
+        self.node.ask("CONFIG", "SET", "maxmemory", 1)
+        time.sleep(self.draw.uniform(0.1, 1))
+        self.node.ask("CONFIG", "SET", "maxmemory", 0)
 
     def kill_redis(self) -> None:
         self.note_slow(self.node)
