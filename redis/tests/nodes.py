@@ -224,13 +224,18 @@ class Sentinels(Nodes):
         _, port = redis.Redis(HOST, self.ports[0]).execute_command("SENTINEL", "GET-MASTER-ADDR-BY-NAME", self.name)
         return next(it for it in self.watched.nodes if it.port == int(port))
 
+    def ask(self, *words: object) -> Any:
+        """The answer of the primary."""
+        return self.primary().ask(*words)
+
 
 class Cluster(Nodes):
-    """A Cluster of three primaries, which share the slots evenly."""
+    """A Cluster of three primaries, which share the slots evenly, and may have this in their environment."""
 
-    def __init__(self, folder: Path, options: Sequence[object] = ALWAYS) -> None:
+    def __init__(self, folder: Path, options: Sequence[object] = ALWAYS,
+                 environment: dict[str, str] | None = None) -> None:
         words = [*options, "--cluster-enabled", "yes", "--cluster-node-timeout", 3000]
-        self.nodes = [Node(folder / f"node-{it}", words) for it in range(3)]
+        self.nodes = [Node(folder / f"node-{it}", words, environment) for it in range(3)]
         addresses = [f"{HOST}:{it.port}" for it in self.nodes]
         self.url = f"redis+cluster://{','.join(addresses)}"
         subprocess.run(["redis-cli", "--cluster", "create", *addresses, "--cluster-yes"], check=True,
@@ -240,6 +245,17 @@ class Cluster(Nodes):
     def is_ready(self) -> bool:
         """Whether all nodes say so."""
         return all(b"cluster_state:ok" in it.ask("CLUSTER", "INFO") for it in self.nodes)
+
+    def ask(self, *words: object) -> Any:
+        """Asks all nodes. The answer of one that has the slot."""
+        answers = []
+        for it in self.nodes:
+            try:
+                answers.append(it.ask(*words))
+            except redis.ResponseError as fault:
+                if not str(fault).startswith("MOVED "):
+                    raise
+        return answers[0]
 
     def slot_of(self, queue: str) -> int:
         return int(self.nodes[0].ask("CLUSTER", "KEYSLOT", f"{{{queue}}}"))

@@ -11,10 +11,11 @@ import unittest
 from pathlib import Path
 
 from gateway_test import GatewayTest
-from nodes import ALWAYS, FORGETFUL, Node, Replicas, Sentinels, wait_until
+from nodes import ALWAYS, FORGETFUL, Cluster, Node, Replicas, Sentinels, wait_until
 from rb_broker_redis.clock import NodeClock
 from rb_broker_redis.leases import Leases
 from rb_broker_redis.protocol import SECOND
+from talker import Talker
 
 MINUTE, DAY = 60, 86_400  # seconds
 SHIM = Path(__file__).with_name("set_clock.c")
@@ -104,6 +105,20 @@ class SetClockTest(GatewayTest):
         last = int(talker.ask("OFFER 0 failing").split()[2])
         wait_until(lambda: watched.replicas[0].ask("ZCARD", f"{{{self.name}}}:due"), "the replica does not follow")
         watched.primary.kill()
+        self.assert_nothing_is_early(talker, last)
+
+    def test_a_queue_that_is_moved_to_a_node_whose_clock_is_behind(self) -> None:
+        clock = Clock(self.room, "clocks")
+        cluster = self.till_end(Cluster(self.room / "cluster", FORGETFUL, clock.environment))
+        talker = self.talker(self.gateway("--delay", "30s", "--timeout", "60s", redis=cluster.url))
+        last = int(talker.ask("OFFER 0 failing").split()[2])
+        clock.set(-MINUTE)
+        slot = cluster.slot_of(self.name)
+        cluster.move(slot, next(it for it in cluster.nodes if it is not cluster.owner_of(slot)))
+        self.assert_nothing_is_early(talker, last)
+
+    def assert_nothing_is_early(self, talker: Talker, last: int) -> None:
+        """A job that was offered at this moment, and fails now, comes back as late as another with that delay."""
         expiry = int(talker.ask(f"OFFER {30 * SECOND} a").split()[2])
         self.assertGreaterEqual(expiry, last + 30 * SECOND)
         self.assert_talk(talker, "POLL = ITEM .* 1 failing", r"FAIL 0 = AGAIN 2 \d+", "POLL = NONE", "SIZE = SIZE 2")

@@ -6,6 +6,7 @@ import time
 from gateway_test import GatewayTest
 from judging import replay_chains
 from nodes import wait_until
+from rb_broker_redis.address import read_address
 
 MILLISECOND = 1_000_000
 
@@ -132,7 +133,7 @@ class EndsTest(GatewayTest):
         talker = self.talker(served)
         self.addCleanup(self.node.ask, "CONFIG", "SET", "maxmemory-policy", "noeviction")
         self.node.ask("CONFIG", "SET", "maxmemory-policy", "allkeys-lru")
-        self.assert_refused(3, f"{self.node.url}: its maxmemory-policy allkeys-lru may throw queues away: set noeviction"
+        self.assert_refused(3, f"{read_address(self.node.url)}: its maxmemory-policy allkeys-lru may throw queues away: set noeviction"
                             " there, or say --allow-eviction", "serve", "--port", 0)
         self.assert_talk(self.talker(self.gateway("--allow-eviction")), "SIZE = SIZE 0")
         self.node.ask("CLIENT", "KILL", "TYPE", "normal")  # as where another node takes over

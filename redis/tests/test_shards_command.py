@@ -11,7 +11,9 @@ from redis_test import SEAT, RedisTest
 JOBS = 300
 
 
-class ShardsCommandTest(RedisTest):
+class ShardsTest(RedisTest):
+    """What is needed to move jobs to other queues."""
+
     def queues(self, count: int) -> list[Queue]:
         return [self.queue(it) for it in shard_names(self.name, count)]
 
@@ -67,6 +69,8 @@ class ShardsCommandTest(RedisTest):
         for path in sorted((self.room / "archive").iterdir()):
             replay_chains(path, 0, 2)
 
+
+class ShardsCommandTest(ShardsTest):
     def test_fewer(self) -> None:
         self.assert_moved(4, 2)
 
