@@ -3,6 +3,7 @@ import contextlib
 import logging
 import os
 import re
+import signal
 import socket
 import tempfile
 import threading
@@ -141,6 +142,22 @@ def wait_for(is_so):
     while not is_so() and time.monotonic() < deadline:
         time.sleep(0.01)
     return is_so()
+
+
+def fork(function):
+    """Calls this in a forked process, whose exit status is what it gives. Gives the process."""
+    if child := os.fork():
+        return child
+    try:
+        signal.alarm(PATIENCE)
+        os._exit(function())
+    finally:
+        os._exit(99)
+
+
+def status_of(child):
+    """The exit status of a process, once it has ended."""
+    return os.waitstatus_to_exitcode(os.waitpid(child, 0)[1])
 
 
 def free_port():

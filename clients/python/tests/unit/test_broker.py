@@ -2,16 +2,13 @@
 import functools
 import io
 import json
-import os
-import signal
 import socket
 import threading
 import time
-import unittest
 import unittest.mock
 
 from from_threads import for_both_kinds, settle
-from scripted import PATIENCE, ScriptedTest, free_port
+from scripted import PATIENCE, ScriptedTest, fork, free_port, status_of
 from rb_broker_client import (
     Again, AsyncBroker, AsyncProducer, Broker, DisconnectedError, FullError, Job, NotHeldError, Offered, Producer,
     Request, StoppedError, UnknownReplyError, Worker,
@@ -103,6 +100,22 @@ class BrokerTest(BrokerCase):
         for it in (job, Job(5, 5, 1, "e")):
             for of_job in (it.done, it.fail):
                 self.assertRaises(NotHeldError, settle, broker, of_job)
+
+    def test_what_came_before_an_end_is_read_though_nothing_can_be_sent(self):
+        broker = self.connect("SIZE > SIZE 3; > hangs up")
+        for _ in range(4):  # the second is answered by a reset, and so nothing more can be sent
+            broker.post(Request.size())
+            time.sleep(0.1)
+        broker.receive()
+        broker.receive()
+        self.assertEqual(broker.received(), [3])
+        self.assertRaises(EndedError, broker.received)
+
+    def test_a_client_that_finds_itself_has_found_nobody(self):
+        port = free_port()
+        connect = functools.partial(socket.create_connection, source_address=("127.0.0.1", port))
+        with unittest.mock.patch("socket.create_connection", connect):
+            self.assertRaises(ConnectionRefusedError, self.kind, port)
 
     def test_a_lost_connection_is_known_once_its_end_has_come(self):
         broker = self.connect("SIZE > SIZE 3")
@@ -199,69 +212,19 @@ class RecordTest(BrokerCase):
         thread = threading.Thread(target=broker.size)
         thread.start()
         self.assertTrue(is_written.wait(PATIENCE))
-        child = os.fork()
-        if child == 0:
-            try:
-                signal.alarm(PATIENCE)
-                os._exit(Broker(port, record=self.file).size())
-            finally:
-                os._exit(99)
-        self.assertEqual(os.waitstatus_to_exitcode(os.waitpid(child, 0)[1]), 3)
+        self.assertEqual(status_of(fork(lambda: Broker(port, record=self.file).size())), 3)
         thread.join(PATIENCE)
         self.assertEqual(sorted(it["reply"][0] for it in self.lines()), ["SIZE 3", "SIZE 4"])
 
 
-class EndTest(unittest.TestCase):
-    def test_what_came_before_an_end_is_read_though_nothing_can_be_sent(self):
-        listener = socket.create_server(("127.0.0.1", 0))
-        self.addCleanup(listener.close)
-        with Broker(listener.getsockname()[1], patience=PATIENCE) as broker:
-            broker.post(Request.size())
-            connection, _ = listener.accept()
-            connection.recv(100)
-            connection.sendall(b"SIZE 3\n")
-            connection.close()
-            for _ in range(3):  # the second is answered by a reset, and so nothing more can be sent
-                time.sleep(0.1)
-                broker.post(Request.size())
-            broker.receive()
-            broker.receive()
-            self.assertEqual(broker.received(), [3])
-            self.assertRaises(EndedError, broker.received)
-
-
-class OwnPortTest(unittest.TestCase):
-    def test_a_client_that_finds_itself_has_found_nobody(self):
-        port = free_port()
-        connect = functools.partial(socket.create_connection, source_address=("127.0.0.1", port))
-        with unittest.mock.patch("socket.create_connection", connect):
-            self.assertRaises(ConnectionRefusedError, Broker, port)
-
-
 @for_both_kinds
-class ManyTest(unittest.TestCase):
-    """Requests in one piece of which a server keeps no more than it answers."""
-
-    COUNT = 80_000
-    kind = Broker
-
+class ManyTest(BrokerCase):
     def test_a_piece_of_any_size_waits_for_nobody(self):
-        listener = socket.create_server(("127.0.0.1", 0))
-        self.addCleanup(listener.close)
+        """A server keeps no more of the requests than it answers."""
+        greatest, count = 2**64 - 1, 80_000
+        server = self.play([(f"OFFER 0 {'a' * 64}", f"OFFERED {greatest} {greatest}")] * count)
         for size in (socket.SO_RCVBUF, socket.SO_SNDBUF):  # small, so that the system keeps little of what is sent
-            listener.setsockopt(socket.SOL_SOCKET, size, 32_768)
-        thread = threading.Thread(target=answer_each_line, args=(listener,), daemon=True)
-        thread.start()
-        with self.kind(listener.getsockname()[1], patience=PATIENCE) as broker:
-            answers = broker.ask_all([Request.offer("a" * 64)] * self.COUNT)
-        self.assertEqual(answers, [Offered(2**64 - 1, 2**64 - 1)] * self.COUNT)
-        thread.join(PATIENCE)
-
-
-def answer_each_line(listener):
-    """Serves one client, and reads a line only once the reply to the one before is written."""
-    connection, _ = listener.accept()
-    connection.settimeout(PATIENCE)
-    with connection, connection.makefile("rb") as lines:
-        for _ in lines:
-            connection.sendall(b"OFFERED %d %d\n" % (2**64 - 1, 2**64 - 1))
+            server._listener.setsockopt(socket.SOL_SOCKET, size, 32_768)
+        with self.kind(server.port, patience=PATIENCE) as broker:
+            answers = broker.ask_all([Request.offer("a" * 64)] * count)
+        self.assertEqual(answers, [Offered(greatest, greatest)] * count)

@@ -82,8 +82,9 @@ class CommandTest(ScriptedTest):
             self.assertRegex(errors, f"^rb_broker_client: 127.0.0.1:{port}: {told}\n$")
 
     def test_words_that_are_wrong(self):
-        rows = table("command.txt").splitlines()
-        for words in ([], ["offer", "0", "a\nCLEAR", "--port", "1"], *map(shlex.split, rows)):
+        rows = [it.split(" | ") for it in table("command.txt").splitlines()]
+        wrong = [shlex.split(f"{first} {it}") for first, *rest in rows for it in rest or [""]]
+        for words in ([], ["offer", "0", "a\nCLEAR", "--port", "1"], *wrong):
             with self.subTest(words=words):
                 status, said, errors = run(*words)
                 self.assertEqual((status, said), (2, ""))

@@ -1,12 +1,11 @@
 """A producer whose servers go away, are full, or have no memory."""
 import functools
-import os
 import threading
 import time
 import unittest.mock
 
 from from_threads import for_both_kinds
-from scripted import PATIENCE, ScriptedTest, free_port
+from scripted import PATIENCE, ScriptedTest, fork, free_port, status_of
 from rb_broker_client import (
     Broker, FullError, InDoubtError, NotOfferedError, Offered, OutOfMemoryError, Pauses, Producer, RefusedError,
 )
@@ -124,16 +123,13 @@ class SessionTest(ProducerCase):
     def offer_in_fork(self, producer):
         """Another process, which is forked, offers by this producer at another server, and closes it."""
         port = self.play(f"AT 0; {OFFER} > OFFERED 7 5").port  # a scripted server serves one at a time
-        child = os.fork()
-        if child == 0:
-            try:
-                producer._session_at = lambda _: Broker(port)
-                id = offer(producer).id
-                producer.close()
-                os._exit(id)
-            finally:
-                os._exit(99)
-        self.assertEqual(os.waitstatus_to_exitcode(os.waitpid(child, 0)[1]), 7)
+
+        def offer_there():
+            producer._session_at = lambda _: Broker(port)
+            with producer:
+                return offer(producer).id
+
+        self.assertEqual(status_of(fork(offer_there)), 7)
 
     def test_a_process_that_is_forked_while_another_thread_offers(self):
         is_asked, may_answer, told = threading.Event(), threading.Event(), []

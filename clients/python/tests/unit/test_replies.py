@@ -2,6 +2,7 @@
 import unittest
 from datetime import timedelta
 from fractions import Fraction
+from itertools import product
 
 from scripted import table
 from rb_broker_client import BrokerError, Job, Request
@@ -35,16 +36,16 @@ class ReplyTest(unittest.TestCase):
     """What is sent, or refused before it is, and what is read."""
 
     def test_each_request_and_its_replies(self):
-        rows = [it.split(" | ") for it in table("replies.txt").splitlines()]
-        for line, reply, told in ((it, *rest) for lines, *rest in rows for it in lines.split(" & ")):
-            with self.subTest(line=line, reply=reply):
-                request = request_of(line)
-                self.assertEqual(str(request), line)
-                try:
-                    heard = answer(request, *reply.encode().decode("unicode_escape").split(", "))
-                except BrokerError as fault:
-                    heard = fault
-                self.assertIn(told, (repr(heard), type(heard).__name__))
+        for lines, told, *replies in (it.split(" | ") for it in table("replies.txt").splitlines()):
+            for line, reply in product(lines.split(" & "), replies):
+                with self.subTest(line=line, reply=reply):
+                    request = request_of(line)
+                    self.assertEqual(str(request), line)
+                    try:
+                        heard = answer(request, *reply.encode().decode("unicode_escape").split(", "))
+                    except BrokerError as fault:
+                        heard = fault
+                    self.assertIn(told.replace("*", reply), (repr(heard), type(heard).__name__))
 
     def test_durations_are_seconds_or_a_timedelta(self):
         for delay, told in (

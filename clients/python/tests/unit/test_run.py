@@ -15,9 +15,9 @@ from rb_broker_client.run import Run
 
 class RunTest(unittest.TestCase):
     def test_which_sights_tell(self):
-        for why, _, sights in paragraphs("sights.txt"):
+        for why, _, lines in paragraphs("sights.txt"):
             run = Run(log := Mock(), "a place")
-            for number, sight in enumerate(sights):
+            for number, sight in enumerate(" | ".join(lines).split(" | ")):
                 method, *ids = sight.removesuffix(" lost").split()
                 words = [*map(int, ids)]
                 with self.subTest(why, number=number):

@@ -9,7 +9,7 @@ import unittest.mock
 from datetime import datetime, timedelta, timezone
 from pathlib import Path
 
-from scripted import ScriptedTest, free_port, wait_for
+from scripted import ScriptedTest, fork, free_port, wait_for
 from test_command import run
 from rb_broker_client import Greeting, Job, Report, waiting
 from rb_broker_client.task_runners import Processes
@@ -212,20 +212,13 @@ class TasksTest(ScriptedTest):
         """Whatever its tasks do."""
         pids, hangs = Path(f"{self.path}.pids"), lambda threads, owner: (self.write_pid(pids), time.sleep(60))
         with unittest.mock.patch.object(self.app, "_run", hangs):
-            parent = os.fork() or self.run_processes(pids)
+            parent = fork(lambda: (self.write_pid(pids), self.app.run(1, processes=1)))
         told = lambda: pids.read_text().split() if pids.exists() else ()
         self.assertTrue(wait_for(lambda: len(told()) == 2))
         os.kill(parent, signal.SIGKILL)
         os.waitpid(parent, 0)
         stat = Path(f"/proc/{told()[1]}/stat")
         self.assertTrue(wait_for(lambda: not stat.exists() or stat.read_text().split(") ")[1][0] == "Z"))
-
-    def run_processes(self, pids):
-        try:
-            self.write_pid(pids)
-            self.app.run(1, processes=1)
-        finally:
-            os._exit(0)
 
     def write_pid(self, path):
         with open(path, "a") as file:

@@ -9,7 +9,7 @@ import time
 import unittest.mock
 
 from from_threads import for_both_kinds
-from scripted import PATIENCE, free_port
+from scripted import PATIENCE, fork, free_port, status_of
 from worker_case import A, GIVES_A, GIVES_B, LAST, WorkerCase
 from rb_broker_client import AsyncWorker, Job, Pauses, Report, UnknownReplyError, Worker
 
@@ -209,17 +209,8 @@ class ForkTest(WorkerCase):
         """If no stop ends a process another signal does."""
         worker = Worker(self.handle, free_port(), pauses=Pauses(60.0, 60.0))
         self.addCleanup(signal.signal, signal.SIGTERM, signal.signal(signal.SIGTERM, worker.stop))
-        children = [os.fork() or self.run_in_child(worker) for _ in range(4)]
+        children = [fork(lambda: 7 if worker.run() == Report() else 8) for _ in range(4)]
         time.sleep(0.5)
         for child in children:
             os.kill(child, signal.SIGTERM)
-        ended = [os.waitstatus_to_exitcode(os.waitpid(child, 0)[1]) for child in children]
-        self.assertEqual(ended, [7] * 4)
-
-    def run_in_child(self, worker):
-        try:
-            signal.alarm(PATIENCE)
-            worker.run()
-            os._exit(7)
-        finally:
-            os._exit(99)
+        self.assertEqual([*map(status_of, children)], [7] * 4)

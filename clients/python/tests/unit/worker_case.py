@@ -54,10 +54,11 @@ class WorkerCase(ScriptedTest):
 
     def assert_scripts(self, name, **options):
         """The workers of this table, with these options too, make the reports that it says."""
-        for why, own, (*sessions, reports) in paragraphs(name):
+        for title, own, sessions in paragraphs(name):
+            why, _, counts = title.partition(" => ")
             with self.subTest(why):
-                report = Report(**values(reports.removeprefix("reports")))
-                self.assert_reports(report, *[it.removeprefix("- ") for it in sessions], **options, **own)
+                sessions = [it.removeprefix("- ") for it in sessions]
+                self.assert_reports(Report(**values(counts)), *sessions, **options, **own)
 
     def handle(self, job):
         self.handled.append(job)
