@@ -1,11 +1,13 @@
 """The hostile day of the Python package with workers and a producer of the Java package, in processes of their own.
 
-All clients go through a proxy, whose record is compared with the histories. RB_BROKER_CLASSES is the path of the
-classes.
+All clients go through a proxy, whose record is compared with the histories. The classes are compiled for the day alone,
+so that nothing else takes them away.
 """
-import os
+import functools
 import subprocess
+import tempfile
 from collections import defaultdict
+from pathlib import Path
 
 import test_hostile_day
 import test_rollovers
@@ -14,11 +16,21 @@ from server import PATIENCE, start
 
 TOLD = {"took": "ITEM", "done": "DONE", "failed": "AGAIN", "back": "ERR", "gone": "ERR", "doubt": "nothing"}
 SAVING = ("-Xmx64m", "-XX:TieredStopAtLevel=1", "-XX:+UseSerialGC")
+CLIENT = Path(__file__).resolve().parents[2]
+
+
+@functools.cache
+def classes():
+    """The folder of the package's classes and of those that this day starts, until this process ends."""
+    room = tempfile.TemporaryDirectory(prefix="rb-day-")
+    sources = [*CLIENT.glob("src/rbbroker/**/*.java"), *CLIENT.glob("tests/rbbroker/client/Hostile*.java")]
+    subprocess.run(["javac", "-d", room.name, *sources], check=True)
+    return room
 
 
 def start_java(name, *words):
     """Starts a class of the package's tests."""
-    words = ["java", *SAVING, "-cp", os.environ["RB_BROKER_CLASSES"], f"rbbroker.client.{name}", *map(str, words)]
+    words = ["java", *SAVING, "-cp", classes().name, f"rbbroker.client.{name}", *map(str, words)]
     return start(words, stdin=subprocess.PIPE, encoding="ascii")
 
 
@@ -45,6 +57,7 @@ class JavaDayTest(test_hostile_day.HostileDayTest):
 
     def setUp(self):
         super().setUp()
+        classes()
         self.notes, self.proxy = [], None
 
     @property
@@ -55,7 +68,8 @@ class JavaDayTest(test_hostile_day.HostileDayTest):
         super().serve_next(calls)
         if self.proxy is None:
             self.proxy = RecordingProxy(self.server.port, self.record("proxy"))
-            self.addCleanup(self.proxy.close)
+            self.addCleanup(self.proxy.server_close)
+            self.addCleanup(self.proxy.shutdown)
 
     def start_worker(self, _):
         self.notes.append(f"{self.room}/notes-{len(self.notes)}")
@@ -67,8 +81,8 @@ class JavaDayTest(test_hostile_day.HostileDayTest):
                 {"offered": self.offered, "doubted": self.doubted}[what].append(int(number))
         self.assertEqual(producer.returncode, 0)
 
-    async def produce_async(self):
-        """There is one way to offer."""
+    def producers(self):
+        return [self.produce]
 
     def told(self):
         return noted_in(self.notes), noted_in(self.killed)

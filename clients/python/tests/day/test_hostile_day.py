@@ -14,6 +14,7 @@ import subprocess
 import sys
 import threading
 import time
+from functools import partial
 
 from history import History
 from nuisance import Nuisance
@@ -31,6 +32,8 @@ PAUSE = 0.03  # seconds at most between two offers of a producer
 
 class WorkerProcess:
     """The package's command as a worker, with a record of its own."""
+
+    is_killed = False
 
     def __init__(self, handler, port, record):
         self.record, self.handler = record, handler
@@ -50,7 +53,13 @@ class WorkerProcess:
         """Whether a signal ends it in good order, as it does once it has asked something."""
         return self.has_begun
 
+    @property
+    def has_died(self):
+        """Whether it has ended, and nobody killed it."""
+        return self._process.poll() is not None and not self.is_killed
+
     def kill(self):
+        self.is_killed = True
         self._process.kill()
         self._process.communicate()
 
@@ -69,7 +78,7 @@ class HostileDayTest(ServedTest):
     def setUp(self):
         super().setUp()
         self.histories, self.began, self.records, self.killed = [], [], [], []
-        self.offered, self.doubted, self.lost = [], [], 0
+        self.workers, self.offered, self.doubted, self.lost = [], [], [], 0
         self.is_over = threading.Event()
 
     def test_each_job_is_done_once_or_named(self):
@@ -78,7 +87,7 @@ class HostileDayTest(ServedTest):
         nuisances = [Nuisance(self.port, is_silent) for is_silent in (True, True, False, False)]
         self.workers = [self.start_worker(it) for it in self.handlers]
         self.addCleanup(lambda: [it.kill() for it in self.workers])
-        producers = [self.begin(self.produce), self.begin(lambda: asyncio.run(self.produce_async()))]
+        producers = [*map(self.begin, self.producers())]
         killer = self.begin(self.kill_now_and_then)
         self.addCleanup(self.is_over.set)
         self.change_servers()
@@ -145,29 +154,23 @@ class HostileDayTest(ServedTest):
                 self.killed.append(worker.record)
                 self.workers[place] = self.start_worker(worker.handler)
 
-    def options(self):
-        return {"patience": LONGEST, "pauses": Pauses(0.05, 0.5),
-                "record": open(self.record("producer"), "a", encoding="ascii")}
+    def producers(self):
+        """What offer all jobs, each in a thread."""
+        return partial(self.offer_half, Producer, 0), partial(self.offer_half, AsyncProducer, 1)
 
-    def produce(self):
-        with Producer(self.port, **self.options()) as producer:
-            for number in range(0, JOBS, 2):
+    def offer_half(self, kind, first):
+        """Offers each second job by a producer of this kind, whose offers a loop may have to run."""
+        with open(self.record("producer"), "a", encoding="ascii") as record, asyncio.Runner() as loop:
+            producer = kind(self.port, patience=LONGEST, pauses=Pauses(0.05, 0.5), record=record)
+            settle = loop.run if kind is AsyncProducer else lambda answer: answer
+            for number in range(first, JOBS, 2):
                 try:
-                    producer.offer(str(number), delay=random.choice(DELAYS))
+                    settle(producer.offer(str(number), delay=random.choice(DELAYS)))
                     self.offered.append(number)
                 except InDoubtError:
                     self.doubted.append(number)
                 time.sleep(random.uniform(0, PAUSE))
-
-    async def produce_async(self):
-        async with AsyncProducer(self.port, **self.options()) as producer:
-            for number in range(1, JOBS, 2):
-                try:
-                    await producer.offer(str(number), delay=random.choice(DELAYS))
-                    self.offered.append(number)
-                except InDoubtError:
-                    self.doubted.append(number)
-                await asyncio.sleep(random.uniform(0, PAUSE))
+            settle(producer.close())
 
     def size(self):
         """How many elements are in the queue, or None if the run is full. Takes its time, as each takes a session."""
@@ -177,6 +180,13 @@ class HostileDayTest(ServedTest):
                 return broker.size()
             except FullError:
                 return None
+
+    def wait_until(self, is_so, seconds=PATIENCE):
+        """Waits for nothing once a worker has died by itself, or something has failed in a thread."""
+        super().wait_until(lambda: self.assert_goes_on() or is_so(), seconds)
+
+    def assert_goes_on(self):
+        self.assertEqual((self.faults, [it.record for it in self.workers if it.has_died]), ([], []))
 
     def is_empty(self):
         """Whether the queue is empty for a while. A job that is held is not in it, and comes back if its worker is
