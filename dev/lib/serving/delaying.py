@@ -3,16 +3,18 @@
 As a program it serves until it is ended: delaying.py PORT MILLISECONDS, which are those of a round trip.
 """
 import asyncio
+import ssl
 import sys
 import threading
 from collections.abc import Awaitable, Callable
 
 
 class DelayingProxy:
-    """Leads from a free port of 127.0.0.1 to this port of it. A round trip takes so many seconds more."""
+    """Leads from a free port of 127.0.0.1 to this port of it. A round trip takes so many seconds more. With a context
+    its own port has TLS."""
 
-    def __init__(self, port: int, round_trip: float) -> None:
-        self._to, self._delay = port, round_trip / 2
+    def __init__(self, port: int, round_trip: float, tls: ssl.SSLContext | None = None) -> None:
+        self._to, self._delay, self._tls = port, round_trip / 2, tls
         self._loop, self._listens = asyncio.new_event_loop(), threading.Event()
         self._thread = threading.Thread(target=self._loop.run_until_complete, args=[self._serve()], daemon=True)
         self._thread.start()
@@ -29,7 +31,8 @@ class DelayingProxy:
 
     async def _serve(self) -> None:
         self._is_over = asyncio.Event()
-        server = await asyncio.get_running_loop().create_server(lambda: _Side(self._connect, self._delay), "127.0.0.1")
+        server = await asyncio.get_running_loop().create_server(
+            lambda: _Side(self._connect, self._delay), "127.0.0.1", ssl=self._tls)
         self.port = server.sockets[0].getsockname()[1]
         self._listens.set()
         await self._is_over.wait()

@@ -3,26 +3,30 @@ import collections
 import contextlib
 import itertools
 import socket
+import socketserver
 import struct
 import threading
 import time
 
-from encryption import Proxy
 from serving.recorded import Broken, RecordedSession
 
 
-class RecordingProxy(Proxy):
+class RecordingProxy(socketserver.ThreadingTCPServer):
     """To the server at another port this is the client, so its record is whole even if a client behind it is killed."""
+
+    daemon_threads, request_queue_size = True, 100
 
     def __init__(self, target, record):
         self._target, self._names, self._lock = target, itertools.count(1), threading.Lock()
         self._record = open(record, "w", encoding="ascii", buffering=1)
-        super().__init__(target, None)
+        super().__init__(("127.0.0.1", 0), None)
+        self.port = self.server_address[1]
+        threading.Thread(target=self.serve_forever, daemon=True).start()
 
-    def _carry(self, client):
+    def finish_request(self, client, _):
         client.setsockopt(socket.IPPROTO_TCP, socket.TCP_NODELAY, 1)
         name = f"s{next(self._names)}"
-        with client, contextlib.suppress(Broken), Dialogue(client, self._target, name, self._note) as it:
+        with contextlib.suppress(Broken), Dialogue(client, self._target, name, self._note) as it:
             if it.own_port != self._target:  # else nobody listens, and it found itself
                 it.follow()
 

@@ -1,11 +1,11 @@
 """A client that is silent or lies, in one session after the other."""
+import contextlib
 import random
-import socket
-import struct
 import threading
 import time
 
-from crew import PATIENCE
+from serving import PATIENCE
+from serving.session import Session
 
 NOISE = ("", "done 0", "OFFER 05 a", "OFFER 0", f"OFFER 0 {'x' * 65}", "OFFER 0 a b", "DONE -1", "POLL 1", "\0\1\2",
          "x" * 300, "AT 7", "GET / HTTP/1.1", "TAKE TAKE", "FAIL 99999999999999999999", "DRAIN -1",
@@ -30,32 +30,27 @@ class Nuisance(threading.Thread):
 
     def run(self):
         while not self._is_over.wait(random.uniform(0.2, 1)):
-            try:
-                with socket.create_connection(("127.0.0.1", self._port), PATIENCE) as connection:
-                    if connection.getsockname()[1] != self._port:  # nobody listens, and it found itself
-                        self.sessions += 1
-                        (self._be_silent if self._is_silent else self._lie)(connection)
-            except OSError:
-                pass  # the server ends, or another follows it
+            # A server that ends the session ends, or another follows it.
+            with contextlib.suppress(OSError, EOFError), Session(self._port) as session:
+                if session.own_port != self._port:  # nobody listens, and it found itself
+                    self.sessions += 1
+                    (self._be_silent if self._is_silent else self._lie)(session)
 
-    def _be_silent(self, connection):
+    def _be_silent(self, session):
         time.sleep(random.uniform(0, 0.8))
-        connection.sendall(b"OFF"[:random.randrange(4)])
+        session.socket.sendall(b"OFF"[:random.randrange(4)])
         time.sleep(random.uniform(0, 0.2))
 
-    def _lie(self, connection):
+    def _lie(self, session):
         """Says what means nothing or is not so, and leaves with a job if there is one, in good order or not."""
-        replies = connection.makefile("rb")
-
-        def ask(request):
-            connection.sendall(f"{request}\n".encode())
-            reply = replies.readline()
-            return replies.readline() if reply.startswith(b"RUN ") else reply  # a service greets first
-
         for said in random.sample(NOISE, 8):
-            reply = ask(said)
-            if not reply.startswith(b"ERR ") and reply:
+            session.send(said)
+            reply = session.line()
+            if reply.startswith("RUN "):  # a service greets first
+                reply = session.line()
+            if not reply.startswith("ERR "):
                 self.wrong.append((said, reply))
-        ask("POLLFOR 1000000")
+        session.send("POLLFOR 1000000")
+        session.line()
         if random.random() < 0.5:
-            connection.setsockopt(socket.SOL_SOCKET, socket.SO_LINGER, struct.pack("ii", 1, 0))
+            session.reset()

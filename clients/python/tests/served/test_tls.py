@@ -12,12 +12,13 @@ import types
 import unittest
 from pathlib import Path
 
-from encryption import Certificates, Proxy
+from encryption import Certificates
 from scripted import free_port
 from rb_broker_client import (
     AsyncBroker, Broker, NotOfferedError, Offered, Pauses, Producer, Report, Request, Worker,
 )
 from server import PATIENCE, TOP, ServedTest, start
+from serving.delaying import DelayingProxy
 
 JOBS = 200
 REFUSED = "(?i)alert|reset|closed|broken pipe|EOF"
@@ -40,7 +41,7 @@ class TlsTest(ServedTest):
         return self.proxy(server.port, certificate)
 
     def proxy(self, port, certificate):
-        proxy = Proxy(port, self.certificates.server(certificate))
+        proxy = DelayingProxy(port, 0, self.certificates.server(certificate))
         self.addCleanup(proxy.close)
         return proxy
 
