@@ -5,8 +5,9 @@ import inspect
 import sys
 import threading
 
+import rb_broker_client
 from scripted import PATIENCE
-from rb_broker_client import AsyncBroker, AsyncProducer, AsyncWorker, Broker, Producer, Worker
+from rb_broker_client import AsyncBroker, AsyncWorker
 
 
 class FromThreads:
@@ -34,15 +35,13 @@ def settle(client, of_job):
     return client._run(of_job()) if isinstance(client, FromThreads) else of_job()
 
 
-def broker(run, *words, **options):
-    """A broker, which connects at once as the other kind does."""
-    return FromThreads(run, AsyncBroker(*words, **options)).__enter__()
-
-
-def worker(run, handler, *words, on_dead=None, **options):
-    """A worker whose handlers are functions, which run in threads of their own."""
-    on_dead = on_dead and in_thread(on_dead)
-    return FromThreads(run, AsyncWorker(in_thread(handler), *words, on_dead=on_dead, **options))
+def made(run, kind, *words, **options):
+    """A client, which runs in a loop: a broker connects at once, and handlers of a worker are functions."""
+    if kind is AsyncWorker:
+        words = in_thread(words[0]), *words[1:]
+        options = {name: in_thread(it) if name == "on_dead" and it else it for name, it in options.items()}
+    client = FromThreads(run, kind(*words, **options))
+    return client.__enter__() if kind is AsyncBroker else client
 
 
 def in_thread(function):
@@ -51,7 +50,7 @@ def in_thread(function):
 
 
 class LoopCase:
-    """A test whose client is one of asyncio. `made` makes it."""
+    """A test whose client is one of asyncio, of the kind `of`."""
 
     def setUp(self):
         loop = asyncio.new_event_loop()
@@ -60,14 +59,13 @@ class LoopCase:
         for end in (loop.close, lambda: thread.join(PATIENCE), lambda: loop.call_soon_threadsafe(loop.stop)):
             self.addCleanup(end)
         run = lambda coroutine: asyncio.run_coroutine_threadsafe(coroutine, loop).result(10 * PATIENCE)
-        self.kind = functools.partial(self.made, run)
+        self.kind = functools.partial(made, run, self.of)
         super().setUp()
 
 
 def for_both_kinds(case):
     """Adds to the module of this test case one of the same tests, whose client is that of asyncio."""
-    producer = lambda run, *words, **options: FromThreads(run, AsyncProducer(*words, **options))
-    made = {Broker: broker, Producer: producer, Worker: worker}[case.kind]
-    twin = type(f"Async{case.__name__}", (LoopCase, case), {"__module__": case.__module__, "made": staticmethod(made)})
+    members = {"__module__": case.__module__, "of": getattr(rb_broker_client, f"Async{case.kind.__name__}")}
+    twin = type(f"Async{case.__name__}", (LoopCase, case), members)
     setattr(sys.modules[case.__module__], twin.__name__, twin)
     return case

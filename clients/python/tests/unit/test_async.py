@@ -2,36 +2,31 @@
 import asyncio
 import contextvars
 import threading
+import unittest
 
 from scripted import PATIENCE, ScriptedTest, free_port
 from worker_case import A, GIVES_A
 from rb_broker_client import AsyncBroker, AsyncProducer, AsyncWorker, Offered, Report
 
 
-class CancelTest(ScriptedTest):
+class CancelTest(ScriptedTest, unittest.IsolatedAsyncioTestCase):
     """Tasks that are cancelled."""
 
-    def test_nothing_can_be_asked_while_the_reply_to_another_is_due(self):
-        async def run(port):
-            async with AsyncBroker(port, patience=PATIENCE) as broker:
-                with self.assertRaises(TimeoutError):
-                    await asyncio.wait_for(broker.take(), 0.05)
-                with self.assertRaises(RuntimeError):
-                    await broker.size()
+    async def test_nothing_can_be_asked_while_the_reply_to_another_is_due(self):
+        async with AsyncBroker(self.play("TAKE > nothing").port, patience=PATIENCE) as broker:
+            with self.assertRaises(TimeoutError):
+                await asyncio.wait_for(broker.take(), 0.05)
+            with self.assertRaises(RuntimeError):
+                await broker.size()
 
-        asyncio.run(run(self.play("TAKE > nothing").port))
-
-    def test_the_next_offer_begins_another_session(self):
-        async def run(port):
-            async with AsyncProducer(port, patience=PATIENCE) as producer:
-                with self.assertRaises(TimeoutError):
-                    await asyncio.wait_for(producer.offer("a", delay=5e-9), 2)
-                return await producer.offer("b", delay=5e-9)
-
+    async def test_the_next_offer_begins_another_session(self):
         server = self.play("AT 0; OFFER 5 a > nothing", "AT 0; OFFER 5 b > OFFERED 1 5")
-        self.assertEqual(asyncio.run(run(server.port)), Offered(1, 5))
+        async with AsyncProducer(server.port, patience=PATIENCE) as producer:
+            with self.assertRaises(TimeoutError):
+                await asyncio.wait_for(producer.offer("a", delay=5e-9), 2)
+            self.assertEqual(await producer.offer("b", delay=5e-9), Offered(1, 5))
 
-    def make_hanging(self, port, **options):
+    def make_hanging(self, steps, **options):
         """A worker whose handler ends once it is cancelled."""
         async def handle(job):
             try:
@@ -40,40 +35,34 @@ class CancelTest(ScriptedTest):
                 self.ended.append(job.payload)
                 self.worker.stop()
 
-        self.ended, self.worker = [], AsyncWorker(handle, port, **options)
+        self.ended, self.worker = [], AsyncWorker(handle, self.play(f"AT 0; {GIVES_A}; {steps}").port, **options)
         return self.worker
 
-    def test_the_task_of_a_job_that_takes_longer(self):
-        port = self.play(f"AT 0; {GIVES_A}; FAIL 0 > AGAIN 1 5; QUIT").port
-        self.assertEqual(asyncio.run(self.make_hanging(port, timeout=0.5).run()), Report(again=1))
-        self.assertEqual(self.ended, ["a"])
+    async def test_the_task_of_a_job_that_takes_longer(self):
+        worker = self.make_hanging("FAIL 0 > AGAIN 1 5; QUIT", timeout=0.5)
+        self.assertEqual((await worker.run(), self.ended), (Report(again=1), ["a"]))
 
-    def test_a_worker_ends_its_session_and_its_jobs(self):
-        async def run(port):
-            working = asyncio.ensure_future(self.make_hanging(port, concurrency=2).run())
-            await asyncio.get_running_loop().run_in_executor(None, is_waiting.wait, PATIENCE)
-            working.cancel()
-            with self.assertRaises(asyncio.CancelledError):
-                await working
-            return [*self.ended]
-
+    async def test_a_worker_ends_its_session_and_its_jobs(self):
         is_waiting = threading.Event()
         self.waits = lambda _: is_waiting.set()
-        server = self.play(f"AT 0; {GIVES_A}; BRIEF > waits: nothing")
-        self.assertEqual(asyncio.run(run(server.port)), ["a"])
+        working = asyncio.ensure_future(self.make_hanging("BRIEF > waits: nothing", concurrency=2).run())
+        await asyncio.to_thread(is_waiting.wait, PATIENCE)
+        working.cancel()
+        with self.assertRaises(asyncio.CancelledError):
+            await working
+        self.assertEqual(self.ended, ["a"])
 
-    def test_a_handler_that_is_cancelled_has_failed(self):
+    async def test_a_handler_that_is_cancelled_has_failed(self):
         async def handle(job):
             worker.stop()
             raise asyncio.CancelledError
 
-        server = self.play(f"AT 0; {GIVES_A}; FAIL 0 > AGAIN 1 5; QUIT")
-        worker = AsyncWorker(handle, server.port)
-        self.assertEqual(asyncio.run(worker.run()), Report(again=1))
+        worker = AsyncWorker(handle, self.play(f"AT 0; {GIVES_A}; FAIL 0 > AGAIN 1 5; QUIT").port)
+        self.assertEqual(await worker.run(), Report(again=1))
 
 
-class TaskTest(ScriptedTest):
-    def test_each_job_is_a_task_of_its_own_in_the_context_of_the_worker(self):
+class TaskTest(ScriptedTest, unittest.IsolatedAsyncioTestCase):
+    async def test_each_job_is_a_task_of_its_own_in_the_context_of_the_worker(self):
         """What a handler sets is not seen by the next, though that begins when this one ends."""
         seen, word, tasks = [], contextvars.ContextVar("word", default="unset"), []
 
@@ -84,16 +73,12 @@ class TaskTest(ScriptedTest):
             if len(seen) == 3:
                 worker.stop()
 
-        async def run():
-            word.set("of the worker")
-            return await worker.run()
-
-        server = self.play(f"AT 0; {A}; {A}; {A}; QUIT")
-        worker = AsyncWorker(handle, server.port)
-        self.assertEqual(asyncio.run(run()), Report(done=3))
+        worker = AsyncWorker(handle, self.play(f"AT 0; {A}; {A}; {A}; QUIT").port)
+        word.set("of the worker")
+        self.assertEqual(await worker.run(), Report(done=3))
         self.assertEqual((seen, len({*tasks})), (["of the worker"] * 3, 3))
 
-    def test_what_ends_at_once_is_told_in_one_piece_and_its_place_is_free(self):
+    async def test_what_ends_at_once_is_told_in_one_piece_and_its_place_is_free(self):
         async def handle(job):
             handled.append(job.payload)
 
@@ -102,13 +87,10 @@ class TaskTest(ScriptedTest):
         server = self.play(f"AT 0; {A}; DRAIN 2 > DRAINED 2, ITEM 1 0 1 b, ITEM 2 0 1 c; DONE 1; DONE 2; "
                            "DRAIN 2 > stops: DRAINED 0; QUIT")
         worker = AsyncWorker(handle, server.port, concurrency=2)
-        self.assertEqual(asyncio.run(worker.run()), Report(done=3))
-        self.assertEqual(handled, ["a", "b", "c"])
+        self.assertEqual((await worker.run(), handled), (Report(done=3), ["a", "b", "c"]))
 
-
-class UseTest(ScriptedTest):
-    """What is no use of a client."""
-
-    def test_a_broker_before_it_is_connected_and_without_a_server(self):
-        self.assertRaises(RuntimeError, asyncio.run, AsyncBroker(7011).size())
-        self.assertRaises(ConnectionRefusedError, asyncio.run, AsyncBroker(free_port()).__aenter__())
+    async def test_a_broker_before_it_is_connected_and_without_a_server(self):
+        with self.assertRaises(RuntimeError):
+            await AsyncBroker(7011).size()
+        with self.assertRaises(ConnectionRefusedError):
+            await AsyncBroker(free_port()).__aenter__()

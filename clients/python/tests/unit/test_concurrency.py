@@ -30,25 +30,17 @@ class OrderTest(ConcurrencyCase):
 
 
 class ThreadsTest(ConcurrencyCase):
-    def test_a_handler_that_ends_the_program_ends_the_worker(self):
-        def leave(job):
-            self.jobs(job)
-            sys.exit(3)
-
-        with self.assertRaises(SystemExit) as ended:
-            self.work(f"{GIVES_A}; BRIEF > ends a: nothing", handler=leave).run()
-        self.assertEqual(ended.exception.code, 3)
-
-    def test_the_jobs_beside_it_end_and_are_told(self):
+    def test_a_handler_that_ends_the_program_ends_the_worker_and_jobs_beside_it_end_and_are_told(self):
         def leave(job):
             self.jobs(job)
             if job.payload == "a":
                 threading.Timer(LIMIT, self.jobs.end, "c").start()
                 sys.exit(3)
 
-        with self.assertRaises(SystemExit):
-            self.work(f"{GIVES_A}; BRIEF > beside c a: ITEM 1 0 1 c; DONE 1", handler=leave).run()
-        self.assertEqual(self.worker.report, Report(done=1, unheard=1))
+        for beside, done in (("ends a: nothing", 0), ("beside c a: ITEM 1 0 1 c; DONE 1", 1)):
+            with self.assertRaises(SystemExit) as ended:
+                self.work(f"{GIVES_A}; BRIEF > {beside}", handler=leave).run()
+            self.assertEqual((ended.exception.code, self.worker.report), (3, Report(done=done, unheard=1)))
 
     def test_dead_jobs_are_told_in_the_threads(self):
         told, is_over = [], threading.Event()

@@ -15,7 +15,7 @@ from rb_broker_client.run import Run
 
 class RunTest(unittest.TestCase):
     def test_which_sights_tell(self):
-        for why, _, lines in paragraphs("sights.txt"):
+        for why, _, _, lines in paragraphs("sights.txt"):
             run = Run(log := Mock(), "a place")
             for number, sight in enumerate(" | ".join(lines).split(" | ")):
                 method, *ids = sight.removesuffix(" lost").split()

@@ -1,5 +1,6 @@
 """Tasks in this process, at moments that the tests set, and what is in their file."""
 import asyncio
+import contextlib
 import os
 import signal
 import sqlite3
@@ -7,13 +8,18 @@ import threading
 import time
 import unittest.mock
 from datetime import datetime, timedelta, timezone
+from functools import partial
 from pathlib import Path
+from runpy import run_path
 
+import pytest
 from scripted import ScriptedTest, fork, free_port, wait_for
 from test_command import run
 from rb_broker_client import Greeting, Job, Report, waiting
 from rb_broker_client.task_runners import Processes
 from rb_broker_client.tasks import Middleware, RetryLater, Tasks, exponential
+
+EXAMPLES = run_path(str(Path(__file__).parents[2] / "examples/middleware.py"))
 
 app = None  # that of a test, for the command
 
@@ -159,32 +165,61 @@ class TasksTest(ScriptedTest):
 
     def test_middleware_is_told_of_each_attempt_and_changes_nothing(self):
         told = []
-
-        class Told(Middleware):
-            def __init__(self, name):
-                self.name = name
-
-            def __getattribute__(self, what):
-                name = object.__getattribute__(self, "name")
-                if what in ("before", "after", "failed"):
-                    return lambda task, *fault: told.append((name, what, task.name, *map(str, fault)))
-                return name
-
-        self.app.use(Told("one"), Middleware(), Told("other"))
+        note = lambda name, what, task, *fault: told.append(" ".join([name, what, task.name, *map(str, fault)]))
+        tells = lambda name: unittest.mock.Mock(**{it: partial(note, name, it) for it in ("before", "after", "failed")})
+        self.app.use(tells("one"), Middleware(), tells("other"))
         self.raises = [ValueError("a")]
         with self.app.testing() as moments:
             self.note.later(0)
             self.passes(moments, (0, 1), (10, 2))
-            for name in ("other", "one"):
-                self.assertEqual(told.pop(-2 if name == "other" else -1), (name, "after", "note"))
-            self.assertEqual(told, [("one", "before", "note"), ("other", "before", "note"),
-                                    ("other", "failed", "note", "a"), ("one", "failed", "note", "a"),
-                                    ("one", "before", "note"), ("other", "before", "note")])
+            self.assertEqual(told, ["one before note", "other before note", "other failed note a", "one failed note a",
+                                    "one before note", "other before note", "other after note", "one after note"])
             self.app.use(unittest.mock.Mock(spec=Middleware, before=unittest.mock.Mock(side_effect=OSError)))
             self.note.later(0)
             with self.logged() as said:
                 self.passes(moments, (0, 3), ("1d", 3))
             self.assertRegex(said[0], "(?s)before of .*OSError")
+
+    def run_with(self, middleware):
+        """Runs two tasks that are done, one of them a coroutine, and one that fails and then is done."""
+        async def waits():
+            pass
+
+        self.app.use(middleware)
+        self.raises = [ValueError("once")]
+        with self.app.testing() as moments:
+            for name, function in (("fails", self.noted), ("waits", waits), ("<lambda>", lambda: None)):
+                self.app.task(name=name)(function).later(0)
+            moments.pass_by("1h")
+
+    def test_metrics_of_prometheus(self):
+        prometheus = pytest.importorskip("prometheus_client")
+        registry = prometheus.CollectorRegistry()
+        self.run_with(EXAMPLES["Metrics"](registry))
+        told = prometheus.generate_latest(registry).decode()
+        for line in ('tasks_done_total{task="fails"} 1.0', 'tasks_failed_total{task="fails"} 1.0',
+                     'tasks_done_total{task="waits"} 1.0', 'tasks_running{task="fails"} 0.0',
+                     'tasks_seconds_count{task="fails"} 2.0', 'tasks_done_total{task="<lambda>"} 1.0'):
+            self.assertIn(f"\n{line}\n", told)
+
+    def test_spans_of_a_tracer_that_has_the_one_method_of_opentelemetrys(self):
+        spans = []
+
+        class Tracer:
+            @contextlib.contextmanager
+            def start_as_current_span(self, name, attributes):
+                fault = None
+                try:
+                    yield
+                except Exception as raised:
+                    fault = str(raised)
+                    raise
+                finally:
+                    spans.append((name, attributes["task.attempt"], fault))
+
+        self.run_with(EXAMPLES["Spans"](Tracer()))
+        self.assertEqual(sorted(spans, key=str), [
+            ("<lambda>", 1, None), ("fails", 1, "once"), ("fails", 2, None), ("waits", 1, None)])
 
     def test_four_tasks_that_hang_are_ended_with_their_processes_and_stop_nobody(self):
         """The processes take their tasks out of the file: there is no server."""

@@ -6,6 +6,7 @@ import unittest
 import unittest.mock
 from collections import deque
 
+from scripted import SHORT
 from worker_case import paragraphs, values
 from rb_broker_client import BrokerError, Greeting, NotHeldError, Pauses, Report
 from rb_broker_client.run import Run
@@ -22,7 +23,7 @@ class WorkTest(unittest.TestCase):
         self.addCleanup(patch.stop)
 
     def test_each_turn(self):
-        for name, options, lines in paragraphs("work.txt"):
+        for name, options, _, lines in paragraphs("work.txt"):
             with self.subTest(name):
                 self.begin(**options)
                 for it in (step for line in lines for step in line.split(" | ")):
@@ -44,7 +45,7 @@ class WorkTest(unittest.TestCase):
     def asks(self, lines):
         free = self.concurrency - self.running - self.work.fetching
         questions = self.work.ask(free, self.running, self.is_stopping)
-        self.assertEqual("; ".join(map(str, questions)), lines)
+        self.assertEqual([*map(str, questions)], [SHORT.get(it, it) for it in lines.split("; ") if it])
         self.due.extend(questions)
 
     def answers(self, lines):

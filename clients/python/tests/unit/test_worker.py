@@ -6,6 +6,7 @@ import logging
 import os
 import signal
 import time
+import unittest
 import unittest.mock
 
 from from_threads import for_both_kinds
@@ -29,29 +30,22 @@ class JobTest(WorkerCase):
             self.assertEqual(self.handled, [Job(0, 0, 1, "a"), Job(1, 0, 1, "b"), Job(2, 1000, 3, "b")])
         self.assertEqual(dead, [Job(2, 1000, 3, "b")])
 
-    def test_no_last_failure_is_told_whose_reply_is_not_heard(self):
-        dead = []
-        self.assert_reports(Report(unheard=1), f"{GIVES_B}; FAIL 1 > hangs up", LAST, on_dead=dead.append)
-        self.assertEqual(dead, [])
-
     def test_a_server_of_another_kind(self):
         self.assertRaises(UnknownReplyError, self.work("WAIT > HELLO").run)
 
-    def test_a_job_that_fails_in_a_full_run_is_told_as_lost(self):
-        dead = []
-        with self.logged() as said:
-            self.assert_reports(Report(lost=1), f"{GIVES_B}; FAIL 1 > ERR 6 full; QUIT", LAST, on_dead=dead.append)
-        self.assertEqual(said[-1], "ERROR:rb_broker_client.worker:job b is lost: it failed in a full run")
-        self.assertEqual(dead, [Job(1, 0, 1, "b")])
-
-    def test_a_job_that_fails_for_the_last_time_in_a_session_that_is_lost_is_dead(self):
-        dead, fails = [], "WAIT > ITEM {0} 0 {0} b; FAIL {0} > hangs up"
-        options = {"on_dead": dead.append, "attempts": 2}
-        with self.logged() as said:
-            self.assert_reports(Report(unheard=2), fails.format(1), fails.format(2), LAST, **options)
-        self.assertEqual(dead, [Job(2, 0, 2, "b")])
-        self.assertEqual([it.partition("worker:")[2] for it in said],
-                         ["job b failed in its last attempt, 2, and its session was lost"])
+    def test_which_failures_that_are_not_answered_as_such_are_told_as_dead(self):
+        fails, full = "WAIT > ITEM {0} 0 {0} b; FAIL {0} > hangs up", f"{GIVES_B}; FAIL 1 > ERR 6 full; QUIT"
+        last = "job b failed in its last attempt, 2, and its session was lost"
+        for report, sessions, dead, told, options in (
+            (Report(unheard=1), [fails.format(1)], [], [], {}),
+            (Report(lost=1), [full], [Job(1, 0, 1, "b")], ["job b is lost: it failed in a full run"], {}),
+            (Report(unheard=2), [fails.format(1), fails.format(2)], [Job(2, 0, 2, "b")], [last], {"attempts": 2}),
+        ):
+            buried = []
+            with self.logged("WARNING") as said:
+                self.assert_reports(report, *sessions, LAST, on_dead=buried.append, **options)
+            errors = [it.partition("worker:")[2] for it in said if it.startswith("ERROR:")]
+            self.assertEqual((buried, errors), (dead, told))
 
     def test_a_fault_of_what_is_told_of_dead_jobs_is_logged_and_the_worker_goes_on(self):
         def refuse(job):
@@ -214,3 +208,20 @@ class ForkTest(WorkerCase):
         for child in children:
             os.kill(child, signal.SIGTERM)
         self.assertEqual([*map(status_of, children)], [7] * 4)
+
+
+class PausesTest(unittest.TestCase):
+    def test_each_is_twice_as_long_up_to_the_longest_until_a_success(self):
+        for _ in range(100):
+            pauses = Pauses(first=1.0, longest=10.0)
+            for most in (1.0, 2.0, 4.0, 8.0, 10.0, 10.0):
+                self.assertTrue(most / 2 <= pauses.next() <= most)
+            pauses.reset()
+            self.assertLessEqual(pauses.next(), 1.0)
+
+    def test_clients_do_not_come_back_together(self):
+        self.assertGreater(len({Pauses().next() for _ in range(100)}), 90)
+
+    def test_limits_that_make_no_sense(self):
+        for first, longest in ((0.0, 1.0), (-1.0, 1.0), (1.0, 0.0)):
+            self.assertRaises(ValueError, Pauses, first, longest)

@@ -1,7 +1,7 @@
 """Workers of scripted servers, and the handlers that they have."""
+import re
 import threading
 import time
-import unittest.mock
 
 from scripted import PATIENCE, ScriptedTest, table
 from rb_broker_client import Pauses, Report, Worker
@@ -18,10 +18,11 @@ def values(words):
 
 
 def paragraphs(name):
-    """The cases of a text table: the name of each, its options, and its lines."""
+    """The cases of a text table: the name of each, its options, the report behind `=>`, and its lines."""
     for it in table(name).split("\n\n"):
-        name, *lines = it.strip().splitlines()
-        yield name, values(lines.pop(0)[5:]) if lines[0].startswith("with ") else {}, lines
+        title, *lines = it.strip().splitlines()
+        name, options, report = re.fullmatch(r"(.*?)(?: \[(.*)\])?(?: => (.*))?", title).groups("")
+        yield name, values(options), values(report), lines
 
 
 class WorkerCase(ScriptedTest):
@@ -54,11 +55,10 @@ class WorkerCase(ScriptedTest):
 
     def assert_scripts(self, name, **options):
         """The workers of this table, with these options too, make the reports that it says."""
-        for title, own, sessions in paragraphs(name):
-            why, _, counts = title.partition(" => ")
+        for why, own, report, sessions in paragraphs(name):
             with self.subTest(why):
                 sessions = [it.removeprefix("- ") for it in sessions]
-                self.assert_reports(Report(**values(counts)), *sessions, **options, **own)
+                self.assert_reports(Report(**report), *sessions, **options, **own)
 
     def handle(self, job):
         self.handled.append(job)
