@@ -10,7 +10,6 @@ from collections import defaultdict
 from pathlib import Path
 
 import test_hostile_day
-import test_rollovers
 from recording_proxy import RecordingProxy
 from server import PATIENCE, start
 
@@ -88,7 +87,7 @@ class JavaDayTest(test_hostile_day.HostileDayTest):
         return noted_in(self.notes), noted_in(self.killed)
 
 
-class JavaRolloverDayTest(test_rollovers.AtService, JavaDayTest):
+class JavaRolloverDayTest(test_hostile_day.AtService, JavaDayTest):
     pass
 
 

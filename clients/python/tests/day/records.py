@@ -26,14 +26,3 @@ def ends_in(paths):
                     reply = line["reply"][0].split(" ")[0] if line["reply"] else "nothing"
                     told[held[line["session"], id]].append(reply)
     return told
-
-
-def lines_between(paths, first, last):
-    """The lines of the sessions that began at one of these moments, the last one left out."""
-    for path in paths:
-        began = {}
-        with open(path, encoding="ascii") as file:
-            for line in file:
-                told = json.loads(line)
-                if first <= began.setdefault(told["session"], told["sent"]) < last:
-                    yield line

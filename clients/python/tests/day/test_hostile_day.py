@@ -7,7 +7,7 @@ the worker that had it was killed before it could know, or the full run took no 
 fault in what producers and workers recorded.
 """
 import asyncio
-import math
+import gzip
 import os
 import random
 import subprocess
@@ -15,17 +15,22 @@ import sys
 import threading
 import time
 from functools import partial
+from pathlib import Path
 
 from history import History
 from nuisance import Nuisance
 from rb_broker_client import AsyncProducer, Broker, FullError, InDoubtError, Pauses, Producer
-from records import ends_in, lines_between
+from records import ends_in
 from server import PATIENCE, ServedTest, start
+from serving.server import free_port
+from servicing.tests.process import Service
 
 JOBS = int(os.environ.get("RB_BROKER_JOBS", 1_000))
 LONGEST = 120 + JOBS / 10  # seconds until all jobs are offered, or done
 HELD = 4  # jobs that a worker has at most
 POLICY = ("--delay", 2_000_000, "--attempts", 1_000)
+AT_SERVICE = ("--every", "5s", "--stop-within", "10s", "--delay", "2ms", "--attempts", 1_000, "--keep", "1d")
+RUNS = 3  # of a service, at least
 DELAYS = (0, 0, 0.001, 0.05, 0.4)
 PAUSE = 0.03  # seconds at most between two offers of a producer
 
@@ -77,7 +82,7 @@ class HostileDayTest(ServedTest):
 
     def setUp(self):
         super().setUp()
-        self.histories, self.began, self.records, self.killed = [], [], [], []
+        self.histories, self.records, self.killed = [], [], []
         self.workers, self.offered, self.doubted, self.lost = [], [], [], 0
         self.is_over = threading.Event()
 
@@ -116,7 +121,6 @@ class HostileDayTest(ServedTest):
 
     def serve_next(self, calls):
         """Starts the first server or the next, with room for this many calls."""
-        self.began.append(time.monotonic_ns())
         opening = ["--from", self.histories[-1]] if self.histories else []
         self.histories.append(f"{self.room}/history-{len(self.histories)}")
         self.server = self.serve("--workers", 16, "--sessions", 10_000, "--calls", calls, "--turns", 50, *POLICY,
@@ -198,8 +202,8 @@ class HostileDayTest(ServedTest):
         return ends_in(self.records), ends_in(self.killed)
 
     def judge(self, said):
-        for number in range(len(self.histories)):
-            self.verify(number)
+        if self.records:  # those of Java's clients are their proxy's
+            self.assert_verified(*self.histories, *self.records, *self.verifying)
         history, (told, told_to_killed) = History(*self.histories), self.told()
         attempts, given = history.attempts(), {}
         for it in map(history.elements.get, history.given):
@@ -225,9 +229,31 @@ class HostileDayTest(ServedTest):
               f"lost in the full run; {len(self.doubted)} offers in doubt; {again} given once more than they failed",
               flush=True)
 
-    def verify(self, number):
-        """The run of this number is that of its clients, whose sessions began in it."""
-        path = f"{self.room}/records-{number}.jsonl"
-        with open(path, "w", encoding="ascii") as file:
-            file.writelines(lines_between(self.records, self.began[number], [*self.began, math.inf][number + 1]))
-        self.assert_verified(self.histories[number], path, *self.verifying)
+
+class AtService:
+    """What of a day is another at a service, which has sessions of its own."""
+
+    verifying = []
+
+    @property
+    def port(self):
+        return self.server.port
+
+    def serve_next(self, _):
+        self.server = Service(self.path("service"), *AT_SERVICE, port=free_port())
+        self.addCleanup(self.server.kill_all)
+
+    def change_servers(self):
+        self.server.wait("serving", RUNS, LONGEST)
+
+    def end(self):
+        self.assertEqual(self.server.stop(), 0)
+        self.assertEqual([self.server.all(it) for it in ("lost-run", "lost-jobs")], [[], []])
+        for number in range(1, len(self.server.all("serving")) + 1):
+            path = Path(self.path("service"), f"run-{number}.txt")
+            text = path.read_bytes() if path.exists() else gzip.decompress(Path(f"{path}.gz").read_bytes())
+            self.histories.append(self.file(f"history-{number}", text.decode()))
+
+
+class RolloverDayTest(AtService, HostileDayTest):
+    pass

@@ -6,11 +6,9 @@ is counted, and no such process has more of these than threads.
 """
 import os
 import random
-import shutil
 import signal
 import sqlite3
 import sys
-import unittest
 from collections import Counter, defaultdict
 from contextlib import closing, suppress
 from pathlib import Path
@@ -31,7 +29,6 @@ SERVICE = ("--every", "1h" if IS_BRIEF else "30s", "--stop-within", "5s", "--ses
 HERE = os.path.dirname(os.path.realpath(__file__))
 
 
-@unittest.skipUnless(shutil.which("ss"), "there is no ss, which a service needs")
 class HostileTasksTest(ServedTest):
     def setUp(self):
         super().setUp()

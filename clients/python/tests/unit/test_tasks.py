@@ -7,6 +7,7 @@ import sqlite3
 import threading
 import time
 import unittest.mock
+from concurrent.futures import ThreadPoolExecutor
 from datetime import datetime, timedelta, timezone
 from functools import partial
 from pathlib import Path
@@ -245,19 +246,15 @@ class TasksTest(ScriptedTest):
 
     def test_a_process_ends_with_the_one_that_watches_it(self):
         """Whatever its tasks do."""
-        pids, hangs = Path(f"{self.path}.pids"), lambda threads, owner: (self.write_pid(pids), time.sleep(60))
+        pid = Path(f"{self.path}.pid")
+        hangs = lambda threads, owner: (pid.write_text(f"{os.getpid()}\n"), time.sleep(60))
         with unittest.mock.patch.object(self.app, "_run", hangs):
-            parent = fork(lambda: (self.write_pid(pids), self.app.run(1, processes=1)))
-        told = lambda: pids.read_text().split() if pids.exists() else ()
-        self.assertTrue(wait_for(lambda: len(told()) == 2))
+            parent = fork(lambda: self.app.run(1, processes=1))
+        self.assertTrue(wait_for(lambda: pid.exists() and pid.read_text()))
         os.kill(parent, signal.SIGKILL)
         os.waitpid(parent, 0)
-        stat = Path(f"/proc/{told()[1]}/stat")
+        stat = Path(f"/proc/{pid.read_text().strip()}/stat")
         self.assertTrue(wait_for(lambda: not stat.exists() or stat.read_text().split(") ")[1][0] == "Z"))
-
-    def write_pid(self, path):
-        with open(path, "a") as file:
-            file.write(f"{os.getpid()} ")
 
     def run_from_file(self, threads, owner):
         def work():
@@ -266,11 +263,9 @@ class TasksTest(ScriptedTest):
                     task = self.app._store.claim(it.id, it.turn, owner)
                     waiting.run(self.app._attempt(waiting.Blocking, task))
 
-        workers = [threading.Thread(target=work, daemon=True) for _ in range(threads)]
-        for it in workers:
-            it.start()
-        for it in workers:
-            it.join()
+        with ThreadPoolExecutor(threads) as pool:
+            for _ in range(threads):
+                pool.submit(work)
         return Report(done=1)
 
     def test_who_keeps_tasks_goes_on_when_the_file_can_not_be_used(self):
