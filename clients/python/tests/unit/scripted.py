@@ -9,6 +9,7 @@ import tempfile
 import threading
 import time
 import unittest
+from concurrent.futures import ThreadPoolExecutor
 from pathlib import Path
 
 PATIENCE = 10  # seconds after which a client that does not go on is given up
@@ -122,13 +123,10 @@ class ScriptedTest(unittest.TestCase):
         logging.disable(logging.CRITICAL)
 
     def in_threads(self, *functions):
-        """Runs these functions at the same time, to their ends."""
-        threads = [threading.Thread(target=it, daemon=True) for it in functions]
-        for it in threads:
-            it.start()
-        for it in threads:
-            it.join(PATIENCE)
-            self.assertFalse(it.is_alive())
+        """Runs these functions at the same time, to their ends. None may raise anything."""
+        with ThreadPoolExecutor(len(functions)) as threads:
+            for it in [threads.submit(it) for it in functions]:
+                it.result(PATIENCE)
 
 
 def table(name):

@@ -209,11 +209,8 @@ class RecordTest(BrokerCase):
         record, is_written = unittest.mock.Mock(wraps=self.file), threading.Event()
         record.flush.side_effect = lambda: is_written.set() or time.sleep(0.3) or unittest.mock.DEFAULT
         port, broker = self.play("SIZE > SIZE 3").port, self.connect("SIZE > SIZE 4", record=record)
-        thread = threading.Thread(target=broker.size)
-        thread.start()
-        self.assertTrue(is_written.wait(PATIENCE))
-        self.assertEqual(status_of(fork(lambda: Broker(port, record=self.file).size())), 3)
-        thread.join(PATIENCE)
+        other = lambda: status_of(fork(lambda: Broker(port, record=self.file).size()))
+        self.in_threads(broker.size, lambda: self.assertEqual((is_written.wait(PATIENCE), other()), (True, 3)))
         self.assertEqual(sorted(it["reply"][0] for it in self.lines()), ["SIZE 3", "SIZE 4"])
 
 

@@ -136,12 +136,8 @@ class SessionTest(ProducerCase):
         self.goes_on = lambda _: is_asked.set() or may_answer.wait(PATIENCE)
         for steps in (f"AT 0 > goes_on: ERR 1 syntax; {FIRST}", f"{OFFER} > goes_on: OFFERED 0 5"):
             producer = self.produce(steps)
-            thread = threading.Thread(target=lambda: told.append(offer(producer)), daemon=True)
-            thread.start()
-            self.assertTrue(is_asked.wait(PATIENCE))
-            self.offer_in_fork(producer)
-            may_answer.set()
-            thread.join(PATIENCE)
+            self.in_threads(lambda: told.append(offer(producer)), lambda: self.assertTrue(is_asked.wait(PATIENCE)) or
+                            self.offer_in_fork(producer) or may_answer.set())
             self.assertEqual(told.pop(), Offered(0, 5))
             is_asked.clear()
             may_answer.clear()
