@@ -4,6 +4,7 @@ import json
 import threading
 import time
 
+from from_threads import in_thread
 from rb_broker_client import AsyncWorker, Broker, Producer, Report, Worker
 from rb_broker_formats.protocol import MOST_HELD
 from server import LONGEST, PATIENCE, ServedTest
@@ -64,10 +65,7 @@ class FarTest(ServedTest):
         return server, proxy
 
     def test_as_many_jobs_are_fetched_in_a_round_trip_as_can_be_started_and_no_more(self):
-        async def handle(job):
-            pass
-
-        for kind, handler in ((Worker, lambda job: None), (AsyncWorker, handle)):
+        for kind, handler in ((Worker, id), (AsyncWorker, in_thread(id))):
             server, proxy = self.far("--sessions", 2)
             self.offer(server, *range(self.JOBS))
             with open(self.path(kind.__name__), "a", encoding="ascii") as record:

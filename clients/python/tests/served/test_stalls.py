@@ -1,8 +1,8 @@
 """Handlers that hang, and servers that are busy or let nothing wait."""
-import asyncio
 import threading
 import time
 
+from from_threads import in_thread
 from history import History
 from rb_broker_client import AsyncWorker, Broker, Producer, Report, Worker
 from server import PATIENCE, ServedTest
@@ -23,14 +23,9 @@ class HangTest(ServedTest):
             self.may_end.wait(10 * PATIENCE)
         self.done.append(job.payload)
 
-    async def handle_async(self, job):
-        while job.payload == "hangs" and not self.may_end.is_set():
-            await asyncio.sleep(0.05)
-        self.done.append(job.payload)
-
     def work(self, server, kind, **options):
         """A worker of this kind, and the thread that runs it."""
-        handler = self.handle if kind is Worker else self.handle_async
+        handler = self.handle if kind is Worker else in_thread(self.handle)
         worker = kind(handler, server.port, concurrency=16, **options)
         return worker, self.begin_worker(worker)
 

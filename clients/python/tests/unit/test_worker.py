@@ -83,8 +83,14 @@ class JobTest(WorkerCase):
         self.assertEqual(noted[:5], ["longer", "longer", "longer", "short again", "short again"])
 
 
-class AwaitableTest(WorkerCase):
+class HandlerTest(WorkerCase):
     """A worker without a loop awaits nothing, so no job may count as done whose handler has not run."""
+
+    def test_one_that_is_broken_off_ends_the_session_with_its_job(self):
+        def interrupt(job):
+            raise KeyboardInterrupt
+
+        self.assertRaises(KeyboardInterrupt, self.work("WAIT > ITEM 0 0 1 a", handler=interrupt).run)
 
     def test_a_coroutine_function_is_refused(self):
         async def deliver(job):
@@ -116,14 +122,6 @@ class AwaitableTest(WorkerCase):
                 yield
 
         self.assert_reports(Report(dead=1), f"{GIVES_A}; FAIL 0 > DEAD 0; {LAST}", handler=lambda job: Awaitable())
-
-
-class BreakTest(WorkerCase):
-    def test_a_handler_that_is_broken_off_ends_the_session_with_its_job(self):
-        def interrupt(job):
-            raise KeyboardInterrupt
-
-        self.assertRaises(KeyboardInterrupt, self.work("WAIT > ITEM 0 0 1 a", handler=interrupt).run)
 
 
 @for_both_kinds
