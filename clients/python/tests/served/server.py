@@ -13,7 +13,6 @@ from rb_broker_client import AsyncProducer, AsyncWorker, Broker, Job, Pauses, Pr
 from serving import PATIENCE
 from serving.testing import ServingTest
 
-PIECE = 1_000  # offers
 LONGEST = 600  # seconds of what may take long
 
 
@@ -67,12 +66,10 @@ class ServedTest(ServingTest):
         self.assertEqual((thread.is_alive(), worker.report), (False, report))
 
     def offer(self, server, *payloads, delay=0):
-        """Offers a job of each payload, many in one piece. Their ids rise."""
+        """Offers a job of each payload, in one piece. Their ids rise."""
         with Broker(server.port, patience=PATIENCE) as broker:
-            for first in range(0, len(payloads), PIECE):
-                piece = payloads[first:first + PIECE]
-                ids = [it.id for it in broker.ask_all([Request.offer(str(it), delay=delay) for it in piece])]
-                self.assertEqual(ids, sorted(set(ids)))
+            ids = [it.id for it in broker.ask_all([Request.offer(str(it), delay=delay) for it in payloads])]
+            self.assertEqual(ids, sorted(set(ids)))
             broker.quit()
 
     def produce(self, port, count, **options):

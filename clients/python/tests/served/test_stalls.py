@@ -29,11 +29,12 @@ class HangTest(ServedTest):
         worker = kind(handler, server.port, concurrency=16, **options)
         return worker, self.begin_worker(worker)
 
-    def offer_slowly(self, offer):
+    def offer_slowly(self, server):
         """Offers a job that hangs, and others behind it."""
-        for payload in ("hangs", *map(str, range(QUICK))):
-            offer(payload)
-            time.sleep(PAUSE)
+        with Producer(server.port) as producer:
+            for payload in ("hangs", *map(str, range(QUICK))):
+                producer.offer(payload)
+                time.sleep(PAUSE)
 
     def assert_finishes(self, worker, thread, report):
         self.may_end.set()
@@ -45,8 +46,7 @@ class HangTest(ServedTest):
             self.may_end.clear()
             server = self.serve("--workers", 4, "--sessions", 2)
             worker, thread = self.work(server, kind)
-            with Producer(server.port) as producer:
-                self.offer_slowly(producer.offer)
+            self.offer_slowly(server)
             self.wait_until(lambda: len(self.done) == QUICK, 2 * PATIENCE)
             self.assertNotIn("hangs", self.done)
             self.assert_finishes(worker, thread, Report(done=QUICK + 1))
@@ -56,8 +56,7 @@ class HangTest(ServedTest):
         server = self.serve("--workers", 4, "--sessions", 100, "--attempts", 2)
         dead = []
         worker, thread = self.work(server, Worker, timeout=0.5, on_dead=dead.append)
-        with Producer(server.port) as producer:
-            self.offer_slowly(producer.offer)
+        self.offer_slowly(server)
         self.wait_until(lambda: len(self.done) == QUICK and dead)
         self.assertEqual([(it.payload, it.attempt) for it in dead], [("hangs", 2)])
         self.assert_finishes(worker, thread, Report(done=QUICK, again=1, dead=1))

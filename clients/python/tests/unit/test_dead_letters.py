@@ -10,6 +10,7 @@ from scripted import PATIENCE, ScriptedTest, free_port
 from test_command import run
 from worker_case import LAST, WorkerCase
 from rb_broker_client import AsyncWorker, DeadLetters, Job, Producer, Report
+from rb_broker_client.dead_letters import read_letters
 
 BAD, KEEPS_B = "WAIT > ITEM 2 1000 3 b; FAIL 2 > DEAD 2", "AT 0; OFFER 0 b > OFFERED 0 5"
 
@@ -21,8 +22,7 @@ class FileCase(ScriptedTest):
             letters(Job(id, 1000, 3, payload))
 
     def letters(self):
-        with open(self.path, encoding="ascii") as file:
-            return [json.loads(it) for it in file]
+        return [*map(json.loads, read_letters(self.path))]
 
     def payloads(self):
         return [it["payload"] for it in self.letters()]
