@@ -19,9 +19,8 @@ app = tasks.Tasks(f"{ROOM}/tasks.db", int(os.environ["TASKS_PORT"]), patience=1,
 
 def note(name, *words):
     """Adds a line to a file, which no kill of this process cuts."""
-    descriptor = os.open(f"{ROOM}/{name}", os.O_APPEND | os.O_CREAT | os.O_WRONLY)
-    os.write(descriptor, (" ".join(map(str, words)) + "\n").encode())
-    os.close(descriptor)
+    with open(f"{ROOM}/{name}", "ab", buffering=0) as file:
+        file.write((" ".join(map(str, words)) + "\n").encode())
 
 
 @app.task(attempts=1_000, backoff=lambda failures: 0.05, timeout="2s", name="work")

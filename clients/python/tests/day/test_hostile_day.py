@@ -106,13 +106,10 @@ class HostileDayTest(ServedTest):
         self.assertEqual(self.faults, [])
         self.wait_until(lambda: all(it.may_end for it in self.workers), LONGEST)
         self.assertEqual([it.stop() for it in self.workers], [0] * len(self.handlers))
-        sessions = 0
-        for it in nuisances:
-            count, wrong = it.finish()
-            self.assertEqual(wrong, [])
-            sessions += count
+        sessions, wrong = zip(*(it.finish() for it in nuisances))
+        self.assertEqual(wrong, ([],) * len(nuisances))
         self.end()
-        self.judge(f"{sessions} sessions of clients that are silent or lie, {time.monotonic() - began:.0f} s")
+        self.judge(f"{sum(sessions)} sessions of clients that are silent or lie, {time.monotonic() - began:.0f} s")
 
     @property
     def port(self):

@@ -93,8 +93,7 @@ class HostileTasksTest(ServedTest):
         process.communicate()
 
     def lines(self, name):
-        with open(self.path(name), encoding="ascii") as file:
-            return [it.split() for it in file]
+        return [it.split() for it in Path(self.path(name)).read_text("ascii").splitlines()]
 
     def offered(self):
         """The number of the first task that nobody has begun to offer."""

@@ -161,8 +161,7 @@ class Crew:
             worker.stop()
         for thread in self._threads:
             thread.join(PATIENCE)
-            if thread.is_alive():
-                raise RuntimeError("a worker does not stop")
+            assert not thread.is_alive(), "a worker does not stop"
         return Report(**{name: sum(getattr(it.report, name) for it in self.workers) for name in vars(Report())})
 
     def done(self):

@@ -56,8 +56,8 @@ class CommandTest(ServedTest):
             self.assertEqual(self.assert_done(server, "peek"), "NONE\n")
             said = self.assert_done(server, "offer", "0.001", "letter")
             self.assertRegex(said, "^OFFERED 0 [0-9]+\n$")
-            self.assertEqual(self.assert_done(server, "peek"), f"HEAD 0 {said.split()[2]} 1 letter\n")
-            self.assertEqual(self.assert_done(server, "size"), "SIZE 1\n")
+            told = [self.assert_done(server, it) for it in ("peek", "size")]
+            self.assertEqual(told, [f"HEAD 0 {said.split()[2]} 1 letter\n", "SIZE 1\n"])
             self.assert_done(server, "offer", "0", "bad")
             worker = self.start(server, "--on-dead", functions[1], "--concurrency", "4", handler=functions[0])
             self.assertEqual({worker.stdout.readline() for _ in range(2)}, {"letter 1\n", "dead bad 2\n"})

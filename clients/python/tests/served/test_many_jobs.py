@@ -41,10 +41,9 @@ class ManyJobsTest(ServedTest):
         history, jobs = self.path("history"), 1_000
         server = self.serve("--workers", 5, "--sessions", 5, "--calls", 100_000, *POLICY, "--history", history)
         with open(self.path("record"), "a", encoding="ascii") as record:
-            options = {"record": record}
             crews = [self.gather(server, count, lambda job: job.attempt > 1 or int(job.payload) % 5, concurrency=most,
-                                 **options) for count, most in ((1, 1), (2, 8))]
-            self.produce(server.port, jobs, **options)
+                                 record=record) for count, most in ((1, 1), (2, 8))]
+            self.produce(server.port, jobs, record=record)
             self.wait_until(lambda: sum(len(it.done()) for it in crews) >= jobs)
             counts = [vars(it.stop()) for it in crews]
         self.assert_ends(server, 5)

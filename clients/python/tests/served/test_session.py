@@ -20,14 +20,12 @@ class SessionTest(ServedTest):
         with self.connect("--sessions", 2, "--workers", 1, "--attempts", 2, "--delay", 50_000_000) as client:
             client.await_service()
             offered = client.offer("letter", delay=0.05)
-            self.assertEqual(offered.id, 0)
-            self.assertIsNone(client.poll())
-            self.assertEqual(client.take(), Job(0, offered.expires_at_ns, 1, "letter"))
+            first = Job(0, offered.expires_at_ns, 1, "letter")
+            self.assertEqual([client.poll(), client.take()], [None, first])
             again = client.fail(0)
-            self.assertEqual(again.id, 1)
             self.assertGreaterEqual(again.expires_at_ns, offered.expires_at_ns + 50_000_000)
-            self.assertEqual(client.take(), Job(1, again.expires_at_ns, 2, "letter"))
-            self.assertEqual(client.fail(1), Dead(1))
+            second = Job(again.id, again.expires_at_ns, 2, "letter")
+            self.assertEqual([again.id, client.take(), client.fail(1)], [1, second, Dead(1)])
             for method in (client.done, client.fail):
                 self.assertRaises(NotHeldError, method, 1)
             self.assertEqual({client.offer("left").id, client.offer("right").id}, {2, 3})
@@ -49,18 +47,14 @@ class SessionTest(ServedTest):
 
     def test_what_stands_in_the_queue(self):
         with self.connect("--sessions", 1) as client:
-            self.assertIsNone(client.peek())
-            self.assertIsNone(client.poll())
-            self.assertIsNone(client.poll_for(0))
+            self.assertEqual([client.peek(), client.poll(), client.poll_for(0)], [None] * 3)
             self.assertEqual(client.offer_at("late", expires_at_ns=GREATEST_NUMBER).expires_at_ns, GREATEST_NUMBER)
             self.assertEqual(client.peek(), Job(0, GREATEST_NUMBER, 1, "late"))
             self.assertIsNone(client.poll_for(1e-6))  # call 6
             self.assertEqual(client.offer_at("early", expires_at_ns=0).expires_at_ns, 0)
-            self.assertEqual(client.peek(), Job(1, 0, 1, "early"))
-            self.assertEqual(client.size(), 2)
-            self.assertEqual(client.poll_for(1), Job(1, 0, 1, "early"))
-            self.assertFalse(client.remove(1))
-            self.assertTrue(client.remove(0))  # call 12
+            early = Job(1, 0, 1, "early")
+            self.assertEqual([client.peek(), client.size(), client.poll_for(1)], [early, 2, early])
+            self.assertEqual([client.remove(1), client.remove(0)], [False, True])  # call 12
             client.offer("cleared", delay=1)
             client.clear()
             self.assertEqual([client.size() for _ in range(3)], [0, 0, 0])

@@ -14,9 +14,7 @@ from pathlib import Path
 
 from encryption import Certificates
 from scripted import free_port
-from rb_broker_client import (
-    AsyncBroker, Broker, NotOfferedError, Offered, Pauses, Producer, Report, Request, Worker,
-)
+from rb_broker_client import AsyncBroker, Broker, NotOfferedError, Offered, Pauses, Producer, Report, Request, Worker
 from server import PATIENCE, TOP, ServedTest, start
 from serving.delaying import DelayingProxy
 

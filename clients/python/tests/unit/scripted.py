@@ -147,6 +147,7 @@ def fork(function):
     if child := os.fork():
         return child
     try:
+        signal.signal(signal.SIGALRM, signal.SIG_DFL)
         signal.alarm(PATIENCE)
         os._exit(function())
     finally:

@@ -13,7 +13,6 @@ import rb_broker_client
 
 TOP = Path(__file__).resolve().parents[2]
 VERSION = rb_broker_client.__version__
-PYTHONS = (sys.executable, "/usr/bin/python3")
 
 SAYS = """
 import importlib.metadata, os, rb_broker_client
@@ -44,8 +43,8 @@ def can_build(python):
 
 
 def test_it_is_installed_and_removed(tmp_path):
-    """In an environment that has pip, setuptools and wheel, from a copy, since building leaves files that git ignores."""
-    builder = next(filter(can_build, PYTHONS), None)
+    """In an environment that has pip, setuptools and wheel, from a copy, as building leaves files that git ignores."""
+    builder = next(filter(can_build, (sys.executable, "/usr/bin/python3")), None)
     if builder is None:
         pytest.skip("no python has setuptools 61, wheel and venv")
     sources, place = tmp_path / "sources", tmp_path / "environment"

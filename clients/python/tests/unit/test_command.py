@@ -24,9 +24,6 @@ async def handle_async(job):
     handle(job)
 
 
-not_a_function = 5
-
-
 def run(*words, lines=""):
     """Runs the command in this process. Its status, and what it wrote to standard output and standard error."""
     said, errors = io.StringIO(), io.StringIO()

@@ -42,9 +42,7 @@ class KeptTest(FileCase, WorkerCase):
             self.assert_reports(Report(dead=1), f"{BAD}; {LAST}", **options)
 
     def test_several_threads_have_one_file(self):
-        def keep(number):
-            self.keep(*[f"{number}-{it}" for it in range(50)])
-
+        keep = lambda number: self.keep(*[f"{number}-{it}" for it in range(50)])
         self.in_threads(*[functools.partial(keep, it) for it in range(4)])
         self.assertEqual(sorted(self.payloads()), sorted(f"{n}-{it}" for n in range(4) for it in range(50)))
 

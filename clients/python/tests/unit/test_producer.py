@@ -33,9 +33,6 @@ class ProducerCase(ScriptedTest):
     def assert_session_ends(self):
         self.assertTrue(self.server.ended.acquire(timeout=PATIENCE))
 
-    def assert_session_goes_on(self):
-        self.assertFalse(self.server.ended.acquire(timeout=0.5))
-
 
 @for_both_kinds
 class ProducerTest(ProducerCase):
@@ -110,7 +107,7 @@ class SessionTest(ProducerCase):
     def test_it_goes_on_between_two_offers(self):
         producer, threads = self.produce(f"{FIRST}; {SECOND}"), threading.active_count()
         self.assertEqual(offer(producer), Offered(0, 5))
-        self.assert_session_goes_on()
+        self.assertFalse(self.server.ended.acquire(timeout=0.5))
         self.assertLessEqual(threading.active_count(), threads)  # those of other tests end meanwhile
         self.assertEqual(offer(producer), Offered(1, 5))
 

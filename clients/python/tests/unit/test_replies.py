@@ -15,8 +15,7 @@ def answer(request, *lines):
     """What the request's reader makes of these reply lines. All of them have to be read."""
     rest = (it.encode("latin-1") for it in lines)
     told = request.read(rest)
-    if [*rest]:
-        raise AssertionError("lines are left")
+    assert not [*rest], "lines are left"
     return told
 
 

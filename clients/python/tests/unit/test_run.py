@@ -7,9 +7,7 @@ from from_threads import for_both_kinds
 from scripted import PATIENCE, wait_for
 from test_producer import ProducerCase, offer
 from worker_case import A, LAST, WorkerCase, paragraphs
-from rb_broker_client import (
-    Greeting, InDoubtError, LostRun, NotOfferedError, Offered, Report, UnknownReplyError,
-)
+from rb_broker_client import Greeting, InDoubtError, LostRun, NotOfferedError, Offered, Report, UnknownReplyError
 from rb_broker_client.run import Run
 
 
@@ -116,17 +114,12 @@ class WorkerTest(WorkerCase):
             self.assertIn(told, text)
 
     def test_a_worker_is_told_too_and_a_fault_of_that_is_logged(self):
-        told = []
-
-        def fail(lost):
-            told.append(lost)
-            raise ValueError("of the caller")
-
+        told = Mock(side_effect=ValueError("of the caller"))
         with self.logged("WARNING") as said:
             self.assert_reports(Report(done=2), f"{GREETS.format(7, 2, 5)}; {A}; WAIT > hangs up",
-                                f"{GREETS.format(9, 3, 8)}; {A}; {LAST}", on_lost_run=fail)
+                                f"{GREETS.format(9, 3, 8)}; {A}; {LAST}", on_lost_run=told)
             wait_for(lambda: "of the caller" in said[-1])
-        self.assertEqual((len(told), len(said)), (1, 2))
+        self.assertEqual((told.call_count, len(said)), (1, 2))
 
     def test_a_server_that_greets_ends_a_session_and_the_worker_goes_on_at_the_next(self):
         greets = GREETS.format(7, 2, 5)

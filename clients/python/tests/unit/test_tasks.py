@@ -113,12 +113,7 @@ class TasksTest(ScriptedTest):
     def moments(self, store):
         """Gives the store so many seconds from now."""
         now = time.time()
-
-        def after(seconds):
-            store.now = lambda: now + seconds
-            return store
-
-        return after
+        return lambda seconds: setattr(store, "now", lambda: now + seconds) or store
 
     def test_a_function_that_is_not_known_and_a_task_of_another_file_are_left_for_others(self):
         with self.app.testing() as moments:

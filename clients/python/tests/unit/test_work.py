@@ -2,7 +2,6 @@
 import functools
 import logging
 import math
-import unittest
 import unittest.mock
 from collections import deque
 

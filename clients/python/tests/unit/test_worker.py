@@ -6,7 +6,6 @@ import logging
 import os
 import signal
 import time
-import unittest
 import unittest.mock
 
 from from_threads import for_both_kinds
@@ -48,11 +47,9 @@ class JobTest(WorkerCase):
             self.assertEqual((buried, errors), (dead, told))
 
     def test_a_fault_of_what_is_told_of_dead_jobs_is_logged_and_the_worker_goes_on(self):
-        def refuse(job):
-            raise OSError("the disk is full")
-
+        refuse = unittest.mock.Mock(side_effect=OSError("the disk is full"))
+        steps = f"{GIVES_B}; FAIL 1 > DEAD 1; {A}; {LAST}"
         with self.logged() as said:
-            steps = f"{GIVES_B}; FAIL 1 > DEAD 1; {A}; {LAST}"
             self.assert_reports(Report(done=1, dead=1), steps, on_dead=refuse)
         self.assertRegex("\n".join(said), r"(?s)\AERROR:.*:job b failed in its last attempt, 1\n"
                          r"ERROR:.*:on_dead failed for job b\n.*the disk is full\Z")
@@ -69,27 +66,16 @@ class JobTest(WorkerCase):
             self.assertRaises(UnicodeError, self.kind(self.handle, 7011, "a..b", concurrency=concurrency).run)
 
     def test_pauses_grow_until_a_wait_is_answered(self):
-        noted = []
-
-        class NotedPauses(Pauses):
-            def next(self):
-                noted.append("longer")
-                return 0.01
-
-            def reset(self):
-                noted.append("short again")
-
-        self.work(FULL, FULL, f"WAIT > STOPPED; WAIT > NONE; {LAST}", pauses=NotedPauses()).run()
-        self.assertEqual(noted[:5], ["longer", "longer", "longer", "short again", "short again"])
+        pauses = unittest.mock.Mock(**{"next.return_value": 0.01})
+        self.work(FULL, FULL, f"WAIT > STOPPED; WAIT > NONE; {LAST}", pauses=pauses).run()
+        self.assertEqual([name for name, *_ in pauses.method_calls[:5]], ["next", "next", "next", "reset", "reset"])
 
 
 class HandlerTest(WorkerCase):
     """A worker without a loop awaits nothing, so no job may count as done whose handler has not run."""
 
     def test_one_that_is_broken_off_ends_the_session_with_its_job(self):
-        def interrupt(job):
-            raise KeyboardInterrupt
-
+        interrupt = unittest.mock.Mock(side_effect=KeyboardInterrupt)
         self.assertRaises(KeyboardInterrupt, self.work("WAIT > ITEM 0 0 1 a", handler=interrupt).run)
 
     def test_a_coroutine_function_is_refused(self):
