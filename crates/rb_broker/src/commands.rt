@@ -10,8 +10,8 @@ use rb_protocol::{LimitedReader, LimitedWriter};
 use rb_queue::Opening;
 use rb_runs::{ReadyScript, opening_in, over_timer, run_replay};
 use rb_serving::{
-    Ending, Recorder, ServeClock, ServeReport, TcpDoor, TcpManners, end_server, print_listening,
-    serve_door_gathered,
+    CountedListener, Ending, Recorder, ServeClock, ServeReport, TcpDoor, TcpManners, end_server,
+    print_listening, serve_door_gathered,
 };
 use rb_session::{Delivery, Ended, HandsOn};
 use rb_timer::Timer;
@@ -124,14 +124,14 @@ pub fn serve<R: Threads + Wait + time::Clock + Sync>(
 fn serve_over<T: Timer + Send, R: Threads + Wait + time::Clock + Sync>(
     rt: &HostRuntime,
     handle: &R,
-    door: &TcpDoor<'_>,
+    door: &TcpDoor<'_, CountedListener>,
     run: &ServerRunOptions,
     opening: Opening,
     history: HistoryFile,
 ) -> Result<(), BrokerFault> {
     let alloc = rt.alloc();
     let text = HistoryRoom::new(alloc)?;
-    let clock = ServeClock::new(handle, opening.last_at);
+    let clock = ServeClock::new(opening.last_at, MachineClock::new(handle));
     let (_, mut history, served) = serve_door_gathered(
         handle,
         alloc,

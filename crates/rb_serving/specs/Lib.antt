@@ -11,3 +11,4 @@ pub mod VisitCounts
 pub mod Visits
 pub mod Serving
 pub mod TcpReasons
+pub mod TcpSteps

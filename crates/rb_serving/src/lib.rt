@@ -4,10 +4,12 @@
 //! A door is where visits come from: the clients of a TCP listener, or what a test provides.
 #![tactic(auto)]
 
+mod connection;
 mod decision;
 mod door;
 mod ending;
 mod laws;
+mod listener;
 mod patience;
 mod recorder;
 mod serve_clock;
@@ -18,6 +20,7 @@ mod server;
 mod service;
 mod standing;
 mod tcp_door;
+mod tcp_entrance;
 mod tcp_gate;
 mod tcp_manners;
 mod tcp_reader;
@@ -27,16 +30,19 @@ mod visit_counts;
 mod worker;
 mod workers;
 
+pub use connection::{Connection, ConnectionNeeds};
 pub use door::{Door, DoorFault};
 pub use ending::{Ending, InputRead};
 pub use laws::{each_visitor_is_served, pause_has_its_value};
+pub use listener::{CountedListener, Listener, limit_accepts};
 pub use recorder::{NoRecorder, Recorder};
 pub use serve_clock::ServeClock;
 pub use serve_end::{ServerEnd, end_server};
 pub use serve_report::ServeReport;
 pub use serve_text::print_listening;
 pub use server::{serve_door, serve_door_gathered};
-pub use tcp_door::{NoMore, TcpDoor, TcpEntrance, limit_accepts};
+pub use tcp_door::{NoMore, TcpDoor, TcpVisit};
+pub use tcp_entrance::TcpEntrance;
 pub use tcp_gate::TcpGate;
 pub use tcp_manners::TcpManners;
 pub use tcp_reader::TcpReader;

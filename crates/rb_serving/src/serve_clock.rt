@@ -1,33 +1,31 @@
-ghost use Rattle.std.specs.Prelude.{◌≡◌, ◌≤◌};
+ghost use Rattle.std.specs.Prelude.{◌≡◌, ℕ, ◌+◌, min};
+ghost use Rattle.rb_delayed.specs.declared.moment.TheConstants.{GREATEST_MOMENT};
 
-use rb_blocking::{Clock, MachineClock};
+use rb_blocking::Clock;
 use rb_delayed::add_capped;
-use std::time;
 
-/// The clock of a server, in nanoseconds: the moment at which its run begins, plus the time since
-/// then.
+/// The clock of a server, in nanoseconds: the moment at which its run begins, plus what another clock reads.
 ///
-/// It reads at most 2^64 - 1. If the machine's clock can't be read, it stays at the first moment.
+/// It reads at most 2^64 - 1.
 #[derive(Drop)]
-pub struct ServeClock<'a, R: time::Clock> {
+pub struct ServeClock<P: Clock> {
     first: u64,
-    passed: MachineClock<'a, R>,
+    passed: P,
 }
 
-impl<'a, R: time::Clock> ServeClock<'a, R> {
-    /// A clock that reads this moment, in nanoseconds, now.
-    pub fn new(rt: &'a R, first: u64) -> ServeClock<'a, R>
+impl<P: Clock> ServeClock<P> {
+    /// A clock that reads this moment, in nanoseconds, when the other one reads 0.
+    pub fn new(first: u64, passed: P) -> ServeClock<P>
         ensures first { result.first ≡ first }
+        ensures passed { result.passed ≡ passed }
     {
-        ServeClock {
-            first,
-            passed: MachineClock::new(rt),
-        }
+        ServeClock { first, passed }
     }
 }
 
-impl<'a, R: time::Clock> Clock for ServeClock<'a, R> {
-    ghost gives = { λ clock moment. clock.first ≤ moment };
+impl<P: Clock> Clock for ServeClock<P> {
+    ghost gives = { λ clock moment.
+        (passed : ℕ) × P.gives clock.passed passed × (moment ≡ min (clock.first + passed) GREATEST_MOMENT) };
 
     fn now(&self) -> u64 {
         add_capped(self.first, self.passed.now())

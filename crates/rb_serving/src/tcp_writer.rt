@@ -4,7 +4,7 @@ use crate::patience::{Patience, is_timeout};
 use rb_blocking::Clock;
 use std::fmt::{self, Debug, Formatter};
 use std::io::{self, ErrorKind, Write};
-use std::net::{Shutdown, TcpStream};
+use std::net::TcpStream;
 
 /// What a session over TCP writes to. If told so, it gives up a client that takes nothing for too long.
 #[derive(Drop)]
@@ -14,14 +14,6 @@ pub struct TcpWriter<'a> {
 }
 
 impl<'a> TcpWriter<'a> {
-    /// Tells the client that it gets nothing more, so that it reads an end behind all replies even if it has sent more
-    /// than was read.
-    pub(crate) fn close(self) {
-        if self.patience.is_some() {
-            let _ = self.stream.shutdown(Shutdown::Write);
-        }
-    }
-
     fn write_patiently(&mut self, buf: &[u8], patience: Patience<'a>) -> io::Result<usize>
         ensures { WritesAtMost result buf.now }
     {

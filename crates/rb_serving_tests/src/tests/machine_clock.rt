@@ -9,7 +9,7 @@ use std::time::Duration;
 #[test]
 fn the_clock_of_a_server_goes_as_the_machines(rt: HostRuntime) {
     let earlier = MachineClock::new(&rt);
-    let clock = ServeClock::new(&rt, 1_000);
+    let clock = ServeClock::new(1_000, MachineClock::new(&rt));
     let later = MachineClock::new(&rt);
     thread::sleep(&rt, Duration::from_millis(20));
     let least = later.now();

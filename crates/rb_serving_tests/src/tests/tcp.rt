@@ -9,7 +9,7 @@ use crate::tests::devices::{
 use rb_blocking::{Clock, MachineClock};
 use rb_options::ServerRunOptions;
 use rb_queue::Opening;
-use rb_serving::{Ending, TcpDoor, TcpManners, serve_door};
+use rb_serving::{CountedListener, Ending, TcpDoor, TcpManners, serve_door};
 use rb_timer::ListTimer;
 use std::alloc::Global;
 use std::io::{Read, Write};
@@ -43,7 +43,7 @@ fn sent(alloc: Global, mut stream: TcpStream) -> Result<Vec<u8>, Fail> {
 fn served<R: Threads + Wait + time::Clock + Abort + Sync>(
     rt: &R,
     alloc: Global,
-    door: &TcpDoor<'_>,
+    door: &TcpDoor<'_, CountedListener>,
     workers: u64,
 ) -> Counts
     requires some { 1 ≤ workers }
@@ -85,7 +85,7 @@ fn plain_door<'a>(
     listener: TcpListener,
     sessions: u64,
     clock: &'a MachineClock<'a, HostRuntime>,
-) -> Result<TcpDoor<'a>, Fail> {
+) -> Result<TcpDoor<'a, CountedListener>, Fail> {
     Ok(TcpDoor::new(alloc, listener, sessions, 200, TcpManners::default(), clock)?)
 }
 
@@ -111,7 +111,7 @@ fn two_clients_share_a_queue(rt: HostRuntime) -> Result<(), Fail> {
 fn served_within<R: Threads + Wait + time::Clock + Abort + Sync>(
     rt: &R,
     alloc: Global,
-    door: &TcpDoor<'_>,
+    door: &TcpDoor<'_, CountedListener>,
 ) -> (Counts, u64) {
     let watch = MachineClock::new(rt);
     let counts = served(rt, alloc, door, 1);

@@ -1,0 +1,68 @@
+use crate::standing::Standing;
+use std::alloc::Global;
+use std::io;
+use std::net::TcpStream;
+use std::sync::Arc;
+use std::time::Duration;
+
+/// The streams of one client's connection.
+#[derive(Drop)]
+pub struct Connection {
+    pub(crate) reader: TcpStream,
+    pub(crate) writer: TcpStream,
+    // The connection once more, for a gate that looks at it.
+    pub(crate) watched: Option<TcpStream>,
+    // What a gate hears of its session, and a reader sees, if they do.
+    pub(crate) heard: Option<Arc<Standing, Global>>,
+    pub(crate) seen: Option<Arc<Standing, Global>>,
+}
+
+/// What a client's connection is to have.
+#[derive(Clone, Copy)]
+pub struct ConnectionNeeds {
+    // How long a read or a write may wait at once, if not for as long as it takes.
+    pub(crate) look: Option<Duration>,
+    // Whether the server may be ended, so that nobody is waited for longer than 20 ms at once.
+    pub(crate) returns: bool,
+    pub(crate) watched: bool,
+    pub(crate) heard: bool,
+}
+
+impl ConnectionNeeds {
+    // The connection of this client. Its replies are sent at once, and not held back until more can go with them; a
+    // stream for which the system can't set this is served all the same. How long its reads wait is always set: a
+    // stream that waited for its accept has what an earlier server told the listener.
+    pub(crate) fn connect(&self, alloc: Global, stream: TcpStream) -> io::Result<Connection> {
+        let _ = stream.set_nodelay(true);
+        stream.set_read_timeout(self.look)?;
+        if self.look.is_some() {
+            stream.set_write_timeout(self.look)?;
+        }
+        let writer = stream.try_clone()?;
+        let watched = if self.watched {
+            Some(stream.try_clone()?)
+        } else {
+            None
+        };
+        let (heard, seen) = self.standings(alloc)?;
+        Ok(Connection {
+            reader: stream,
+            writer,
+            watched,
+            heard,
+            seen,
+        })
+    }
+
+    fn standings(
+        &self,
+        alloc: Global,
+    ) -> io::Result<(Option<Arc<Standing, Global>>, Option<Arc<Standing, Global>>)> {
+        if !self.heard {
+            return Ok((None, None));
+        }
+        let standing = Arc::new(alloc, Standing::new())?;
+        let other = Arc::try_clone(&standing)?;
+        Ok((Some(standing), Some(other)))
+    }
+}

@@ -1,0 +1,106 @@
+ghost use Rattle.std.specs.Prelude.{ℕ, IfOk, IfSome, OnErr};
+ghost use Rattle.std.specs.declared.net.tcp.TcpStream.{TcpStream};
+ghost use Rattle.rb_serving.specs.declared.connection.Connection.{Connection};
+
+use crate::connection::{Connection, ConnectionNeeds};
+use crate::patience::is_timeout;
+use std::alloc::Global;
+use std::fmt::{self, Debug, Formatter};
+use std::io;
+use std::net::{Shutdown, TcpListener, TcpStream};
+use std::os::fd::OwnedFd;
+use std::sync::atomic::{AtomicU64, Ordering};
+use std::time::Duration;
+
+/// Where a door's clients come from.
+///
+/// `counts` tells how often a client was asked for, `brings` of the connection of one that came, `fails` that one could
+/// not be had, and `closes` that a stream was closed. Code over any listener learns them from these methods alone: so it
+/// can neither turn away who came, nor put the ends of two connections together, nor keep one open.
+pub trait Listener {
+    ghost counts: { Self → ℕ → Type 0 };
+
+    ghost brings: { Self → Connection → Type 0 };
+
+    ghost fails: { Self → Type 0 };
+
+    ghost closes: { Self → TcpStream → Type 0 };
+
+    /// How often a client was asked for before.
+    fn ask(&self) -> u64
+        ensures { counts self.now result };
+
+    /// Waits for a client, and has its connection made ready; `None` if nobody came for as long as may be waited.
+    fn bring(&self, alloc: Global, needs: ConnectionNeeds) -> io::Result<Option<Connection>>
+        ensures brings { IfOk result (λ came. IfSome came (brings self.now)) }
+        ensures fails { OnErr result (fails self.now) };
+
+    /// Closes a stream. The client may first be told that it gets nothing more, so that it reads an end behind all
+    /// replies even if it has sent more than was read.
+    fn close(&self, stream: TcpStream, tells_end: bool)
+        ensures { closes self.now stream };
+}
+
+/// A TCP listener that counts how often a client was asked for.
+#[derive(Drop)]
+pub struct CountedListener {
+    listener: TcpListener,
+    // It may pass the sessions of a door, once for each worker.
+    asked: AtomicU64,
+}
+
+impl CountedListener {
+    /// A listener of which no client was asked yet. Its accepts wait for no longer than this, or for as long as it
+    /// takes.
+    pub(crate) fn new(
+        listener: TcpListener,
+        most: Option<Duration>,
+    ) -> io::Result<CountedListener> {
+        if most.is_some() {
+            limit_accepts(&listener, most)?;
+        }
+        Ok(CountedListener {
+            listener,
+            asked: AtomicU64::new(0),
+        })
+    }
+}
+
+/// Lets no accept of this listener wait for longer than this, in whichever process, or each for as long as it takes.
+pub fn limit_accepts(listener: &TcpListener, most: Option<Duration>) -> io::Result<()> {
+    TcpStream::from(OwnedFd::from(listener.try_clone()?)).set_read_timeout(most)
+}
+
+impl Listener for CountedListener {
+    ghost counts = { λ listener asked. Unit {0} };
+
+    ghost brings = { λ listener connection. Unit {0} };
+
+    ghost fails = { λ listener. Unit {0} };
+
+    ghost closes = { λ listener stream. Unit {0} };
+
+    fn ask(&self) -> u64 {
+        self.asked.fetch_add(1, Ordering::SeqCst)
+    }
+
+    fn bring(&self, alloc: Global, needs: ConnectionNeeds) -> io::Result<Option<Connection>> {
+        match self.listener.accept() {
+            Ok((stream, _)) => Ok(Some(needs.connect(alloc, stream)?)),
+            Err(fault) if needs.returns && is_timeout(&fault) => Ok(None),
+            Err(fault) => Err(fault),
+        }
+    }
+
+    fn close(&self, stream: TcpStream, tells_end: bool) {
+        if tells_end {
+            let _ = stream.shutdown(Shutdown::Write);
+        }
+    }
+}
+
+impl Debug for CountedListener {
+    fn fmt<W: fmt::Write>(&self, f: &mut Formatter<W>) -> fmt::Result {
+        f.debug_struct("CountedListener").finish_non_exhaustive()
+    }
+}

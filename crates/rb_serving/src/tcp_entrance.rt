@@ -1,0 +1,75 @@
+ghost use Rattle.std.specs.Prelude.{◌≡◌};
+ghost use Rattle.std.specs.List.{All};
+ghost use Rattle.rb_serving.specs.TcpSteps.{ShowsStep, ShowsStepSomewhere};
+
+use crate::door::{Door, DoorFault};
+use crate::listener::Listener;
+use crate::tcp_door::{NoMore, TcpDoor, TcpVisit};
+use crate::tcp_gate::TcpGate;
+use crate::tcp_reader::TcpReader;
+use crate::tcp_writer::TcpWriter;
+use rb_protocol::LimitedReader;
+use std::sync::Wait;
+use std::time;
+
+/// An entrance of a `TcpDoor`. All of them let in the clients of its one listener, and count the same sessions.
+#[derive(Drop)]
+pub struct TcpEntrance<'a, L: Listener> {
+    door: &'a TcpDoor<'a, L>,
+    // Why it has no more visits, once it has none.
+    no_more: Option<NoMore<'a>>,
+}
+
+impl<'a, L: Listener> TcpDoor<'a, L> {
+    /// An entrance at which nothing happened yet.
+    pub fn entrance(&'a self) -> TcpEntrance<'a, L>
+        ensures { result.door.now ≡ self.now }
+    {
+        TcpEntrance {
+            door: self,
+            no_more: None,
+        }
+    }
+}
+
+impl<'a, L: Listener> Door for TcpEntrance<'a, L> {
+    type Reader = TcpReader<'a>;
+
+    type Writer = TcpWriter<'a>;
+
+    type Gate = TcpGate<'a>;
+
+    ghost has_seen = { λ entrance log. All (ShowsStep L.Listener entrance.door.now) log };
+
+    ghost demands = { λ visit reader writer. Unit {0} };
+
+    ghost is_ready = { λ entrance. Unit {0} };
+
+    ghost awaits = { λ entrance visit. Unit {0} };
+
+    ghost may_split = { λ entrance more. Unit {0} };
+
+    ghost has_joined = { λ entrance out log. All (ShowsStepSomewhere L.Listener) log };
+
+    fn next<R: Wait + time::Clock>(&mut self, rt: &R) -> Option<Result<TcpVisit<'a>, DoorFault>> {
+        let asked = self.door.listener.ask();
+        match self.door.answer(rt, asked) {
+            Ok(answer) => Some(answer),
+            Err(why) => {
+                self.no_more = Some(why);
+                None
+            }
+        }
+    }
+
+    fn leave(&mut self, _reader: &LimitedReader<'_, TcpReader<'a>>, writer: TcpWriter<'a>) {
+        let TcpWriter { stream, patience } = writer;
+        self.door.listener.close(stream, patience.is_some());
+    }
+
+    fn split(&mut self) -> TcpEntrance<'a, L> {
+        self.door.entrance()
+    }
+
+    fn join(&mut self, _other: TcpEntrance<'a, L>) {}
+}
