@@ -10,8 +10,8 @@ use rb_protocol::{LimitedReader, LimitedWriter};
 use rb_queue::Opening;
 use rb_runs::{ReadyScript, opening_in, over_timer, run_replay};
 use rb_serving::{
-    CountedListener, Ending, Recorder, ServeClock, ServeReport, TcpDoor, TcpManners, end_server,
-    print_listening, serve_door_gathered,
+    CountedListener, Ending, Recorder, ServeClock, ServedQueue, TcpDoor, TcpManners,
+    print_listening, serve_run,
 };
 use rb_session::{Delivery, Ended, HandsOn};
 use rb_timer::Timer;
@@ -132,17 +132,19 @@ fn serve_over<T: Timer + Send, R: Threads + Wait + time::Clock + Sync>(
     let alloc = rt.alloc();
     let text = HistoryRoom::new(alloc)?;
     let clock = ServeClock::new(opening.last_at, MachineClock::new(handle));
-    let (_, mut history, served) = serve_door_gathered(
+    let queue = ServedQueue::<T>::open(alloc, run, opening)?;
+    let (_, _, ended) = serve_run(
         handle,
         alloc,
         door.entrance(),
         &clock,
         run,
-        opening,
+        queue,
         history,
+        text,
+        &mut rt.stdout(),
     );
-    let report: ServeReport<T> = served?;
-    end_server(alloc, text, &report, &mut rt.stdout(), history.device()).result()
+    ended
 }
 
 // The opening of a run: the one that the history in a file leads to, or if none is named the empty one.

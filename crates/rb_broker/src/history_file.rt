@@ -1,4 +1,4 @@
-ghost use Rattle.std.specs.Prelude.{◌≡◌, IfErr, IsTrue, false};
+ghost use Rattle.std.specs.Prelude.{◌≡◌, IfErr, IsTrue, false, is_some};
 ghost use Rattle.std.specs.Fs.{asks_write, asks_create, asks_truncate};
 ghost use Rattle.rb_ending.specs.declared.broker_fault.BrokerFault.TheVariants.{WriteHistory};
 
@@ -6,7 +6,7 @@ use rb_ending::BrokerFault;
 use rb_protocol::WriteFault;
 use rb_serving::Recorder;
 use std::fs::{File, OpenOptions};
-use std::io::ErrorKind;
+use std::io::{self, ErrorKind, Write};
 
 /// The file that the history of a run is written to, if one is named.
 ///
@@ -44,6 +44,8 @@ impl Recorder for HistoryFile {
 
     ghost has_failed = { λ old new. Unit {0} };
 
+    ghost keeps = { λ history. is_some history.file };
+
     // Empties the file. A pipe or a device has no bytes that could be taken away, which the system answers by an
     // invalid argument.
     fn begin(&mut self) -> Result<(), WriteFault> {
@@ -54,6 +56,24 @@ impl Recorder for HistoryFile {
             Err(fault) if fault.kind() != ErrorKind::InvalidInput => Err(WriteFault),
             _ => Ok(()),
         }
+    }
+
+    fn records(&self) -> bool {
+        self.file.is_some()
+    }
+}
+
+// What is written goes to the file, if one is named.
+impl Write for HistoryFile {
+    fn write(&mut self, buf: &[u8]) -> io::Result<usize> {
+        match &mut self.file {
+            Some(file) => file.write(buf),
+            None => Ok(buf.len()),
+        }
+    }
+
+    fn flush(&mut self) -> io::Result<()> {
+        Ok(())
     }
 }
 

@@ -1,3 +1,4 @@
+ghost use Rattle.atomic_table.specs.Seated.{TableId};
 ghost use Rattle.rb_retry.specs.DeskRules.{desk_rules};
 ghost use Rattle.rb_retry.specs.declared.policy.Policy.{Policy};
 ghost use Rattle.rb_session.specs.declared.delivery.Delivery.{Delivery};
@@ -60,14 +61,14 @@ pub fn history_of_script<W: Write>()
 /// A visit adds to the calls of the pass that serves it just the events of the lines that were served, and
 /// then those of the jobs that its session still held.
 pub fn calls_of_visit<D: Door, C: Clock>()
-    ensures { (clock : C) (policy : Policy) (delivery : Delivery) → CallsByVisit
-        (terms_of D.Reader.Read D.Writer.Write D.Gate.Gate C.Clock clock policy delivery) }
+    ensures { (clock : C) (policy : Policy) (delivery : Delivery) (table : TableId) → CallsByVisit
+        (terms_of D.Reader.Read D.Writer.Write D.Gate.Gate C.Clock clock policy delivery table) }
 {}
 
 /// In the history that a server gives back each worker has a name of its own. Its events are those of the
 /// sessions that it served, one after the other, and no event has another name. So each event is of a line
 /// that one session served, or of a job that this session still held at its end.
 pub fn history_of_server<T: Timer, D: Door, C: Clock>()
-    ensures { (clock : C) (policy : Policy) (delivery : Delivery) → GathersSessions
-        (terms_of D.Reader.Read D.Writer.Write D.Gate.Gate C.Clock clock policy delivery) T }
+    ensures { (clock : C) (policy : Policy) (delivery : Delivery) (table : TableId) → GathersSessions
+        (terms_of D.Reader.Read D.Writer.Write D.Gate.Gate C.Clock clock policy delivery table) T }
 {}

@@ -1,3 +1,4 @@
+ghost use Rattle.atomic_table.specs.Seated.{TableId};
 ghost use Rattle.rb_jobs.specs.Places.{JobsAreKept};
 ghost use Rattle.rb_jobs.specs.Continued.{JobsAreAccepted, JobsGoOn, NoneAreJobs};
 ghost use Rattle.rb_jobs.specs.NextRuns.{ScriptHandsJobsOn, ServerHandsJobsOn};
@@ -42,8 +43,8 @@ pub fn script_keeps_jobs<W: Write>()
 /// From such an opening a server keeps jobs, over all its sessions at once: however the threads of its workers
 /// interleave, no job is in two places at any moment of the history that it gives back.
 pub fn server_keeps_jobs<T: Timer, D: Door, C: Clock>()
-    ensures { (clock : C) (policy : Policy) (delivery : Delivery) → ServerKeepsJobs
-        (terms_of D.Reader.Read D.Writer.Write D.Gate.Gate C.Clock clock policy delivery) T }
+    ensures { (clock : C) (policy : Policy) (delivery : Delivery) (table : TableId) → ServerKeepsJobs
+        (terms_of D.Reader.Read D.Writer.Write D.Gate.Gate C.Clock clock policy delivery table) T }
 {}
 
 /// Jobs in are jobs out. The jobs of a script's opening and those that its replies accept, sent or not, are done,
@@ -56,8 +57,8 @@ pub fn script_accounts<W: Write>()
 /// The same over all sessions of a server, whose events its history is made of. Replies that a failing write did
 /// not send count too.
 pub fn server_accounts<T: Timer, D: Door, C: Clock>()
-    ensures { (clock : C) (policy : Policy) (delivery : Delivery) → ServerAccounts
-        (terms_of D.Reader.Read D.Writer.Write D.Gate.Gate C.Clock clock policy delivery) T }
+    ensures { (clock : C) (policy : Policy) (delivery : Delivery) (table : TableId) → ServerAccounts
+        (terms_of D.Reader.Read D.Writer.Write D.Gate.Gate C.Clock clock policy delivery table) T }
 {}
 
 /// Of a history that keeps jobs `chains` answers `Ok`, or that memory is short. An empty opening begins with
@@ -78,6 +79,6 @@ pub fn script_hands_jobs_on<W: Write>()
 
 /// The same of a server, over all its sessions.
 pub fn server_hands_jobs_on<T: Timer, D: Door, C: Clock>()
-    ensures { (clock : C) (policy : Policy) (delivery : Delivery) → ServerHandsJobsOn
-        (terms_of D.Reader.Read D.Writer.Write D.Gate.Gate C.Clock clock policy delivery) T }
+    ensures { (clock : C) (policy : Policy) (delivery : Delivery) (table : TableId) → ServerHandsJobsOn
+        (terms_of D.Reader.Read D.Writer.Write D.Gate.Gate C.Clock clock policy delivery table) T }
 {}

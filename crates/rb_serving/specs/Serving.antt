@@ -1,15 +1,20 @@
 -- What serving visits leaves of the passes, and what a server gives.
-use Rattle.std.specs.Prelude.{◌≡◌, ℕ, List, [], ◌∷◌, ◌++◌, length, Option}
+use Rattle.std.specs.Prelude.{◌≡◌, ℕ, List, [], ◌∷◌, ◌++◌, length, Option, Bool, Result, Ok, Err, ◌⊎◌, MatchBool}
+use Rattle.atomic_table.specs.Seated.{TableId}
 use Rattle.rb_queue.specs.Counts.{audit_of}
 use Rattle.rb_queue.specs.declared.opening.Opening.{Opening}
-use Rattle.rb_lock.specs.Passes.{PassState, all_records}
+use Rattle.rb_lock.specs.Passes.{PassState, all_records, first_pass}
 use Rattle.rb_lock.specs.ClosedQueues.{HasCallsOf}
 use Rattle.rb_lock.specs.declared.pass_record.PassRecord.{PassRecord}
+use Rattle.rb_kept.specs.Log.{Log}
+use Rattle.rb_history.specs.declared.history_fault.HistoryFault.{HistoryFault}
 use Rattle.rb_options.specs.declared.server_run_options.ServerRunOptions.{ServerRunOptions}
 use Rattle.rb_ending.specs.declared.broker_fault.BrokerFault.{BrokerFault}
 use Rattle.rb_ending.specs.declared.broker_fault.BrokerFault.TheVariants as Broker
+use Rattle.rb_ending.specs.Recording.{RecordsLog}
 use Rattle.rb_session.specs.Served.{Served}
 use Rattle.rb_serving.specs.DoorSteps.{DoorStep, Gathers, all_steps}
+use Rattle.rb_serving.specs.ServeText.{Prints, first_fault, report_text}
 use Rattle.rb_serving.specs.Terms.{Terms}
 use Rattle.rb_serving.specs.VisitCounts.{counts_in}
 use Rattle.rb_serving.specs.Visits.{AllServed, IsWorker, AreWorkers, counts_of, all_visits}
@@ -32,6 +37,11 @@ pub record IsReport {T : Type 0} (pass : PassState) (visits : VisitCounts) (repo
   pub audited : report.audit ≡ audit_of report.kept.opening report.kept.history
   pub holds : HasCallsOf report.kept (all_records pass)
   pub counted : counts_in report ≡ visits
+
+-- the pass of a queue that begins with this opening, which nobody has called, with room for as many calls as the options say
+abbrev pub IsOpened : Opening → ServerRunOptions → TableId → PassState → Type 0
+IsOpened begun options table pass =
+    pass ≡ first_pass table (record { opening = begun; history = []; capacity = options.calls })
 
 module _ {I O G C : Type 0} (terms : Terms I O G C) where
   -- what a worker's thread gives: a pass with nothing folded into it, and the counts of the visits that it
@@ -94,13 +104,44 @@ module _ {I O G C : Type 0} (terms : Terms I O G C) where
 abbrev pub EndsServing : BrokerFault → Type 0
 EndsServing Broker.Worker = Unit {0}
 EndsServing Broker.NotGathered = Unit {0}
-EndsServing Broker.Memory = Unit {0}
 EndsServing _ = ⊥
 
 -- the same where the run has a recorder, and what became of that: it has not begun, or could not, or has
 abbrev pub EndsRecorded : {B : Type 0} → (B → B → Type 0) → (B → B → Type 0) → B → B → BrokerFault → Type 0
-EndsRecorded has_begun has_failed old new Broker.Memory = new ≡ old
 EndsRecorded has_begun has_failed old new Broker.Worker = new ≡ old
 EndsRecorded has_begun has_failed old new Broker.WriteHistory = has_failed old new
 EndsRecorded has_begun has_failed old new Broker.NotGathered = has_begun old new
 EndsRecorded _ _ _ _ _ = ⊥
+
+-- the history was written to the recorder, if that keeps it; otherwise nothing was to be done
+abbrev pub RecordsIn : {B : Type 0} → (B → Bool) → (B → Option (List ℕ)) → Log → Result (Unit {0}) HistoryFault → B → B
+    → Type 0
+RecordsIn keeps contents log wrote old new =
+    MatchBool (keeps old) (RecordsLog log wrote (contents old) (contents new)) ((wrote ≡ Ok tt) × (new ≡ old))
+
+module _ {I O G C : Type 0} (terms : Terms I O G C) where
+  -- A whole run: the server's report, of a run that begins with this opening, is what was recorded and printed. The recorder
+  -- had begun before, and the output had got `got`. `ended` is the fault of recording, if there is one, and otherwise
+  -- that of printing.
+  pub record EndsRun (T : Type 0) {D B : Type 0} (has_joined : D → ℕ → List (DoorStep I O G) → Type 0)
+      (has_begun : B → B → Type 0) (keeps : B → Bool) (contents : B → Option (List ℕ)) (begun : Opening)
+      (options : ServerRunOptions) (old_door new_door : D) (old new : B) (got got' : Option (List ℕ))
+      (ended : Result (Unit {0}) BrokerFault) : Type 0 where
+    pub report : ServeReport T
+    pub run : IsServersRun terms begun options report
+    pub gathers : Gathers has_joined old_door (all_steps run.logs) new_door
+    pub between : B
+    pub began : has_begun old between
+    pub recorded : Result (Unit {0}) HistoryFault
+    pub records : RecordsIn keeps contents report.kept recorded between new
+    pub printed : Result (Unit {0}) BrokerFault
+    pub prints : Prints printed got (report_text report) got'
+    pub outcome : ended ≡ first_fault recorded printed
+
+-- no run was served, for this reason, and nothing was printed
+pub record FailsRun {B : Type 0} (has_begun has_failed : B → B → Type 0) (old new : B) (got got' : Option (List ℕ))
+    (ended : Result (Unit {0}) BrokerFault) : Type 0 where
+  pub fault : BrokerFault
+  pub reason : EndsRecorded has_begun has_failed old new fault
+  pub silent : got' ≡ got
+  pub outcome : ended ≡ Err fault

@@ -1,5 +1,6 @@
 -- On what terms a server's visits are served.
 use Rattle.std.specs.Prelude.{Bool, ℕ, List, Option}
+use Rattle.atomic_table.specs.Seated.{TableId}
 use Rattle.std.specs.declared.io.Read as Read
 use Rattle.std.specs.declared.io.Write as Write
 use Rattle.rb_blocking.specs.declared.clock.Clock as Clock
@@ -9,7 +10,8 @@ use Rattle.rb_session.specs.declared.delivery.Delivery.{Delivery}
 use Rattle.rb_serving.specs.declared.service.Service.{Service}
 
 -- What a visit's reader and writer tell of their bytes, and what its gate may answer. All sessions have in common the
--- clock that they read and what it may read, when a failed job is offered again, and when replies are written.
+-- clock that they read and what it may read, when a failed job is offered again, when replies are written, and the queue
+-- that they call.
 pub record Terms (I O G C : Type 0) : Type 1 where
   pub remaining : I → Option (List ℕ)
   pub contents : O → Option (List ℕ)
@@ -18,12 +20,13 @@ pub record Terms (I O G C : Type 0) : Type 1 where
   pub gives : C → ℕ → Type 0
   pub policy : Policy
   pub delivery : Delivery
+  pub table : TableId
 
 module _ {I O G C : Type 0} (reader : Read.Ghosts I) (writer : Write.Ghosts O)
     (gate : Gate.Ghosts G) (clock_words : Clock.Ghosts C) where
-  -- the terms of visits with such readers, writers and gates, by this clock, policy and delivery
-  abbrev pub terms_of : C → Policy → Delivery → Terms I O G C
-  terms_of clock policy delivery = record {
+  -- the terms of visits with such readers, writers and gates, by this clock, policy and delivery, of this queue
+  abbrev pub terms_of : C → Policy → Delivery → TableId → Terms I O G C
+  terms_of clock policy delivery table = record {
     remaining = reader.remaining;
     contents = writer.contents;
     answers = gate.answers;
@@ -31,8 +34,9 @@ module _ {I O G C : Type 0} (reader : Read.Ghosts I) (writer : Write.Ghosts O)
     gives = clock_words.gives;
     policy = policy;
     delivery = delivery;
+    table = table;
   }
 
   -- the terms of a service
   abbrev pub service_terms : {T V : Type 0} → Service T C V → Terms I O G C
-  service_terms service = terms_of service.clock.now service.policy.now service.delivery
+  service_terms service = terms_of service.clock.now service.policy.now service.delivery service.shared.now

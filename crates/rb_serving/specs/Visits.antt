@@ -75,12 +75,13 @@ module _ {I O G C : Type 0} (terms : Terms I O G C) where
       session_rules (shared_rules visit_waits terms.policy) terms.delivery
       (HadGotBehind terms.contents (terms.contents writer))
 
-  -- The session of this visit was run at a new desk of the pass. What came was read from the visit's reader, what
+  -- The session of this visit was run at a new desk of the pass, which is one of the server's queue. What came was read from the visit's reader, what
   -- was sent went to its writer, and its gate could end the waits. `reader` and `writer` are what is left of the two.
   -- The input ended only if the last read met its end, a read failed exactly if the session says so, and it gave
   -- reading up only when all reads had been made.
   pub record RanVisit (visit : Visit I O G) (reader : LimitedReader I) (writer : O) (old : PassState) (served : Served)
       (new : PassState) : Type 0 where
+    pub table : old.table ≡ terms.table
     pub consumed : Consumes (terms.remaining visit.reader) (terms.remaining reader.inner.now) served.came
     pub appended : Appends (terms.contents visit.writer) (terms.contents writer) served.sent
     pub from : SharedState C G

@@ -1,4 +1,5 @@
 ghost use Rattle.std.specs.Prelude.{◌≡◌};
+ghost use Rattle.atomic_table.specs.Seated.{TableId};
 ghost use Rattle.rb_retry.specs.declared.policy.Policy.{Policy};
 ghost use Rattle.rb_session.specs.declared.delivery.Delivery.{Delivery};
 ghost use Rattle.rb_serving.specs.Serving.{ServesAll};
@@ -17,6 +18,6 @@ pub fn pause_has_its_value()
 /// Each visitor that a server's workers let in was served: a session was run on what it sent and of what it was sent,
 /// and the entrance got back what is left of it before anything else happened there.
 pub fn each_visitor_is_served<T: Timer, D: Door, C: Clock>()
-    ensures { (clock : C) (policy : Policy) (delivery : Delivery) → ServesAll
-        (terms_of D.Reader.Read D.Writer.Write D.Gate.Gate C.Clock clock policy delivery) T }
+    ensures { (clock : C) (policy : Policy) (delivery : Delivery) (table : TableId) → ServesAll
+        (terms_of D.Reader.Read D.Writer.Write D.Gate.Gate C.Clock clock policy delivery table) T }
 {}

@@ -1,4 +1,4 @@
-ghost use Rattle.std.specs.Prelude.{OnErr, OnOk};
+ghost use Rattle.std.specs.Prelude.{◌≡◌, Bool, false, OnErr, OnOk};
 
 use rb_protocol::WriteFault;
 
@@ -14,11 +14,17 @@ pub trait Recorder {
 
     ghost has_failed: { Self → Self → Type 0 };
 
+    ghost keeps: { Self → Bool };
+
     /// Begins, such as by emptying the file that the history goes to. `Err` means that it could not, and the server
     /// then serves nobody.
     fn begin(&mut self) -> Result<Self::Begun, WriteFault>
         ensures begun { OnOk result (has_begun self.old self.new) }
         ensures failed { OnErr result (has_failed self.old self.new) };
+
+    /// Whether the run's history is to be written to it.
+    fn records(&self) -> bool
+        ensures { result ≡ keeps self.now };
 }
 
 /// For a run that is recorded nowhere.
@@ -32,7 +38,13 @@ impl Recorder for NoRecorder {
 
     ghost has_failed = { λ old new. ⊥ };
 
+    ghost keeps = { λ recorder. false };
+
     fn begin(&mut self) -> Result<(), WriteFault> {
         Ok(())
+    }
+
+    fn records(&self) -> bool {
+        false
     }
 }

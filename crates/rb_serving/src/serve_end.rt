@@ -56,7 +56,7 @@ pub fn end_server<T: Timer, W: Write, H: Write>(
 }
 
 // Prints the counts of a run whose history was written like this.
-fn ended<T: Timer, W: Write>(
+pub(crate) fn ended<T: Timer, W: Write>(
     alloc: Global,
     report: &ServeReport<T>,
     writer: &mut W,

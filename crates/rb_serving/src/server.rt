@@ -1,22 +1,21 @@
-ghost use Rattle.std.specs.Prelude.{◌≡◌, [], IfOk, IfErr, MatchResult};
-ghost use Rattle.rb_lock.specs.Passes.{first_pass};
+ghost use Rattle.std.specs.Prelude.{◌≡◌, IfOk, IfErr, MatchResult};
+ghost use Rattle.rb_queue.specs.declared.opening.Opening.{Opening};
 ghost use Rattle.rb_serving.specs.DoorSteps.{Gathers, all_steps};
-ghost use Rattle.rb_serving.specs.Serving.{EndsRecorded, EndsServing, IsReport, IsServersRun};
+ghost use Rattle.rb_serving.specs.Serving.{EndsRecorded, EndsServing, IsOpened, IsReport, IsServersRun};
 ghost use Rattle.rb_serving.specs.Terms.{terms_of};
 ghost use Rattle.rb_serving.specs.Visits.{Satisfies};
 
 use crate::door::Door;
 use crate::recorder::{NoRecorder, Recorder};
 use crate::serve_report::ServeReport;
+use crate::served_queue::ServedQueue;
 use crate::service::Service;
 use crate::visit_counts::VisitCounts;
 use crate::workers::serve_all;
 use rb_blocking::{Bell, Clock};
 use rb_ending::BrokerFault;
-use rb_kept::Kept;
 use rb_lock::{Pass, Shared};
 use rb_options::ServerRunOptions;
-use rb_queue::Opening;
 use rb_session::{Delivery, HandsOn};
 use rb_timer::Timer;
 use std::alloc::Global;
@@ -31,8 +30,7 @@ use std::time;
 /// that failed, no further line of that visit is served. The history that comes back is legal and
 /// has exactly the workers' calls, which are the calls of the sessions that each served until the
 /// door had no more; the counts are those of their visits, none counted twice. Memory is taken for
-/// the history at the start, then for each session as it begins, and for what is offered and
-/// drained.
+/// each session as it begins, and for what is offered and drained.
 pub fn serve_door<
     T: Timer + Send,
     D: Door + Drop + Send,
@@ -44,19 +42,19 @@ pub fn serve_door<
     door: D,
     clock: &C,
     options: &ServerRunOptions,
-    opening: Opening,
+    queue: ServedQueue<T>,
 ) -> (D, Result<ServeReport<T>, BrokerFault>)
     requires splits { D.may_split door options.now.workers }
     requires honest { Satisfies
-        (terms_of D.Reader.Read D.Writer.Write D.Gate.Gate C.Clock clock.now options.now.policy Delivery.AtOnce) D.demands }
-    ensures served { IfOk result.1 (λ report. (run : IsServersRun
-        (terms_of D.Reader.Read D.Writer.Write D.Gate.Gate C.Clock clock.now options.now.policy Delivery.AtOnce)
+        (terms_of D.Reader.Read D.Writer.Write D.Gate.Gate C.Clock clock.now options.now.policy Delivery.AtOnce queue.shared) D.demands }
+    ensures served { (opening : Opening) → IsOpened opening options.now queue.shared queue.pass → IfOk result.1 (λ report. (run : IsServersRun
+        (terms_of D.Reader.Read D.Writer.Write D.Gate.Gate C.Clock clock.now options.now.policy Delivery.AtOnce queue.shared)
         opening options.now report) × Gathers D.has_joined door (all_steps run.logs) result.0) }
     ensures fault { IfErr result.1 EndsServing }
 {
     let at_once = Delivery::AtOnce;
     let (door, _, served) = serve_delivering(
-        rt, alloc, door, clock, options, at_once, opening, NoRecorder,
+        rt, alloc, door, clock, options, at_once, queue, NoRecorder,
     );
     (door, served)
 }
@@ -67,9 +65,9 @@ pub fn serve_door<
 /// A write that fails may lose the replies to lines that were served, at most 64 KiB of them. All
 /// those lines are in the history.
 ///
-/// The recorder begins once all workers have been started and the memory for the history was taken, before
-/// anybody is let in. If memory is missing or a worker can't be started, nobody is let in and the recorder
-/// is as it was. If it can't begin, nobody is let in, and the fault is `WriteHistory`.
+/// The recorder begins once all workers have been started, before anybody is let in. If a worker can't be
+/// started, nobody is let in and the recorder is as it was. If it can't begin, nobody is let in, and the
+/// fault is `WriteHistory`.
 pub fn serve_door_gathered<
     T: Timer + Send,
     D: Door + Drop + Send,
@@ -82,20 +80,20 @@ pub fn serve_door_gathered<
     door: D,
     clock: &C,
     options: &ServerRunOptions,
-    opening: Opening,
+    queue: ServedQueue<T>,
     recorder: B,
 ) -> (D, B, Result<ServeReport<T>, BrokerFault>)
     requires splits { D.may_split door options.now.workers }
     requires honest { Satisfies
-        (terms_of D.Reader.Read D.Writer.Write D.Gate.Gate C.Clock clock.now options.now.policy (Delivery.Gathered HandsOn.BeforeReadsAndWaits)) D.demands }
-    ensures served { IfOk result.2 (λ report. (run : IsServersRun
-        (terms_of D.Reader.Read D.Writer.Write D.Gate.Gate C.Clock clock.now options.now.policy (Delivery.Gathered HandsOn.BeforeReadsAndWaits))
+        (terms_of D.Reader.Read D.Writer.Write D.Gate.Gate C.Clock clock.now options.now.policy (Delivery.Gathered HandsOn.BeforeReadsAndWaits) queue.shared) D.demands }
+    ensures served { (opening : Opening) → IsOpened opening options.now queue.shared queue.pass → IfOk result.2 (λ report. (run : IsServersRun
+        (terms_of D.Reader.Read D.Writer.Write D.Gate.Gate C.Clock clock.now options.now.policy (Delivery.Gathered HandsOn.BeforeReadsAndWaits) queue.shared)
         opening options.now report) × Gathers D.has_joined door (all_steps run.logs) result.0) }
     ensures recorder { MatchResult result.2 (λ _. B.has_begun recorder result.1)
         (EndsRecorded B.has_begun B.has_failed recorder result.1) }
 {
     let delivery = Delivery::Gathered(HandsOn::BeforeReadsAndWaits);
-    serve_delivering(rt, alloc, door, clock, options, delivery, opening, recorder)
+    serve_delivering(rt, alloc, door, clock, options, delivery, queue, recorder)
 }
 
 // Serves the visits, whose replies are written when `delivery` says so.
@@ -112,22 +110,19 @@ fn serve_delivering<
     clock: &C,
     options: &ServerRunOptions,
     delivery: Delivery,
-    opening: Opening,
+    queue: ServedQueue<T>,
     recorder: B,
 ) -> (D, B, Result<ServeReport<T>, BrokerFault>)
     requires splits { D.may_split door options.now.workers }
     requires honest { Satisfies
-        (terms_of D.Reader.Read D.Writer.Write D.Gate.Gate C.Clock clock.now options.now.policy delivery) D.demands }
-    ensures served { IfOk result.2 (λ report. (run : IsServersRun
-        (terms_of D.Reader.Read D.Writer.Write D.Gate.Gate C.Clock clock.now options.now.policy delivery)
+        (terms_of D.Reader.Read D.Writer.Write D.Gate.Gate C.Clock clock.now options.now.policy delivery queue.shared) D.demands }
+    ensures served { (opening : Opening) → IsOpened opening options.now queue.shared queue.pass → IfOk result.2 (λ report. (run : IsServersRun
+        (terms_of D.Reader.Read D.Writer.Write D.Gate.Gate C.Clock clock.now options.now.policy delivery queue.shared)
         opening options.now report) × Gathers D.has_joined door (all_steps run.logs) result.0) }
     ensures recorder { MatchResult result.2 (λ _. B.has_begun recorder result.1)
         (EndsRecorded B.has_begun B.has_failed recorder result.1) }
 {
-    let (shared, pass) = match opened::<T>(alloc, options, opening) {
-        Ok(opened) => opened,
-        Err(fault) => return (door, recorder, Err(fault)),
-    };
+    let ServedQueue { shared, pass } = queue;
     let bell = Bell::new();
     let serves = OnceLock::new();
     let service = Service {
@@ -144,22 +139,6 @@ fn serve_delivering<
         Ok((pass, visits)) => (door, recorder, report_of(rt, shared, pass, visits)),
         Err(fault) => (door, recorder, Err(fault)),
     }
-}
-
-// Shares a new queue of the opening. The number of calls is in range, so that memory alone can be missing.
-fn opened<T: Timer>(
-    alloc: Global,
-    options: &ServerRunOptions,
-    opening: Opening,
-) -> Result<(Shared<T>, Pass<T>), BrokerFault>
-    ensures pass { IfOk result (λ opened. opened.1 ≡ first_pass opened.0
-        (record { opening = opening; history = []; capacity = options.now.calls })) }
-    ensures fault { IfErr result (λ fault. fault ≡ BrokerFault.Memory) }
-{
-    let (kept, tally) = Kept::<T>::new_from(alloc, options.calls, opening).map_err(
-        |_| BrokerFault::Memory,
-    )?;
-    Shared::open(alloc, kept, tally).map_err(|_| BrokerFault::Memory)
 }
 
 // Ends the sharing, and reports what there was.

@@ -10,7 +10,8 @@ use rb_queue::{Audit, Opening};
 use rb_replay::check;
 use rb_retry::Policy;
 use rb_serving::{
-    Door, DoorFault, NoRecorder, Recorder, ServeReport, Visit, serve_door, serve_door_gathered,
+    Door, DoorFault, NoRecorder, Recorder, ServeReport, ServedQueue, Visit, serve_door,
+    serve_door_gathered,
 };
 use rb_session::{Delivery, HandsOn};
 use rb_timer::ListTimer;
@@ -277,8 +278,8 @@ pub fn served_so<R: Threads + Wait + time::Clock + Sync>(
     match delivery {
         Delivery::AtOnce => {
             let door = PlannedDoor { rt, plans, taken };
-            let opening = Opening::empty(alloc);
-            let (_, served) = serve_door(rt, alloc, door, &SevenClock, options, opening);
+            let queue = ServedQueue::open(alloc, options, Opening::empty(alloc))?;
+            let (_, served) = serve_door(rt, alloc, door, &SevenClock, options, queue);
             served
         }
         Delivery::Gathered(_) => {
@@ -299,14 +300,17 @@ pub fn recorded<R: Threads + Wait + time::Clock + Sync, B: Recorder + Drop>(
     recorder: B,
 ) -> (B, Result<ServeReport<ListTimer>, BrokerFault>) {
     let door = PlannedDoor { rt, plans, taken };
-    let opening = Opening::empty(alloc);
+    let queue = match ServedQueue::open(alloc, options, Opening::empty(alloc)) {
+        Ok(queue) => queue,
+        Err(fault) => return (recorder, Err(fault)),
+    };
     let (_, recorder, served) = serve_door_gathered(
         rt,
         alloc,
         door,
         &SevenClock,
         options,
-        opening,
+        queue,
         recorder,
     );
     (recorder, served)

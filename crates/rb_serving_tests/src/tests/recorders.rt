@@ -1,5 +1,7 @@
 // When a server's recorder begins.
 
+ghost use Rattle.std.specs.Prelude.{false};
+
 use crate::tests::devices::{
     Received, at_once, expect, expect_number, expect_text, hundred_calls, planned, recorded,
 };
@@ -30,10 +32,16 @@ impl<'a> Recorder for Counting<'a> {
 
     ghost has_failed = { λ old new. Unit {0} };
 
+    ghost keeps = { λ recorder. false };
+
     fn begin(&mut self) -> Result<(), WriteFault> {
         self.begins = self.begins.saturating_add(1);
         self.asked_for = self.taken.load(Ordering::SeqCst);
         if self.fails { Err(WriteFault) } else { Ok(()) }
+    }
+
+    fn records(&self) -> bool {
+        false
     }
 }
 

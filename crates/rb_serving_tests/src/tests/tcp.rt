@@ -9,7 +9,7 @@ use crate::tests::devices::{
 use rb_blocking::{Clock, MachineClock};
 use rb_options::ServerRunOptions;
 use rb_queue::Opening;
-use rb_serving::{CountedListener, Ending, TcpDoor, TcpManners, serve_door};
+use rb_serving::{CountedListener, Ending, ServedQueue, TcpDoor, TcpManners, serve_door};
 use rb_timer::ListTimer;
 use std::alloc::Global;
 use std::io::{Read, Write};
@@ -51,15 +51,11 @@ fn served<R: Threads + Wait + time::Clock + Abort + Sync>(
 {
     let options = hundred_calls(rt, workers);
     let opening = Opening::empty(alloc);
+    let queue = ServedQueue::<ListTimer>::open(alloc, &options, opening)
+        .ok()
+        .expect(rt, "a queue");
     let entrance = door.entrance();
-    let (_, report) = serve_door::<ListTimer, _, _, _>(
-        rt,
-        alloc,
-        entrance,
-        &SevenClock,
-        &options,
-        opening,
-    );
+    let (_, report) = serve_door(rt, alloc, entrance, &SevenClock, &options, queue);
     let report = report.ok().expect(rt, "a report");
     expect_legal(rt, alloc, &report);
     counts_of(&report)

@@ -4,6 +4,6 @@ use Rattle.rb_jobs.proofs.ServedHands.{server_keeps_jobs}
 use Rattle.rb_jobs.proofs.job_laws.server_keeps_jobs.Goals as goal
 
 pub returns : goal.returns
-returns g c clock policy delivery =
+returns g c clock policy delivery table =
     server_keeps_jobs
-    (terms_of g.D.Reader.Read g.D.Writer.Write g.D.Gate.Gate g.C.Clock clock policy delivery)
+    (terms_of g.D.Reader.Read g.D.Writer.Write g.D.Gate.Gate g.C.Clock clock policy delivery table)

@@ -6,16 +6,15 @@ use Rattle.rb_serving.specs.Terms.{terms_of}
 use Rattle.rb_serving.proofs.ServedRuns.{of_ok, server_run}
 use Rattle.rb_serving.proofs.server.serve_delivering.Goals as goal
 
-pub returns-in-Ok-served-clause-served : goal.returns-in-Ok-served-clause-served
-returns-in-Ok-served-clause-served g c =
+pub returns-in-Ok-clause-served : goal.returns-in-Ok-clause-served
+returns-in-Ok-clause-served g c opening fresh =
     let terms = terms_of g.D.Reader.Read g.D.Writer.Write g.D.Gate.Gate g.C.Clock c.args.clock.now
-    c.args.options.now.policy c.args.delivery in
-    let workers = of_ok _ _ _ c.in-Ok-served.is c.serve_all-door.ensures.folds in
-    let fresh = c.in-Ok.ensures.pass in
+    c.args.options.now.policy c.args.delivery c.args.queue.shared in
+    let workers = of_ok _ _ _ c.in-Ok.is c.serve_all-door.ensures.folds in
     IfOk-weaker c.report_of.result _ _
     (λ report is. (
-      server_run terms c.args.opening c.args.options.now report c.in-Ok.opened.1 c.in-Ok-served.pass
-          c.in-Ok-served.visits workers.logs (ap (λ (pass : PassState). pass.opening) fresh)
+      server_run terms opening c.args.options.now report c.args.queue.pass c.in-Ok.pass
+          c.in-Ok.visits workers.logs (ap (λ (pass : PassState). pass.opening) fresh)
           (ap (λ (pass : PassState). pass.capacity) fresh) (ap (λ (pass : PassState). pass.mine) fresh)
           (ap (λ (pass : PassState). pass.folded) fresh) workers.folds is,
       workers.gathers,

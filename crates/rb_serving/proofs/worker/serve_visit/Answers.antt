@@ -38,6 +38,7 @@ returns-clause-ran g c =
         writer = c.writer-2-1.given.0;
         left = c.leave.ensures.seen;
         ran = record {
+          table = c.requires.pass;
           consumed = subst (λ (first : Option (List ℕ)). Consumes first (g.D.Reader.Read.remaining session.new.reader.inner.now) ran.came)
               (ap g.D.Reader.Read.remaining limited.same) ran.consumed;
           appended = subst (λ (last : Option (List ℕ)). Appends (g.D.Writer.Write.contents visit.writer) last ran.sent)
@@ -67,6 +68,7 @@ leave-requires g c =
         visit,
         c.requires.awaited,
         c.requires.honest visit session.new.reader c.writer-2-1.given.0 c.args.pass.now served _ (record {
+          table = c.requires.pass;
           consumed = subst (λ (first : Option (List ℕ)). Consumes first (g.D.Reader.Read.remaining session.new.reader.inner.now) ran.came)
               (ap g.D.Reader.Read.remaining limited.same) ran.consumed;
           appended = subst (λ (last : Option (List ℕ)). Appends (g.D.Writer.Write.contents visit.writer) last ran.sent)
