@@ -57,6 +57,18 @@ def test_a_timer(run: Run, options: str, timer: str) -> None:
     assert run(f"rb_broker script {options}", lines(EQUALS)) == (0, lines(f"{OFFERED}; {ORDERS[timer]}; BYE"), "")
 
 
+@pytest.mark.parametrize("timer", ORDERS)
+def test_a_timer_of_a_great_run(run: Run, timer: str) -> None:
+    test_a_timer(run, f"--timer {timer} --calls 1000000", timer)
+
+
+def test_a_run_that_begins_with_many_elements(run: Run) -> None:
+    wrote = run("rb_broker script --calls 200000 --history f | tail -n 1", 200_000 * "OFFER 5 a\n")
+    assert wrote == (0, "OFFERED 199999 5\n", "")
+    told = run("rb_broker script --from f", lines("SIZE; AT 5; REMOVE 199999; SIZE"))
+    assert told == (0, lines("SIZE 200000; NOW 5; REMOVED yes; SIZE 199999"), "")
+
+
 def test_histories(run: Run) -> None:
     """A run, its replays, and one that continues it in the same file."""
     history = "history 3; open 0 0 0; 0 0 0 offer 0 0 0 0 1 a; 0 0 0 poll 0; 0 0 0 offer 1 1000 0 0 2 a; end 3"

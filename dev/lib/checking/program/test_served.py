@@ -54,7 +54,16 @@ def leave(server: Server, requests: str, replies: int, by: Callable[[Session], N
 
 @pytest.mark.parametrize("timer", ORDERS)
 def test_a_timer_of_a_server(serve: Serve, timer: str) -> None:
-    server = serve("--timer", timer)
+    orders(serve("--timer", timer), timer)
+
+
+@pytest.mark.parametrize("timer", ORDERS)
+def test_a_timer_of_a_great_server(serve: Serve, timer: str) -> None:
+    orders(serve("--timer", timer, "--calls", 1_000_000), timer)
+
+
+def orders(server: Server, timer: str) -> None:
+    """A client of a server whose elements come in the order of this timer."""
     assert visit(server, EQUALS) == lines(f"{OFFERED}; {ORDERS[timer]}; BYE")
     told = audit(calls=14, offered=9, given=4, left=4, removed=1)
     assert server.end() == (0, ["sessions 1 faults 0 lost 0", told], "")
