@@ -3,7 +3,7 @@ from __future__ import annotations
 
 import logging
 
-from . import archive_command, dead_command, judge_command, load, script, serve, shards_command
+from . import __version__, archive_command, dead_command, judge_command, load, script, serve, shards_command
 from .ending import FAULTS, NAME, fail
 from .words import Parser
 
@@ -14,6 +14,8 @@ COMMANDS = (serve, script, archive_command, judge_command, load, dead_command, s
 def parser() -> Parser:
     """The parser of all words."""
     made = Parser(f"python3 -m {NAME}", description=__doc__.partition(":")[0], allow_abbrev=False)
+    made.add_argument("--version", action="version", version=f"{NAME} {__version__}",
+                      help="prints the version, and does nothing else")
     commands = made.add_subparsers(metavar="COMMAND", required=True, parser_class=Parser)
     for command in COMMANDS:
         command.add_to(commands)
