@@ -27,6 +27,14 @@ class SurroundingsTest(CheckoutTest):
             status, _, errors = self.build(before=[f"{path}/bash"], PATH=path)
             return status, errors
 
+    def test_the_version_needs_no_build(self) -> None:
+        os.rmdir(f"{self.top}/.git")
+        git = ["git", "-C", str(self.top), "-c", "user.name=it", "-c", "user.email=it@host.example"]
+        for words in (["init"], ["commit", "--allow-empty", "-m", "it"], ["tag", "--annotate", "1.0", "-m", "it"]):
+            subprocess.run([*git, *words], check=True, stdout=subprocess.DEVNULL, stderr=subprocess.DEVNULL)
+        self.assertEqual(self.build("--version"), (0, "rb_broker 1.0\n", ""))
+        self.assertEqual(self.log(), [])
+
     def test_a_caller_may_ignore_the_ends_of_children(self) -> None:
         ignores = "import os, signal, sys; signal.signal(signal.SIGCHLD, signal.SIG_IGN); "
         ignores += "os.execv(sys.argv[1], sys.argv[1:])"
