@@ -71,8 +71,8 @@ def test_a_history_of_the_page(run: Run, tmp_path: Path, history: str) -> None:
 
 @pytest.mark.parametrize("line", blocks(section(HISTORY, "A report on a history"))[0].splitlines())
 def test_the_commands_of_reports(run: Run, line: str) -> None:
-    for line in blocks(page(HISTORY))[0].splitlines():
-        run(line)
+    for before in blocks(page(HISTORY))[0].splitlines():
+        run(before)
     ran = run(re.split(r" {2,}", line)[0])
     assert ran.returncode == 0 and ran.stdout, ran
 
