@@ -1,6 +1,7 @@
 """tools/package: what it refuses, and the package that it makes, installs and removes."""
 import filecmp
 import os
+import shutil
 from pathlib import Path
 
 import pytest
@@ -35,6 +36,13 @@ def test_refusals(why: str, line: str, program: str, tmp_path: Path) -> None:
 
 def test_same_files_make_the_same_package(package: Path, tmp_path: Path) -> None:
     assert filecmp.cmp(package, made(tmp_path), shallow=False)
+
+
+@pytest.mark.skipif(not shutil.which("lintian"), reason="lintian is not installed")
+def test_lintian(package: Path) -> None:
+    """Debian's checker of packages finds nothing that is not explained in rb-broker.lintian-overrides."""
+    told = run("lintian", "--allow-root", "--pedantic", "--fail-on", "error,warning,info,pedantic", str(package))
+    assert told.status == 0, told
 
 
 def test_installation(root: Path) -> None:

@@ -10,7 +10,7 @@ from pathlib import Path
 
 from common.program import tested_program
 from servicing.http import asked
-from servicing.tests.process import Service, ServiceTest
+from servicing.tests.process import Service, ServiceTest, until
 
 JOBS = 2000
 
@@ -38,9 +38,14 @@ class FullDiskTest(ServiceTest):
             self.has_left(JOBS)
 
     def clear(self) -> None:
-        for it in os.listdir(self.small):
-            os.unlink(f"{self.small}/{it}")
-        subprocess.run(["mount", "-o", "remount,size=64k", self.small], check=True)
+        """Once no gzip is at work there, which goes on when its service has ended."""
+        def is_clear() -> bool:
+            for it in Path(self.small).iterdir():
+                it.unlink(missing_ok=True)
+            words = ["mount", "-o", "remount,size=64k", self.small]
+            return subprocess.run(words, capture_output=True, check=False).returncode == 0
+
+        until(is_clear, "the disk is small again")
 
     def make_room(self) -> None:
         subprocess.run(["mount", "-o", "remount,size=4m", self.small], check=True)

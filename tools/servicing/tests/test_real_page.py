@@ -15,6 +15,7 @@ from pathlib import Path
 
 from reporting.tests.support import PageTest
 from serving.server import free_port
+from servicing.reports import MOST_SECONDS
 from servicing.tests.process import Client, ServiceTest
 
 SECONDS = float(os.environ.get("RB_BROKER_DAY", "24"))
@@ -101,7 +102,7 @@ class RealPageTest(PageTest, ServiceTest):
         """By the page's form, as somebody who types a payload."""
         self.browser.value("document.querySelector('#jobs input').focus()")
         self.browser.type("reminder-1")
-        end = time.monotonic() + 30
+        end = time.monotonic() + MOST_SECONDS  # others come first
         while not (told := self.browser.value(TEXT)).startswith("Jobs of ended runs of payload or id reminder-1\n"):
             self.assertLess(time.monotonic(), end, told)
             time.sleep(0.1)
