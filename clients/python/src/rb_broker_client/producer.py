@@ -95,11 +95,17 @@ class BaseProducer:
         pauses.reset()
         while ended is not None and self._is_direct:
             try:
-                now = (await self._served(request, deadline)).session.greeting
-                return now is not None and now.run > ended.run and now.lost == ended.lost and now.at_ns >= ended.at_ns
-            except NotOfferedError:  # the next server is not there yet
-                if time.monotonic() + (pause := pauses.next()) > deadline:
-                    break
+                pipeline = await self._served(request, deadline)
+                now = pipeline.session.greeting
+                if now is None or now.run != ended.run:
+                    return (now is not None and now.run > ended.run and now.lost == ended.lost
+                            and now.at_ns >= ended.at_ns)
+                if pipeline.session.is_lost():  # a run that ends lets clients in for some more milliseconds
+                    pipeline.leave()
+            except NotOfferedError:
+                pass  # the next server is not there yet
+            if time.monotonic() + (pause := pauses.next()) > deadline:
+                break
             await self._kind.sleep(pause)
         return False
 

@@ -80,14 +80,18 @@ class ProducerTest(ProducerCase):
         self.assertEqual(told, [LostRun(5, 3_000_000_005)])
 
     def test_what_a_run_did_not_answer_that_another_one_continues_is_offered_there(self):
-        unheard = f"{GREETS.format(7, 2, 5)}; OFFER 5 a > hangs up"
-        producer = self.produce(unheard, f"{GREETS.format(8, 2, 9)}; OFFER 5 a > OFFERED 0 5")
+        unheard, following = (f"{GREETS.format(7, 2, 5)}; OFFER 5 a > hangs up",
+                              f"{GREETS.format(8, 2, 9)}; OFFER 5 a > OFFERED 0 5")
+        producer = self.produce(unheard, following)
         self.assertEqual(offer(producer).greeting.run, 8)
-        producer = self.produce(unheard, "AT 0 > hangs up", f"{GREETS.format(8, 2, 9)}; OFFER 5 a > OFFERED 0 5")
+        producer = self.produce(unheard, "AT 0 > hangs up", following)
         self.assertEqual(offer(producer), Offered(0, 5))
-        for other in (GREETS.format(8, 3, 9), GREETS.format(7, 2, 5), GREETS.format(8, 2, 4), "AT 0"):
+        producer = self.produce(unheard, f"{GREETS.format(7, 2, 5)}; > hangs up", following)
+        self.assertEqual(offer(producer).greeting.run, 8, "the run that ends has served one more session")
+        for other, patience in ((GREETS.format(8, 3, 9), PATIENCE), (GREETS.format(8, 2, 4), PATIENCE),
+                                ("AT 0", PATIENCE), (GREETS.format(7, 2, 5), 0.3)):
             with self.subTest(other):
-                producer = self.produce(unheard, other)
+                producer = self.produce(unheard, other, patience=patience)
                 self.assertRaises(InDoubtError, offer, producer)
                 producer.close()
 

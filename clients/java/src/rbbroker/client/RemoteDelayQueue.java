@@ -407,9 +407,16 @@ public final class RemoteDelayQueue extends AbstractQueue<Job> implements Blocki
         if (unheard == null || options.tls() != null) {
             return false;
         }
+        Tries tries = new Tries(Use.LOOK, options.patience());
         try {
-            Greeting now = make(Use.LOOK, session -> session.contact.greeting);
-            return now != null && now.follows(unheard);
+            while (true) {
+                Greeting now = make(Use.LOOK, session -> session.contact.greeting);
+                if (now == null || now.run() != unheard.run()) {
+                    return now != null && now.follows(unheard);
+                }
+                // A run that ends lets clients in for some more milliseconds.
+                tries.pauseAfter(new ServerLostException("run " + now.run() + " goes on", false, new EOFException()));
+            }
         } catch (BrokerException gone) {
             return false;
         }

@@ -162,8 +162,10 @@ public class ScriptedTest extends QueueTest {
     public void whatARunDidNotAnswerThatAnotherOneContinuesIsOfferedThere() throws Exception {
         Script unheard = talk -> talk.greetOf(7, 2).hear("OFFER ");
         play(it -> assertTrue(it.offer(due("a"))), unheard, talk -> talk.greetOf(8, 2).accept(4, 0));
+        play(it -> assertTrue(it.offer(due("a"))), unheard, talk -> talk.greetOf(7, 2),
+            talk -> talk.greetOf(8, 2).accept(4, 0));
         for (long[] other : new long[][] {{8, 3}, {7, 2}}) {
-            play(it -> {
+            playTo(byCall(SHORT), it -> {
                 ServerLostException fault = assertThrows(ServerLostException.class, () -> it.offer(due("a")));
                 assertTrue(fault.isInDoubt());
             }, unheard, talk -> talk.greetOf(other[0], other[1]));
