@@ -78,11 +78,12 @@ class Customer:
         if asked(it, f"OFFER {int(delay * 1e9)} {payload}", run, self.ledger).startswith("OFFERED "):
             self.ledger.offered[payload] = Offer(run, sent + delay, time.monotonic() + delay)
         del self.ledger.doubts[payload]
-        words = asked(it, "POLLFOR 100000000", run, self.ledger).split(" ")
-        if words[0] == "ITEM":
-            self.ledger.given.append(Item(words[4], run, int(words[3]), time.monotonic()))
-            time.sleep(random.random() * WORK)
-            settle(it, words, run, self.ledger)
+        for request in ("POLLFOR 100000000", "POLL"):  # by which what waited behind a rollover is made up for
+            words = asked(it, request, run, self.ledger).split(" ")
+            if words[0] == "ITEM":
+                self.ledger.given.append(Item(words[4], run, int(words[3]), time.monotonic()))
+                time.sleep(random.random() * WORK)
+                settle(it, words, run, self.ledger)
         return words[0] != "ERR"
 
 
