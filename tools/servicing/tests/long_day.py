@@ -15,7 +15,7 @@ from typing import Any
 import pytest
 
 from common.program import tested_program
-from servicing.tests.ledger import Item, Judgement, Ledger, Offer, gaps, judged, told
+from servicing.tests.ledger import Item, Judgement, Ledger, Offer, gaps, judged, spread, told
 from servicing.tests.process import Client, Service, ServiceTest
 from servicing.tests.store import Store
 
@@ -128,6 +128,8 @@ class DayTest(ServiceTest):
         services, ledgers = self.lived((), 24 * EVERY)
         them = gaps(ledgers, self.lost(services))
         self.assertGreater(len(them), 20)
+        if os.getloadavg()[0] > (os.cpu_count() or 1):
+            self.skipTest(f"this machine does much else: gaps {spread(them)}")
         self.assertLess(median(them), GAPS[0])
         self.assertLess(max(them), GAPS[1])
 
