@@ -22,7 +22,7 @@ from servicing.tests.store import Store
 SECONDS = float(os.environ.get("RB_BROKER_DAY", "100"))
 STATES = ("serving", "ending", "between-runs", "saved", "service")
 EVERY, PAUSE = (20, 20.0) if SECONDS >= 600 else (5, 4.0)  # seconds of a run, and about that between two kills
-PATIENCE = 600  # seconds for what is left at the end
+PATIENCE = 600  # seconds for what is left at the end, and for a service to serve, on a machine that does much else
 WORK, DELAY = 0.1, 2.0  # seconds: the longest job, and the longest delay of most
 SELDOM, LONG = 0.02, 300.0  # the share of jobs that wait for longer, and for how long at most
 GAPS = 0.150, 0.400  # seconds for which nobody is served at a rollover, at the median and at worst
@@ -185,7 +185,8 @@ class DayTest(ServiceTest):
         if what != "server":
             service.kill()
             services.append(self.start(*self.OPTIONS, store=store))
-        services[-1].wait("serving", 2 if what == "server" and len(services[-1].all("serving")) > 1 else 1)
+        count = 2 if what == "server" and len(services[-1].all("serving")) > 1 else 1
+        services[-1].wait("serving", count, patience=PATIENCE)
 
     def rest(self) -> Ledger:
         """Does what is left until nothing is, however long that takes."""
