@@ -13,13 +13,13 @@ from unittest import mock
 
 from checking.testing import run_tool
 from common.program import tested_program
+from servicing.reports import MOST_SECONDS
 from servicing.saying import notify
 from servicing.tests.process import Client, ServiceTest, until
 from servicing.tests.test_metrics import PROMTOOL, promtool
 from serving.server import free_port
 
 FAR = 3_600_000_000_000
-PATIENCE = 120  # for a report, which gives way to all other processes
 
 
 class ShownTest(ServiceTest):
@@ -28,7 +28,7 @@ class ShownTest(ServiceTest):
         self.page = free_port()
 
     def get(self, path: str) -> tuple[int, str]:
-        with contextlib.closing(http.client.HTTPConnection("127.0.0.1", self.page, timeout=PATIENCE)) as connection:
+        with contextlib.closing(http.client.HTTPConnection("127.0.0.1", self.page, timeout=MOST_SECONDS)) as connection:
             connection.request("GET", path)
             answer = connection.getresponse()
             return answer.status, answer.read().decode()
@@ -73,7 +73,7 @@ class ShownTest(ServiceTest):
 
     def post(self, path: str, body: str) -> tuple[int, str]:
         """The status, and where the answer leads."""
-        with contextlib.closing(http.client.HTTPConnection("127.0.0.1", self.page, timeout=PATIENCE)) as it:
+        with contextlib.closing(http.client.HTTPConnection("127.0.0.1", self.page, timeout=MOST_SECONDS)) as it:
             it.request("POST", path, body)
             answer = it.getresponse()
             return answer.status, answer.getheader("Location", "")
