@@ -1,7 +1,7 @@
 """What a history says of elements: which were offered and not taken back, and which were given. docs/HISTORY.md describes
 the text."""
-from histories.acts import given_ids
-from histories.history import Element
+from rb_broker_formats.acts import given_ids
+from rb_broker_formats.element import Element
 
 
 class History:
