@@ -61,9 +61,13 @@ final class Runs {
         isClockKnown &= greeting != null;
     }
 
-    /** Whether a moment is known in a session which shows this. */
-    synchronized boolean isClockKnown(Contact contact) {
-        return contact.isTold || contact.greeting != null && isClockKnown;
+    /** Whether a moment is known in a session which shows this. Most calls need no lock to see it. */
+    boolean isClockKnown(Contact contact) {
+        return contact.isTold || contact.greeting != null && isClockKnown();
+    }
+
+    private synchronized boolean isClockKnown() {
+        return isClockKnown;
     }
 
     /** The nanoseconds until a moment at the server, at the most. If nothing is known they count from moment 0. */
