@@ -30,7 +30,7 @@ from contextlib import contextmanager
 
 TOP = os.path.dirname(os.path.dirname(os.path.realpath(__file__)))
 CLIENT = os.environ.get("RB_BROKER_CLIENT", f"{TOP}/clients/python/src")
-sys.path[:0] = [f"{TOP}/dev/lib", f"{TOP}/tools", CLIENT]
+sys.path[:0] = [CLIENT, f"{TOP}/dev/lib", f"{TOP}/tools"]
 
 from common.program import add_program_option, built_program  # noqa: E402
 from rb_broker_client import AsyncProducer, AsyncWorker, Broker, Producer, Request, Worker  # noqa: E402
