@@ -97,7 +97,7 @@ class Calls:
     def submit(self, calls: list[bytes], answered: Answered, sessions: int = 1) -> None:
         """Makes these calls, which are of so many sessions, one after the other."""
         self._turns.add(Part(self._front, calls, answered, sessions))
-        if not self._is_scheduled:
+        if not self._is_scheduled and len(self._flying) < MOST_IN_FLIGHT:
             self._schedule()
 
     def withhold(self, front: bytes) -> None:
