@@ -1,6 +1,7 @@
 """Gateways as processes, with clients that wait, leave and come back."""
 from __future__ import annotations
 
+import signal
 import time
 
 from gateway_test import GatewayTest
@@ -119,6 +120,15 @@ class EndsTest(GatewayTest):
         self.assert_talk(self.talker(late), "OFFER 0 d = OFFERED .*", "POLL = ITEM .* 1 d")
         events = self.events()
         self.assertEqual([it for it in events if it[0] == events[0][0]][-1][-2:], [b"2", b"a"])
+
+    def test_a_second_sigterm_ends_it_at_once(self) -> None:
+        served = self.gateway("--grace", "60s")
+        self.assert_talk(self.talker(served), "OFFER 0 a = OFFERED .*", "POLL = ITEM .*")
+        waiting = self.talker(served)
+        self.begin_wait(waiting, "TAKE")
+        served.signal(signal.SIGTERM)
+        self.assert_talk(waiting, "= STOPPED")
+        self.assertEqual((served.end(), served.said.splitlines()[1:]), (-signal.SIGTERM, []))
 
     def test_policies_have_to_agree(self) -> None:
         self.serve()
