@@ -85,6 +85,14 @@ class ShardsCommandTest(ShardsTest):
         self.assertEqual(self.ran("shards", 1)[::2], (0, ""))
         self.assert_served(3, 1)
 
+    def test_a_queue_that_was_loaded_and_has_not_been_served(self) -> None:
+        history = self.room / "run.txt"
+        history.write_text("history 3\nopen 0 0 0\n0 5 5 offer 0 9 0 9 1 a\nend 1\n")
+        self.assertEqual(self.ran("load", history, "--began", "@1")[::2], (0, ""))
+        self.assertEqual(self.ran("shards", 2)[::2], (0, ""))
+        self.assertEqual(sorted(it.command("ZCARD", it.due) for it in self.queues(2)), [0, 1])
+        self.joined(attempts=2, name=f"{self.name}.0")  # a gateway is let in
+
     def test_kills_at_any_moment(self) -> None:
         self.make(4, 4_000)
         expected = self.jobs(4)

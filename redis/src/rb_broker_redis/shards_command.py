@@ -65,6 +65,8 @@ def run(asked: argparse.Namespace) -> int:
     named.command("HSET", named.state, "shards", asked.count)
     going = [] if before > 1 and asked.count > before else [queues[it] for it in old if it not in new]
     policy = queues[old[0]].command("HMGET", queues[old[0]].state, "pace", "period", "attempts")
+    if policy[0] is None:  # it was loaded, and nobody has served it
+        policy = []
     moved = _moved(going, Rendezvous(new), len(new))
     for shard, name in enumerate(new):
         count = _take_in(queues[name], moved[shard], token, policy)
