@@ -30,7 +30,7 @@ from contextlib import contextmanager
 
 TOP = os.path.dirname(os.path.dirname(os.path.realpath(__file__)))
 CLIENT = os.environ.get("RB_BROKER_CLIENT", f"{TOP}/clients/python/src")
-sys.path[:0] = [CLIENT, f"{TOP}/dev/lib", f"{TOP}/tools"]
+sys.path[:0] = [CLIENT, f"{TOP}/dev", f"{TOP}/tools"]
 
 from common.program import add_program_option, built_program  # noqa: E402
 from rb_broker_client import AsyncProducer, AsyncWorker, Broker, Producer, Request, Worker  # noqa: E402
@@ -87,7 +87,7 @@ class Run:
 @contextmanager
 def far(port, round_trip):
     """A port that leads to this one, to which a round trip takes so many seconds more."""
-    words = [sys.executable, f"{TOP}/dev/lib/serving/delaying.py", str(port), str(1e3 * round_trip)]
+    words = [sys.executable, f"{TOP}/dev/serving/delaying.py", str(port), str(1e3 * round_trip)]
     with subprocess.Popen(words, stdout=subprocess.PIPE, encoding="ascii") as proxy:
         try:
             yield int(proxy.stdout.readline())

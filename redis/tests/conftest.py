@@ -6,7 +6,7 @@ from pathlib import Path
 
 HERE = Path(__file__).resolve().parent
 CLIENT = HERE.parents[1] / "clients/python"
-PATHS = [str(it) for it in (HERE.parent / "src", HERE, CLIENT / "src", HERE.parents[1] / "dev/lib")]
+PATHS = [str(it) for it in (HERE.parent / "src", HERE, CLIENT / "src", HERE.parents[1] / "dev")]
 sys.path[:0] = PATHS
 sys.path += [str(CLIENT / "tests" / it) for it in ("served", "day")]
 os.environ.update({"PYTHONPATH": os.pathsep.join(PATHS), "PYTHONDONTWRITEBYTECODE": "1"})

@@ -36,10 +36,10 @@ class CheckoutTest(RoomTest):
         self.top, self.stand_in = room / "a checkout", room / "stand-in"
         (self.top / ".git").mkdir(parents=True)
         (self.stand_in / "bin").mkdir(parents=True)
-        shutil.copytree(f"{TOP}/dev/lib/building", self.top / "dev/lib/building")
-        for name in ("broker", "dev/build", "dev/paths.py", "dev/lib/leaving.py"):
+        shutil.copytree(f"{TOP}/dev/building", self.top / "dev/building")
+        for name in ("broker", "dev/build", "dev/leaving.py"):
             shutil.copy(f"{TOP}/{name}", self.top / name)
-        shutil.copy(f"{TOP}/dev/lib/building/tests/stand_in_rt", self.stand_in / "bin/rt")
+        shutil.copy(f"{TOP}/dev/building/tests/stand_in_rt", self.stand_in / "bin/rt")
         self.write("crates.txt", TABLE)
         for crate, lines in LINES.items():
             self.write(f"crates/{crate}/src/lib.rt", "//\n" * lines)

@@ -56,7 +56,7 @@ def test_a_test_that_is_skipped(tmp_path: Path, allowed: list[str], status: int)
     file = tmp_path / "test_moon.py"
     file.write_text("import pytest\ndef test_moon(): pytest.skip('no moon')\ndef test_sun(): pass\n")
     words = [sys.executable, "-B", "-m", "pytest", "-c", f"{TOP}/pytest.ini", "-p", "conftest", *allowed, file]
-    environment = {**os.environ, "PYTHONPATH": f"{TOP}:{TOP}/tools:{TOP}/dev/lib"}
+    environment = {**os.environ, "PYTHONPATH": f"{TOP}:{TOP}/tools:{TOP}/dev"}
     ran = subprocess.run(words, cwd=TOP, env=environment, capture_output=True, text=True, check=False)
     assert (ran.returncode, "no moon" in ran.stdout) == (status, True), ran.stdout
 

@@ -8,10 +8,9 @@ import pytest
 
 from common.program import TOP
 
-SOURCES = [f"{folder}/{path.name}" for folder in ("dev/lib", "tools") for path in sorted(Path(TOP, folder).iterdir())
-           if not path.is_symlink() and path.name != "__pycache__"]
-COMMANDS = [f"dev/{path.name}" for path in sorted(Path(TOP, "dev").iterdir()) if os.access(path, os.X_OK)
-            and path.is_file()]
+PLACES = [path for folder in ("dev", "tools") for path in sorted(Path(TOP, folder).iterdir()) if not path.is_symlink()]
+SOURCES = [str(path) for path in PLACES if path.suffix == ".py" or (path / "__init__.py").exists()]
+COMMANDS = [str(path) for path in PLACES if path.is_file() and os.access(path, os.X_OK)]
 
 
 @pytest.mark.parametrize("paths", [SOURCES, COMMANDS], ids=["sources", "commands"])

@@ -10,7 +10,7 @@ from attacking import edited
 from checking.testing import PATIENCE, RoomTest
 from common.program import TOP
 
-BODIES = Path(TOP, "dev/lib/refusing/tests/bodies")
+BODIES = Path(TOP, "dev/refusing/tests/bodies")
 LEFT_OUT = shutil.ignore_patterns("out", "must-fail", "attacks", "__pycache__")
 
 

@@ -15,7 +15,7 @@ import tempfile
 from pathlib import Path
 
 TOP = Path(__file__).resolve().parents[3]
-sys.path[:0] = [f"{TOP}/tools", f"{TOP}/dev/lib"]
+sys.path[:0] = [f"{TOP}/tools", f"{TOP}/dev"]
 
 from common.program import add_program_option, built_program  # noqa: E402
 from reporting.tests.browser import Browser  # noqa: E402
