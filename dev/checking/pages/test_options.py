@@ -1,4 +1,5 @@
 """Options that pages name: each is one of --help, with its default there, and its range is what the program accepts."""
+import inspect
 import os
 import re
 import subprocess
@@ -11,6 +12,8 @@ import pytest
 from checking.pages.reading import code, page, plain, section, tables
 from common import program
 from common.program import TOP
+from rb_broker_client import Producer
+from rb_broker_formats.protocol import LONGEST_PAYLOAD, MOST_HELD
 
 PROTOCOL, OPERATING = "docs/PROTOCOL.md", "docs/OPERATING.md"
 SERVE = "serve --port 7 --from /nowhere/f"  # a missing file: words that are accepted end by it
@@ -149,3 +152,17 @@ def test_the_settings_in_java() -> None:
     for name in ("waiters", "longestWait", "patience"):
         kind, number = re.search(rf"private \w+ {name} = (?:([\w.]+)\()?(\d+)\)?;", source).groups()
         assert rows[name] == (f"{number} {JAVA[kind]}" if kind else number), name
+
+
+def test_the_patience_of_producers_in_python() -> None:
+    told = re.search(r"`patience` is (\d+) seconds by default", page("clients/python/README.md"))[1]
+    assert int(told) == inspect.signature(Producer).parameters["patience"].default
+
+
+def test_the_limits_on_the_first_page() -> None:
+    rows = {row[0]: row[1] for table in tables(page("README.md")) for row in table}
+    numbers = {name: [plain(number) for number in re.findall(r"\d[\d,]*", text)] for name, text in rows.items()}
+    assert numbers["Payload"] == ["1", str(LONGEST_PAYLOAD)]
+    clients, held = numbers["Clients"]
+    assert accepts_just("workers", "1", clients) and held == str(MOST_HELD)
+    assert accepts_just("calls", "1", numbers["Calls"][0])

@@ -48,6 +48,17 @@ PLANTED = [
     (HISTORY, "load.jsonl            once", "load.json             once", "test_a_run_judged_from_outside"),
     ("docs/TESTING.md", "grep -hE '^(case|table) '", "grep -hE '^(cases|tables) '", "test_the_lists_of_tests"),
     ("docs/TESTING.md", "(`dev/check server`, and", "(`dev/check servers`, and", "test_each_part_is_there"),
+    ("README.md", "| Clients | 16 at once", "| Clients | 17 at once", "test_the_limits_on_the_first_page"),
+    ("README.md", "| Payload | 1 to 64 bytes", "| Payload | 1 to 65 bytes", "test_the_limits_on_the_first_page"),
+    ("README.md", "| Calls | 1,000,000,", "| Calls | 2,000,000,", "test_the_limits_on_the_first_page"),
+    (OPERATING, "| `--silent TIME` | 10m |", "| `--silent TIME` | 11m |", "test_a_default_of_the_service"),
+    (PROTOCOL, "| 1 | `bad opening` |", "| 1 | `wrong opening` |", "test_the_faults_of_a_run"),
+    (PYTHON, "`patience` is 30 seconds", "`patience` is 31 seconds", "test_the_patience_of_producers_in_python"),
+    (REDIS, "| `--lease TIME` |", "| `--leases TIME` |", "test_a_row_of_the_gateway"),
+    (JAVA, "| `patience` | 30 s |", "| `endurance` | 30 s |", "test_the_settings_in_java"),
+    (HISTORY, "tools/report run.txt --job a", "tools/report run.txt --life a", "test_the_commands_of_reports"),
+    ("docs/EXTENDING.md", "dev/cases crates/rb_cases/data/queues.rows", "dev/case crates/rb_cases/data/queues.rows",
+     "test_each_file_is_there"),
     ("docs/EXTENDING.md", "rb_cases/data/scripts.case", "rb_cases/data/script.case", "test_each_file_is_there"),
 ]
 LINKS = [
@@ -55,6 +66,7 @@ LINKS = [
     ("README.md", "(docs/HEADLINE.md)", "(docs/HEADLINES.md)"),
     ("README.md", "(docs/PROVED.md#the-guarantee)", "(docs/PROVED.md#a-guarantee)"),
     (REDIS, "(#several-queues-as-one)", "(#many-queues-as-one)"),
+    (PROTOCOL, "(OPERATING.md#how-many-clients)", "(OPERATING.md#how-many-workers)"),
 ]
 
 
