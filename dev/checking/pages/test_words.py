@@ -16,7 +16,7 @@ FOLDERS = ("*.md", "docs/*.md", "clients/*/README.md", "redis/README.md")
 PAGES = sorted(path.relative_to(TOP).as_posix() for folder in FOLDERS for path in Path(TOP).glob(folder))
 NOW = [name for name in PAGES if name not in ("CHANGELOG.md", "docs/DECISIONS.md")]  # which speak of what was, too
 PATH = re.compile(r"(?<![\w/~.-])(?:\.\./)*"
-                  r"((?:examples|tools|dev|crates|clients|redis|docs|bench|packaging)/[\w./-]*\w)")
+                  r"((?:examples|tools|dev|crates|clients|formats|redis|docs|bench|packaging)/[\w./-]*\w)/?([*{\[]?)")
 COMMAND = re.compile(r"(?:^|[\s(])((?:tools|dev)/[a-z_]+)((?: [^|;&\n#)]+)?)")
 # What a part of a page's command may be made of by whoever follows it.
 MADE = {"crates/rb_NAME", "dev/null"}
@@ -34,9 +34,9 @@ def spoken(name: str) -> str:
 @pytest.mark.parametrize("name", NOW)
 def test_each_file_is_there(name: str) -> None:
     """Below the top folder or beside the page. A name before a star or a brace is the beginning of one."""
-    for path in {*PATH.findall(spoken(name))} - MADE:
-        places = Path(TOP, path), Path(TOP, name).parent / path
-        assert any([*place.parent.glob(f"{place.name}*")] for place in places), path
+    for path, mark in {*PATH.findall(spoken(name))}:
+        places, rest = (Path(TOP, path), Path(TOP, name).parent / path), "*" if mark else ""
+        assert path in MADE or any([*place.parent.glob(place.name + rest)] for place in places), path
 
 
 @cache

@@ -26,7 +26,7 @@ class Run:
 
     def __init__(self, lines: Iterable[str]) -> None:
         found = [(line, _TEXT.fullmatch(line)) for line in lines]
-        queues = sorted({found[1] or "" for _, found in found if found})
+        queues = sorted({text[1] or "" for _, text in found if text})
         self.texts = [texts_of([text[2] for _, text in found if text and (text[1] or "") == queue]) for queue in queues]
         self.record = [line_of(line) for line, text in found if not text]
 

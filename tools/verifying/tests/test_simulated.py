@@ -172,9 +172,9 @@ def test_a_reply_that_came_before_another_call_was_sent_stands_behind_it(run: Si
             and line["session"] != early["session"] and keyword(line) in NAMED]
     line = run.lines[one_of(late)]
     shift = line["received"] - early["sent"] + 1
-    for line in run.lines:
-        if line["session"] == line["session"]:
-            line["sent"], line["received"] = line["sent"] - shift, line["received"] - shift
+    for other in run.lines:
+        if other["session"] == line["session"]:
+            other["sent"], other["received"] = other["sent"] - shift, other["received"] - shift
     counts, faults = faults_of(run)
     assert counts.keys() == {"time"}, faults
 
