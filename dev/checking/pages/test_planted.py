@@ -50,7 +50,7 @@ PLANTED = [
     ("docs/TESTING.md", "(`dev/check server`, and", "(`dev/check servers`, and", "test_each_part_is_there"),
     ("README.md", "| Clients | 16 at once", "| Clients | 17 at once", "test_the_limits_on_the_first_page"),
     ("README.md", "| Payload | 1 to 64 bytes", "| Payload | 1 to 65 bytes", "test_the_limits_on_the_first_page"),
-    ("README.md", "| Calls | 1,000,000,", "| Calls | 2,000,000,", "test_the_limits_on_the_first_page"),
+    ("README.md", "| Calls | 1,000,000", "| Calls | 2,000,000", "test_the_limits_on_the_first_page"),
     (OPERATING, "| `--silent TIME` | 10m |", "| `--silent TIME` | 11m |", "test_a_default_of_the_service"),
     (PROTOCOL, "| 1 | `bad opening` |", "| 1 | `wrong opening` |", "test_the_faults_of_a_run"),
     (PYTHON, "`patience` is 30 seconds", "`patience` is 31 seconds", "test_the_patience_of_producers_in_python"),
@@ -66,7 +66,7 @@ LINKS = [
     ("README.md", "(docs/HEADLINE.md)", "(docs/HEADLINES.md)"),
     ("README.md", "(docs/PROVED.md#the-guarantee)", "(docs/PROVED.md#a-guarantee)"),
     (REDIS, "(#several-queues-as-one)", "(#many-queues-as-one)"),
-    (PROTOCOL, "(OPERATING.md#how-many-clients)", "(OPERATING.md#how-many-workers)"),
+    ("docs/SCALING.md", "(OPERATING.md#trying-a-load)", "(OPERATING.md#trying-some-load)"),
 ]
 
 
