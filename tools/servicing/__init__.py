@@ -10,11 +10,11 @@
     server.py        a server: how it is started, told to end, and what it leaves
     looking.py, connections.py, session.py   what is seen of a server
     saying.py        how others ask for the end, and what they are told
-    showing.py       what the service shows of itself
+    publisher.py     what the service shows of itself, as it goes
     state.py         all that the service knows and shows at one moment; `Board` holds the latest
     metrics.py       the numbers of a state, also as Prometheus reads them
-    shown.py         a state as texts, for the page, --status and systemd
+    texts.py         a state as texts, for the page, --status and systemd
     page.py          the page, with charts
-    site.py, http.py, reports.py             the site: always at the socket FOLDER/status, and at an address if --http
+    endpoints.py, http.py, reports.py        what is answered: always at the socket FOLDER/status, and at an address if --http
                      names one; and what it tells of the histories of ended runs
 """

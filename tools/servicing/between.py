@@ -12,7 +12,7 @@ from servicing.parts import LeftBehind, Parts
 from servicing.runs import Next
 from servicing.saying import say
 from servicing.server import Checked, Damaged, Server, checked_file
-from servicing.showing import lost_text
+from servicing.publisher import lost_text
 from servicing.state import End, Phase, Reason, Run
 
 LOOK = 0.05  # seconds from one look whether a server has ended to the next
@@ -37,7 +37,7 @@ def resumed(parts: Parts) -> Current | Next:
         current = Current(parts, last, server)
         if start is Start.GO_ON:
             return current
-        parts.showing.run = current.record
+        parts.publisher.run = current.record
         return saved(parts, current)
     following = _following(parts, last, start)
     if start is Start.AGAIN and last.end is None:
@@ -123,7 +123,7 @@ def saved(parts: Parts, run: Current) -> Next:
     """Has the history of a run that has ended checked, and writes it, or the run is lost. Returns what follows."""
     record, server, looks = run.record, run.server, run.looks
     why = Reason.ASKED if parts.signals.count and run.why is not Reason.UNKNOWN else run.why
-    parts.showing.enter(Phase.BETWEEN, why)
+    parts.publisher.enter(Phase.BETWEEN, why)
     try:
         told = server.collect(parts.settings.program, record.chains)
         if misfit := misfit_of(record, told):
@@ -137,7 +137,7 @@ def saved(parts: Parts, run: Current) -> Next:
         else:
             following = parts.runs.again(record, 0)
             parts.runs.drop(record)
-        parts.showing.count(looks.offered, looks.left, 0)
+        parts.publisher.count(looks.offered, looks.left, 0)
     else:
         record = run.timed_by(told.left)
         parts.until_written(f"run-{record.number}.txt", lambda: parts.runs.save_history(server), server)
@@ -151,7 +151,7 @@ def saved(parts: Parts, run: Current) -> Next:
         say("info", "saved", run=record.number, calls=end.calls, offered=end.offered, given=end.given, left=end.left,
             lost_jobs=end.lost_jobs or None, cut=end.cut or None)
         offered = end.offered or 0
-        parts.showing.count(offered, record.opening + offered - len(told.left.elements), told.left.failed)
+        parts.publisher.count(offered, record.opening + offered - len(told.left.elements), told.left.failed)
     server.close()
     return following
 

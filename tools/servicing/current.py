@@ -50,7 +50,7 @@ class Current:
             if why is Reason.ASKED:
                 notify(STOPPING=1)
             self._begin_next()  # in front of those who have to come again
-            self._parts.showing.enter(Phase.ENDING, why, clients=len(self.looks.served))
+            self._parts.publisher.enter(Phase.ENDING, why, clients=len(self.looks.served))
             self._end()
         self._begin_next()
         self._ended = read_clock()
@@ -84,18 +84,18 @@ class Current:
         """Looks, and shows what is seen."""
         try:
             look()
-            self._parts.showing.lower_alert("not-watching")
+            self._parts.publisher.lower_alert("not-watching")
         except Unwatchable as fault:
-            self._parts.showing.raise_alert("not-watching", str(fault))
+            self._parts.publisher.raise_alert("not-watching", str(fault))
         record, began = self.record, self.looks.began
         if began is not None and not record.is_seen:
             self.record = self._parts.runs.see(record, record.began.after(began - record.began.up))
-        self._parts.showing.show()
+        self._parts.publisher.show()
 
     def _wanted(self) -> Reason | None:
         """Why the run has to end if somebody asks for that on the page, or if it was begun by a service with another
         policy. Its history is checked by that."""
-        if self._parts.showing.is_asked(END):
+        if self._parts.publisher.is_asked(END):
             return Reason.PAGE
         run, was, now = self.record.number, self.record.policy, self._settings.policy
         if was == now:
@@ -112,7 +112,7 @@ class Current:
             passed = now - self.closed
             if passed >= LAST_LOOK:
                 self._see(self.looks.watch)
-            is_over = passed >= within or self._signals.count > 1 or self._parts.showing.is_asked(CUT)
+            is_over = passed >= within or self._signals.count > 1 or self._parts.publisher.is_asked(CUT)
             if not is_cut and (is_over or is_to_cut(self.looks, self.record, 2 * LAST_LOOK)):
                 is_cut = True
                 self._cut()
@@ -129,8 +129,8 @@ class Current:
 
     def _tell(self, seconds: float) -> None:
         served = self.looks.served
-        self._parts.showing.waits_for = tuple(f"{it.name}, for {span_of(seconds)}" for it in served) or ("the server",)
-        self._parts.showing.show()
+        self._parts.publisher.waits_for = tuple(f"{it.name}, for {span_of(seconds)}" for it in served) or ("the server",)
+        self._parts.publisher.show()
         say("info", "waiting", run=self.server.run, seconds=round(seconds), clients=_names(served) or "the server")
 
 

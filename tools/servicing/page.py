@@ -3,7 +3,7 @@ from collections import deque
 from html import escape
 from typing import Callable, Iterable, Sequence
 
-from servicing.shown import attention, headline, since, tables
+from servicing.texts import attention, headline, since, tables
 from servicing.state import CUT, END, LOST_JOBS, LOST_RUN, Mark, Phase, State, Traffic
 from rb_broker_redis.watching.metrics import span_of
 from rb_broker_redis.watching.page import Shown, page_of, section
@@ -12,7 +12,7 @@ from rb_broker_redis.watching.units import number
 EVERY, LASTS = 10.0, 3600.0  # seconds from one mark to the next at least, and for which they are kept
 WIDTH, HEIGHT, EDGE = 360, 48, 2  # of a chart, and of what its line leaves free above and below
 
-# What they lead to is in site.py.
+# What they lead to is in endpoints.py.
 ASK = ('<section id="jobs"><h2>Jobs of ended runs</h2><form method="post" action="jobs"><label>Payload or id '
        '<input name="word" required></label> <button>Find</button></form></section>\n')
 CHANGE = ('<section id="changes"><h2>Changes</h2><form method="post" action="{}"><input type="hidden" name="token" '

@@ -10,7 +10,7 @@ from servicing.runs import Runs
 from servicing.saying import Signals
 from servicing.server import Server
 from servicing.settings import Settings
-from servicing.showing import Showing
+from servicing.publisher import Publisher
 from servicing.state import DISK
 from rb_broker_redis.watching.units import SECOND
 
@@ -29,25 +29,25 @@ class Parts:
     folder: Folder
     signals: Signals
     runs: Runs
-    showing: Showing
+    publisher: Publisher
     memory: Memory
 
     def until_written(self, name: str, write: Callable[[], Done], server: Server | None = None) -> Done:
         """Writes a file, perhaps the history of a server, which is in memory only. Raises a `LeftBehind` if an end is
         asked for."""
-        kept, asked, showing, path = server.size if server else 0, 0.0, self.showing, self.folder.file(name)
+        kept, asked, publisher, path = server.size if server else 0, 0.0, self.publisher, self.folder.file(name)
         while True:
             try:
                 done = write()
-                showing.unwritten = 0
-                showing.lower_alert(DISK)
+                publisher.unwritten = 0
+                publisher.lower_alert(DISK)
                 return done
             except OSError as fault:
-                why, showing.unwritten = fault.strerror or repr(fault), kept
+                why, publisher.unwritten = fault.strerror or repr(fault), kept
             text = f"{path} can't be written: {why}; {kept:,} bytes are kept in memory"
-            showing.raise_alert(DISK, text, "error", file=path, why=why, kept=kept)
-            showing.waits_for = (f"{path}: {why}",)
-            showing.show()
+            publisher.raise_alert(DISK, text, "error", file=path, why=why, kept=kept)
+            publisher.waits_for = (f"{path}: {why}",)
+            publisher.show()
             if self.signals.count:
                 asked = asked or time.monotonic()
                 if self.signals.count > 1 or time.monotonic() - asked > self.settings.stop_within / SECOND:

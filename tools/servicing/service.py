@@ -17,7 +17,7 @@ from servicing.runs import Next, Runs
 from servicing.saying import Signals, notify, say
 from servicing.server import NotStarted, Server, made
 from servicing.settings import Settings
-from servicing.showing import Showing
+from servicing.publisher import Publisher
 from servicing.state import Board, Phase, Reason
 from rb_broker_redis.watching.metrics import span_of
 from rb_broker_redis.watching.units import SECOND
@@ -30,13 +30,13 @@ def serve(settings: Settings, folder: Folder, board: Board, signals: Signals) ->
     """Serves until a signal asks for the end. Raises an `Unusable` if nothing can be served, and a `LeftBehind`."""
     runs, memory = Runs(folder), Memory(folder)
     say("info", "service", port=settings.port, folder=folder.path, pid=os.getpid())
-    parts = Parts(settings, folder, signals, runs, Showing(settings, runs, board), memory)
+    parts = Parts(settings, folder, signals, runs, Publisher(settings, runs, board), memory)
     try:
         _serve(parts)
     except NoIdsLeft:
         raise Unusable("all ids up to 2^40 are used; begin with another folder") from None
-    parts.showing.run = None
-    parts.showing.enter(Phase.STOPPED, Reason.ASKED)
+    parts.publisher.run = None
+    parts.publisher.enter(Phase.STOPPED, Reason.ASKED)
 
 
 def _serve(parts: Parts) -> None:
@@ -62,11 +62,11 @@ def _bound(port: int) -> socket.socket:
 
 
 def _say_serving(parts: Parts, current: Current, before: Current | None) -> None:
-    record, showing, process = current.record, parts.showing, current.server.process
-    showing.lower_alert("not-listening")
-    showing.run, showing.looks = current.record, current.looks
+    record, publisher, process = current.record, parts.publisher, current.server.process
+    publisher.lower_alert("not-listening")
+    publisher.run, publisher.looks = current.record, current.looks
     closed = None if before is None else round(time.monotonic() - before.closed, 3)
-    showing.enter(Phase.SERVING, None, port=parts.settings.port, elements=record.opening, aside=record.aside or None,
+    publisher.enter(Phase.SERVING, None, port=parts.settings.port, elements=record.opening, aside=record.aside or None,
                   process=process.pid if process else None, closed=None if closed is None else f"{closed:.3f}s")
     notify(READY=1)
     last = parts.runs.records.get(before.record.number) if before else None
@@ -86,8 +86,8 @@ def _started(parts: Parts, door: socket.socket, following: Next, before: Current
         except NotStarted as fault:
             if before is None:
                 raise Unusable(f"no server at port {parts.settings.port}: {fault}") from None
-            parts.showing.raise_alert("not-listening", f"no server can be started: {fault}", "error")
-            parts.showing.show()
+            parts.publisher.raise_alert("not-listening", f"no server can be started: {fault}", "error")
+            parts.publisher.show()
             parts.signals.wait(AGAIN)
     return None
 
@@ -97,10 +97,10 @@ def _await_date(parts: Parts, following: Next) -> None:
     while not parts.signals.count and (off := following.off_at(read_clock())) > parts.settings.away:
         text = (f"by its date the machine was off for {span_of(off / SECOND)}, and no run begins: set its date, or "
                 "start with --away and a longer time")
-        parts.showing.raise_alert("date", text, "error", off=span_of(off / SECOND))
-        parts.showing.show()
+        parts.publisher.raise_alert("date", text, "error", off=span_of(off / SECOND))
+        parts.publisher.show()
         parts.signals.wait(AGAIN)
-    parts.showing.lower_alert("date")
+    parts.publisher.lower_alert("date")
 
 
 def _listening(

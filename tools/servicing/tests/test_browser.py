@@ -4,8 +4,8 @@ from typing import Any
 
 from reporting.tests.support import PageTest
 from reporting.tests.test_sight import contrast, luminance
-from servicing.shown import attention, headline, since, tables
-from servicing.site import answer_of
+from servicing.texts import attention, headline, since, tables
+from servicing.endpoints import answer_of
 from servicing.state import Alert, Board, Phase, Queue, Reason, State
 from servicing.tests.support import AT, HELD, connection, first_state, state, troubled_state
 from rb_broker_redis.watching.http import HttpServer

@@ -7,7 +7,7 @@ from servicing import state as served
 from servicing.looking import Looks
 from servicing.settings import parser, settings_of
 from servicing.session import OwnSession
-from servicing.showing import Showing
+from servicing.publisher import Publisher
 from servicing.connections import Connection
 from servicing.state import Alert, Board, Phase, Queue
 from servicing.tests.support import AT, connection, record, state
@@ -20,13 +20,13 @@ class HealthTest(unittest.TestCase):
         runs.folder.id = "abc"
         self.board = Board(1)
         words = parser("").parse_args(["--workers", "2"])
-        self.showing = Showing(settings_of(words, "program"), runs, self.board)
-        self.showing.looks = self.looks = Looks(OwnSession(1), record(), 2)
+        self.publisher = Publisher(settings_of(words, "program"), runs, self.board)
+        self.publisher.looks = self.looks = Looks(OwnSession(1), record(), 2)
 
     def alerts(self, *clients: Connection, queue: Queue | None = None) -> list[str]:
         self.looks.see([*clients])
         self.looks.queue = queue
-        self.showing.show()
+        self.publisher.show()
         return [it.name for it in self.board.state.alerts]
 
     def test_all_workers_are_silent(self) -> None:
@@ -54,11 +54,11 @@ class HealthTest(unittest.TestCase):
         """From the end of one run to the beginning of the next."""
         with mock.patch.object(served, "CLOSED", 0.2):
             for phase in (Phase.ENDING, Phase.BETWEEN):
-                self.showing.enter(phase)
+                self.publisher.enter(phase)
                 time.sleep(0.15)
             it = self.board.state
             self.assertEqual(([it.name for it in it.alerts], it.is_healthy), (["closed"], False))
-            self.showing.enter(Phase.SERVING)
+            self.publisher.enter(Phase.SERVING)
             self.assertEqual(self.alerts(), [])
         closed = (Alert("closed", "no new client is served", AT),)
         for phase, is_healthy in ((Phase.ENDING, True), (Phase.BETWEEN, False)):  # clients that are served go on

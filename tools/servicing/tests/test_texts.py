@@ -1,7 +1,7 @@
 """What is shown of states that were written by hand, on the page and in a terminal alike."""
 import unittest
 
-from servicing.shown import attention, headline, since, tables, text
+from servicing.texts import attention, headline, since, tables, text
 from servicing.state import Queue
 from servicing.tests.support import AT, CLIENTS, FULL_DISK, HELD, connection, first_state, state, troubled_state
 

@@ -16,7 +16,7 @@ from servicing.metrics import metrics
 from servicing.page import page
 from servicing.reports import jobs_named, report_on
 from servicing.saying import say
-from servicing.shown import MOST_RUNS, text
+from servicing.texts import MOST_RUNS, text
 from servicing.state import ACKNOWLEDGE, CUT, END, Board
 from rb_broker_redis.watching.http import Answer, HttpServer, is_loopback
 

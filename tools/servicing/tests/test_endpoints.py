@@ -19,8 +19,8 @@ from servicing.folder import Unusable
 from servicing.http import short_name
 from servicing.metrics import metrics
 from servicing.page import page
-from servicing.shown import text
-from servicing.site import answer_of, change, print_status, serve_pages
+from servicing.texts import text
+from servicing.endpoints import answer_of, change, print_status, serve_pages
 from servicing.state import Alert, Board, Phase
 from servicing.tests.support import AT, ENDED, FULL_DISK, HELD, LOST, connection, first_state, state, troubled_state
 from rb_broker_redis.watching.http import Answer

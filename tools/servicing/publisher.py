@@ -10,7 +10,7 @@ from servicing.page import add_mark
 from servicing.runs import Runs
 from servicing.saying import notify, say
 from servicing.settings import Settings
-from servicing.shown import headline
+from servicing.texts import headline
 from servicing.state import ACKNOWLEDGE, CUT, END, LOST_JOBS, LOST_RUN, Alert, Board, Mark, Phase, Reason, Run, Traffic
 from rb_broker_redis.watching.metrics import span_of
 from rb_broker_redis.watching.units import counted
@@ -21,7 +21,7 @@ NO_TURN, OVERDUE = 60.0, 10.0  # seconds without a turn of the service's own ses
 MORE_TIME = 300_000_000  # microseconds that systemd is asked for while nothing is served
 
 
-class Showing:
+class Publisher:
     """Puts a new state on the board whenever something has changed."""
 
     def __init__(self, settings: Settings, runs: Runs, board: Board) -> None:

@@ -22,7 +22,7 @@ from serving.server import free_port
 FAR = 3_600_000_000_000
 
 
-class ShownTest(ServiceTest):
+class StatusTest(ServiceTest):
     def setUp(self) -> None:
         super().setUp()
         self.page = free_port()
