@@ -9,8 +9,8 @@ from unittest import mock
 class Terminal(io.TextIOWrapper):
     """A stream that is a terminal."""
 
-    def __init__(self, *words: object, **options: object) -> None:
-        super().__init__(io.BytesIO(), "utf-8", write_through=True)
+    def __init__(self, written: io.BytesIO | None = None, *_: object, **options: object) -> None:
+        super().__init__(written or io.BytesIO(), "utf-8", write_through=True)
 
     def isatty(self) -> bool:
         return True
