@@ -25,7 +25,7 @@ fi
 top=$(readlink -f -- "${BASH_SOURCE[0]}") && top=${top%/*/*}
 program=$top/crates/rb_broker/out/rb_broker
 "$top/broker" --help > /dev/null # builds it if it has to
-export PYTHONPATH=$top/redis/src PYTHONDONTWRITEBYTECODE=1
+export PYTHONPATH=$top/redis/src:$top/clients/python/src PYTHONDONTWRITEBYTECODE=1
 room=$(mktemp -d)
 processes=()
 end_all() {

@@ -5,8 +5,9 @@ import sys
 from pathlib import Path
 
 HERE = Path(__file__).resolve().parent
-CLIENT = HERE.parents[1] / "clients/python"
-PATHS = [str(it) for it in (HERE.parent / "src", HERE, CLIENT / "src", HERE.parents[1] / "dev")]
+TOP = HERE.parents[1]
+CLIENT = TOP / "clients/python"
+PATHS = [str(it) for it in (HERE.parent / "src", HERE, CLIENT / "src", TOP / "dev", TOP / "tools")]
 sys.path[:0] = PATHS
 sys.path += [str(CLIENT / "tests" / it) for it in ("served", "day")]
 os.environ.update({"PYTHONPATH": os.pathsep.join(PATHS), "PYTHONDONTWRITEBYTECODE": "1"})

@@ -11,7 +11,7 @@ from bundling import Fault
 from bundling.manuals import write_manuals
 from common.program import TOP
 
-FOLDERS = ("clients/python", "docs", "examples", "formats", "packaging", "redis", "tools")
+FOLDERS = ("clients/python", "docs", "examples", "packaging", "redis", "tools")
 NOT_PACKED = shutil.ignore_patterns("tests", "__pycache__", "*.py[co]")
 
 # What changed is told by CHANGELOG.md, which lies beside it as changelog.gz.
@@ -43,7 +43,7 @@ def make_package(program: Path, folder: Path) -> Path:
 def copy_to(tree: Path, program: Path) -> None:
     """Copies what debhelper packs. Each file gets the time of now, which is later than any that the package tells."""
     for name in FOLDERS:
-        shutil.copytree(Path(TOP, name), tree / name, symlinks=True, ignore=NOT_PACKED, copy_function=shutil.copy)
+        shutil.copytree(Path(TOP, name), tree / name, ignore=NOT_PACKED, copy_function=shutil.copy)
     (tree / "packaging/debian").rename(tree / "debian")
     shutil.copy(Path(TOP, "CHANGELOG.md"), tree)
     shutil.copy(program, tree / "rb_broker")

@@ -16,7 +16,7 @@ FOLDERS = ("*.md", "docs/*.md", "clients/*/README.md", "redis/README.md")
 PAGES = sorted(path.relative_to(TOP).as_posix() for folder in FOLDERS for path in Path(TOP).glob(folder))
 NOW = [name for name in PAGES if name not in ("CHANGELOG.md", "docs/DECISIONS.md")]  # which speak of what was, too
 PATH = re.compile(r"(?<![\w/~.-])(?:\.\./)*"
-                  r"((?:examples|tools|dev|crates|clients|formats|redis|docs|bench|packaging)/[\w./-]*\w)/?([*{\[]?)")
+                  r"((?:examples|tools|dev|crates|clients|redis|docs|bench|packaging)/[\w./-]*\w)/?([*{\[]?)")
 COMMAND = re.compile(r"(?:^|[\s(])((?:tools|dev)/[a-z_]+)((?: [^|;&\n#)]+)?)")
 # What a part of a page's command may be made of by whoever follows it.
 MADE = {"crates/rb_NAME", "dev/null"}

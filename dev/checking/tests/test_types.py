@@ -8,7 +8,7 @@ import pytest
 
 from common.program import TOP
 
-PLACES = [path for folder in ("dev", "tools") for path in sorted(Path(TOP, folder).iterdir()) if not path.is_symlink()]
+PLACES = [path for folder in ("dev", "tools") for path in sorted(Path(TOP, folder).iterdir())]
 SOURCES = [str(path) for path in PLACES if path.suffix == ".py" or (path / "__init__.py").exists()]
 COMMANDS = [str(path) for path in PLACES if path.is_file() and os.access(path, os.X_OK)]
 

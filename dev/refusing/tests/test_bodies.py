@@ -19,7 +19,7 @@ class BodyTest(RoomTest):
         """Copies what the tool reads, and applies the edit of this name."""
         for name in ("crates.txt", "HANDLES"):
             shutil.copy2(f"{TOP}/{name}", self.room)
-        for name in ("crates", "dev", "tools"):
+        for name in ("clients/python/src", "crates", "dev", "tools"):
             shutil.copytree(f"{TOP}/{name}", self.path(name), ignore=LEFT_OUT)
         for path, text in edited(Path(self.path("crates"), os.path.dirname(body)), BODIES / f"{body}.edit").items():
             path.write_text(text, "utf-8")

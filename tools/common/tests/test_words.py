@@ -86,7 +86,8 @@ class WordsTest(unittest.TestCase):
                 self.assertEqual(sys.stderr.told, says)  # type: ignore[attr-defined]
 
     def test_a_reader_that_has_seen_enough(self) -> None:
-        code = "from common.words import exit_status; exit(exit_status('it', lambda: print('more', flush=True)))"
+        code = "import common.paths; from common.words import exit_status as status"
+        code += "; exit(status('it', lambda: print('more', flush=True)))"
         reading, writing = os.pipe()
         os.close(reading)
         ran = subprocess.run([sys.executable, "-B", "-c", code], cwd=f"{TOP}/tools", stdout=writing,

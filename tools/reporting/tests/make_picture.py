@@ -17,6 +17,7 @@ from pathlib import Path
 TOP = Path(__file__).resolve().parents[3]
 sys.path[:0] = [f"{TOP}/tools", f"{TOP}/dev"]
 
+import common.paths  # noqa: E402, F401
 from common.program import add_program_option, built_program  # noqa: E402
 from reporting.tests.browser import Browser  # noqa: E402
 
