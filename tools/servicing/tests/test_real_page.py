@@ -87,6 +87,7 @@ class RealPageTest(PageTest, ServiceTest):
         self.assertRegex(charts[0], r": \d+\.\d\d, at most [1-9]")
         # None of this is so between two runs, which the page then shows.
         self.shows(f"{CLIENTS} > 0 && /^serving, run \\d+, .*: rb_broker {self.port}$/.test(document.title)", True)
+        self.shows(f"{LINKS}.length >= {ended}", True)  # once the page has loaded itself again
         self.assertLessEqual({f"runs/{it}" for it in range(1, ended + 1)}, {*self.browser.value(LINKS)})
         self.assertEqual(self.browser.value(LIVE), "polite")
 
