@@ -6,7 +6,7 @@ use rb_blocking::MachineClock;
 use rb_ending::BrokerFault;
 use rb_history::HistoryRoom;
 use rb_options::{ReplayOptions, ScriptOptions, ServeOptions, ServerRunOptions};
-use rb_protocol::{LimitedReader, LimitedWriter};
+use rb_protocol::{LimitedReader, LimitedWriter, WriterStatus};
 use rb_queue::Opening;
 use rb_runs::{ReadyScript, opening_in, over_timer, run_replay};
 use rb_serving::{
@@ -54,7 +54,8 @@ fn script_over<T: Timer>(
     let mut input = rt.stdin();
     let mut output = rt.stdout();
     let mut reader = LimitedReader::new(&mut input);
-    let writer = LimitedWriter::new(&mut output);
+    let mut status = WriterStatus::of(&output);
+    let writer = LimitedWriter::new(&mut output, &mut status);
     let (_, report) = ready.run(&mut reader, writer, history.device());
     report.result()
 }

@@ -10,7 +10,7 @@ use crate::timers::{TIMERS, timer_name};
 use rb_arguments::Words;
 use rb_ending::BrokerFault;
 use rb_options::{ScriptOptions, TimerKind};
-use rb_protocol::{LimitedReader, LimitedWriter};
+use rb_protocol::{LimitedReader, LimitedWriter, WriterStatus};
 use rb_queue::Opening;
 use rb_runs::{opening_in, run_script, run_script_delivered};
 use rb_session::{Delivery, Ended, HandsOn};
@@ -188,13 +188,14 @@ fn ended(
     match delivery {
         Delivery::AtOnce => run_script(alloc, options, opening, &mut source, writer, recorder),
         gathered => {
+            let mut status = WriterStatus::of(&*writer);
             let (_, report) = run_script_delivered(
                 alloc,
                 options,
                 gathered,
                 opening,
                 &mut LimitedReader::new(&mut source),
-                LimitedWriter::new(writer),
+                LimitedWriter::new(writer, &mut status),
                 recorder,
             );
             report.result()

@@ -4,7 +4,7 @@ ghost use Rattle.rb_ending.specs.Recording.{RecordsLog};
 
 use rb_history::{HistoryFault, HistoryRoom, write_history_in};
 use rb_kept::Kept;
-use rb_protocol::{LimitedWriter, WriteFault};
+use rb_protocol::{LimitedWriter, WriteFault, WriterStatus};
 use rb_timer::Timer;
 use std::io;
 
@@ -22,8 +22,12 @@ pub fn write_recording<T: Timer, H: io::Write>(
 {
     // For the proof: how long the history may get.
     let _ = kept.capacity();
-    let device = LimitedWriter::new(device);
-    let (_, written) = write_history_in(room, kept.opening(), kept.history(), device);
+    let written = {
+        let mut status = WriterStatus::of(&*device);
+        let device = LimitedWriter::new(device, &mut status);
+        let (_, written) = write_history_in(room, kept.opening(), kept.history(), device);
+        written
+    };
     match written {
         Ok(()) => Ok(()),
         Err(WriteFault) => Err(HistoryFault::Write),

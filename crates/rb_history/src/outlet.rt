@@ -19,7 +19,7 @@ pub(crate) struct Outlet<'a, W: Write> {
     sent: Result<(), WriteFault>,
     ghost few: { vec_len gathered ≤ PIECE_BYTES },
     ghost room: { PIECE_BYTES ≤ vec_capacity gathered },
-    ghost told: { IsErr sent → CannotWrite writer },
+    ghost told: { IsErr sent → CannotWrite writer.status.now },
 }
 
 impl<'a, W: Write> Outlet<'a, W> {
@@ -49,7 +49,7 @@ impl<'a, W: Write> Outlet<'a, W> {
     /// Writes what is gathered, and flushes. `Err` means that this or an earlier write failed.
     pub(crate) fn finish(&mut self) -> Result<(), WriteFault>
         ensures on { WritesOn self.old.writer self.new.writer }
-        ensures told { OnErr result (CannotWrite self.new.writer) }
+        ensures told { OnErr result (CannotWrite self.new.writer.status.now) }
         ensures sent { (got : Option (List ℕ)) (text : List ℕ) → Holds W.Write got text self.old
             → Sends result got text (W.contents self.new.writer.inner.now) }
     {

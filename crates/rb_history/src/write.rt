@@ -9,7 +9,7 @@ use crate::history_fault::HistoryFault;
 use crate::history_room::HistoryRoom;
 use crate::history_text::push_history;
 use crate::outlet::Outlet;
-use rb_protocol::{LimitedWriter, WriteFault};
+use rb_protocol::{LimitedWriter, WriteFault, WriterStatus};
 use rb_queue::{Event, Opening};
 use std::alloc::Global;
 use std::io::Write;
@@ -39,7 +39,12 @@ pub fn write_history<W: Write>(
     let Ok(room) = HistoryRoom::new(alloc) else {
         return Err(HistoryFault::Memory);
     };
-    let (_, written) = write_history_in(room, opening, events, LimitedWriter::new(writer));
+    let written = {
+        let mut status = WriterStatus::of(&*writer);
+        let writer = LimitedWriter::new(writer, &mut status);
+        let (_, written) = write_history_in(room, opening, events, writer);
+        written
+    };
     match written {
         Ok(()) => Ok(()),
         Err(WriteFault) => Err(HistoryFault::Write),
@@ -60,7 +65,7 @@ pub fn write_history_in<'a, W: Write>(
     requires { length events.now ≤ MOST_EVENTS }
     ensures writes { Sends result.1 (W.contents writer.entry.inner.now) (history_text opening.now events.now)
         (W.contents result.0.inner.now) }
-    ensures reason { OnErr result.1 (CannotWrite result.0) }
+    ensures reason { OnErr result.1 (CannotWrite result.0.status.now) }
     ensures on { WritesOn writer.entry result.0 }
     ensures opening { IsRightOpening opening.now }
     ensures events { AreRightEvents events.now }

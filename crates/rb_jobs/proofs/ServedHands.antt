@@ -87,10 +87,10 @@ module _ {I O G C : Type 0} (terms : Terms I O G C) where
   visits_handle old new [] [] same =
       ([], ap made_of same ∙ sym (append-nil (made_of old)), tt)
   visits_handle old new (TurnedAway ∷ log) (None ∷ visits) are = visits_handle old new log visits are
-  visits_handle old new (LetIn visit ∷ Left reader writer ∷ log) (Some served ∷ visits) (between, ran, are) =
+  visits_handle old new (LetIn visit ∷ Left reader status writer ∷ log) (Some served ∷ visits) (between, ran, are) =
       pass_then terms.policy old between new (of_visit ran) (visits_handle between new log visits are)
     where
-      of_visit : RanVisit terms visit reader writer old served between → PassHandles terms.policy old between
+      of_visit : RanVisit terms visit reader status writer old served between → PassHandles terms.policy old between
       of_visit ran =
           let (made, grows, handles) = run_handles (visit_waits terms) terms.policy
           (HadGotBehind terms.contents (terms.contents visit.writer)) terms.delivery

@@ -42,9 +42,9 @@ module _ {I O G C : Type 0} (terms : Terms I O G C) where
       → AreVisits terms old log visits new → GrowsByVisits terms.policy (made_of old) visits (made_of new)
   grows_by_visits old new [] [] same = ap made_of same
   grows_by_visits old new (TurnedAway ∷ log) (None ∷ visits) are = grows_by_visits old new log visits are
-  grows_by_visits old new (LetIn visit ∷ Left reader writer ∷ log) (Some served ∷ visits) (between, ran, are) = (
+  grows_by_visits old new (LetIn visit ∷ Left reader status writer ∷ log) (Some served ∷ visits) (between, ran, are) = (
     made_of between,
-    (terms.remaining reader.inner.now, calls_by_visit terms visit reader writer old between served ran),
+    (terms.remaining reader.inner.now, calls_by_visit terms visit reader status writer old between served ran),
     grows_by_visits between new log visits are,
   )
   grows_by_visits old new log visits are = absurd are

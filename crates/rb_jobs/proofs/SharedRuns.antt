@@ -94,7 +94,7 @@ of_pass from to old new made begun seen grows =
 
 module _ {I O G C : Type 0} (terms : Terms I O G C) where
   pub calls_by_visit : CallsByVisit terms
-  calls_by_visit visit reader writer old new served ran =
+  calls_by_visit visit reader status writer old new served ran =
       let run = calls_by_run (visit_waits terms) terms.policy
       (HadGotBehind terms.contents (terms.contents visit.writer)) terms.delivery
       (IsAtEnd (terms.remaining reader.inner.now)) ran.from ran.to served ran.ran in

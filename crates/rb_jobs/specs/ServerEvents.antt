@@ -4,6 +4,7 @@ use Rattle.std.specs.Prelude.{◌≡◌, ℕ, List, [], ◌∷◌, ◌++◌, Con
 use Rattle.std.specs.List.{AllZip}
 use Rattle.std.specs.Io.KnownBytes.{IsAtEnd}
 use Rattle.rb_protocol.specs.declared.streams.limited_reader.LimitedReader.{LimitedReader}
+use Rattle.rb_protocol.specs.declared.streams.writer_status.WriterStatus.{WriterStatus}
 use Rattle.rb_queue.specs.declared.event.Event.{Event}
 use Rattle.rb_queue.specs.declared.opening.Opening.{Opening}
 use Rattle.rb_lock.specs.Passes.{PassState}
@@ -56,8 +57,9 @@ module _ {I O G C : Type 0} (terms : Terms I O G C) where
   -- still held, each with its reply, and by no other
   abbrev pub CallsByVisit : Type 0
   CallsByVisit =
-      (visit : Visit I O G) (reader : LimitedReader I) (writer : O) (old new : PassState) (served : Served)
-      → RanVisit terms visit reader writer old served new
+      (visit : Visit I O G) (reader : LimitedReader I) (status : WriterStatus O) (writer : O) (old new : PassState)
+      (served : Served)
+      → RanVisit terms visit reader status writer old served new
       → MadeByRun terms.policy (IsAtEnd (terms.remaining reader.inner.now)) served
       (λ made. made_of new ≡ made_of old ++ made)
 

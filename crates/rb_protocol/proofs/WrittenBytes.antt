@@ -22,11 +22,20 @@ appends_more old mid new bytes taken n before more =
 module _ {W : Type 0} where
   -- a writer may stay as it is
   pub writes_same : (writer : LimitedWriter W) → WritesOn writer writer
-  writes_same writer = record { same_reference = refl; counted = omega arith }
+  writes_same writer = record {
+    same_reference = refl;
+    same_status = refl;
+    counted = omega arith;
+    first = refl;
+    last = λ same. same;
+  }
 
   -- and become in two steps what it may become
   pub writes_then : {one two three : LimitedWriter W} → WritesOn one two → WritesOn two three → WritesOn one three
   writes_then first second = record {
     same_reference = second.same_reference ∙ first.same_reference;
+    same_status = second.same_status ∙ first.same_status;
     counted = omega (arith, first.counted, second.counted);
+    first = second.first ∙ first.first;
+    last = λ same. second.last (first.last same);
   }

@@ -34,4 +34,5 @@ pub use streams::limited_writer::LimitedWriter;
 pub use streams::reader_state::ReaderState;
 pub use streams::send::{send_at_once, send_line};
 pub use streams::writer_state::WriterState;
+pub use streams::writer_status::WriterStatus;
 pub use streams::writing::{WriteFault, write_out};

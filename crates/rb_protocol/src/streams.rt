@@ -6,4 +6,5 @@ pub(crate) mod limited_writer;
 pub(crate) mod reader_state;
 pub(crate) mod send;
 pub(crate) mod writer_state;
+pub(crate) mod writer_status;
 pub(crate) mod writing;

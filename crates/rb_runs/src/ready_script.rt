@@ -85,7 +85,7 @@ impl<T: Timer> ReadyScript<T> {
             (device_of H.contents (lent history.entry) (given_back history.exit))) }
         ensures begun { result.1.session ≢ Err SessionFault.Memory }
         ensures reason { IsReason reader.old.state reader.new result.1.session }
-        ensures write_reason { IsWriteReason writer.entry result.0 result.1.session }
+        ensures write_reason { IsWriteReason writer.entry.status.now.state result.0.status.now result.1.session }
         ensures on { WritesOn writer.entry result.0 }
         ensures counted { reader.new.left ≤ reader.old.left }
         ensures same_reference { reader.new.inner.ghost_name ≡ reader.old.inner.ghost_name }

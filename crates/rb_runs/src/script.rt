@@ -11,7 +11,7 @@ use crate::script_report::ScriptReport;
 use crate::script_run::{Script, script_over};
 use rb_ending::BrokerFault;
 use rb_options::ScriptOptions;
-use rb_protocol::{LimitedReader, LimitedWriter};
+use rb_protocol::{LimitedReader, LimitedWriter, WriterStatus};
 use rb_queue::Opening;
 use rb_session::{Delivery, Ended};
 use std::alloc::Global;
@@ -67,7 +67,8 @@ fn script_to<R: Read, W: Write, H: Write>(
         (device_of H.contents (lent history.entry) (given_back history.exit))) }
     ensures same_reference { reader.new.inner.ghost_name ≡ reader.old.inner.ghost_name }
 {
-    let writer = LimitedWriter::new(writer);
+    let mut status = WriterStatus::of(&*writer);
+    let writer = LimitedWriter::new(writer, &mut status);
     let at_once = Delivery::AtOnce;
     // For the proof: as in `run_script`.
     match history {
@@ -116,7 +117,7 @@ pub fn run_script_delivered<'a, R: Read, W: Write, H: Write>(
         (IsAtEnd (R.remaining reader.new.inner.now)) came sent result.1
         (device_of H.contents (lent history.entry) (given_back history.exit))) }
     ensures reason { IsReason reader.old.state reader.new result.1.session }
-    ensures write_reason { IsWriteReason writer.entry result.0 result.1.session }
+    ensures write_reason { IsWriteReason writer.entry.status.now.state result.0.status.now result.1.session }
     ensures on { WritesOn writer.entry result.0 }
     ensures counted { reader.new.left ≤ reader.old.left }
     ensures same_reference { reader.new.inner.ghost_name ≡ reader.old.inner.ghost_name }

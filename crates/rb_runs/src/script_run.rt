@@ -42,7 +42,7 @@ pub(crate) fn script_over<'a, T: Timer, R: Read, W: Write, H: Write>(
         (IsAtEnd (R.remaining reader.new.inner.now)) came sent result.1
         (device_of H.contents (lent history.entry) (given_back history.exit))) }
     ensures reason { IsReason reader.old.state reader.new result.1.session }
-    ensures write_reason { IsWriteReason writer.entry result.0 result.1.session }
+    ensures write_reason { IsWriteReason writer.entry.status.now.state result.0.status.now result.1.session }
     ensures on { WritesOn writer.entry result.0 }
     ensures counted { reader.new.left ≤ reader.old.left }
     ensures same_reference { reader.new.inner.ghost_name ≡ reader.old.inner.ghost_name }

@@ -13,7 +13,7 @@ use Rattle.rb_serving.specs.declared.visit.Visit.{Visit}
 module _ {I O G C : Type 0} (terms : Terms I O G C) where
   served_more : (visit : Visit I O G) (log later : List (DoorStep I O G)) → IsServed terms visit log
       → IsServed terms visit (log ++ later)
-  served_more visit (Left reader writer ∷ log) later is = is
+  served_more visit (Left reader status writer ∷ log) later is = is
   served_more visit log later is = absurd is
 
   all_more : (log later : List (DoorStep I O G)) → AllServed terms log → AllServed terms later
@@ -22,13 +22,13 @@ module _ {I O G C : Type 0} (terms : Terms I O G C) where
   all_more (LetIn visit ∷ log) later (is, all) more = (served_more visit log later is, all_more log later all more)
   all_more (TurnedAway ∷ log) later all more = all_more log later all more
   all_more (NoMore ∷ log) later all more = all_more log later all more
-  all_more (Left reader writer ∷ log) later all more = all_more log later all more
+  all_more (Left reader status writer ∷ log) later all more = all_more log later all more
 
   of_visits : (old new : PassState) (log : List (DoorStep I O G)) (visits : List (Option Served))
       → AreVisits terms old log visits new → AllServed terms log
   of_visits old new [] [] are = tt
   of_visits old new (TurnedAway ∷ log) (None ∷ visits) are = of_visits old new log visits are
-  of_visits old new (LetIn visit ∷ Left reader writer ∷ log) (Some served ∷ visits) (between, ran, are) =
+  of_visits old new (LetIn visit ∷ Left reader status writer ∷ log) (Some served ∷ visits) (between, ran, are) =
       ((old, between, served, ran), of_visits between new log visits are)
   of_visits old new log visits are = absurd are
 

@@ -45,7 +45,7 @@ module _ {I O G C : Type 0} (terms : Terms I O G C) where
   visits_append old mid new [] later [] more same are = subst (λ pass. AreVisits terms pass later more new) same are
   visits_append old mid new (TurnedAway ∷ log) later (None ∷ visits) more first are =
       visits_append old mid new log later visits more first are
-  visits_append old mid new (LetIn visit ∷ Left reader writer ∷ log) later (Some served ∷ visits) more
+  visits_append old mid new (LetIn visit ∷ Left reader status writer ∷ log) later (Some served ∷ visits) more
       (between, ran, first) are =
       (between, ran, visits_append between mid new log later visits more first are)
   visits_append old mid new log later visits more first are = absurd first

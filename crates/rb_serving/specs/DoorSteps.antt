@@ -2,6 +2,7 @@
 use Rattle.std.specs.Prelude.{ℕ, List, [], ◌∷◌, ◌++◌}
 use Rattle.std.specs.List.{flat_map}
 use Rattle.rb_protocol.specs.declared.streams.limited_reader.LimitedReader.{LimitedReader}
+use Rattle.rb_protocol.specs.declared.streams.writer_status.WriterStatus.{WriterStatus}
 use Rattle.rb_serving.specs.declared.visit.Visit.{Visit}
 
 -- A visitor is let in, or turned away; there are no more; or the entrance gets back what is left of a visit.
@@ -9,7 +10,7 @@ pub data DoorStep (I O G : Type 0) : Type 0 where
   LetIn : Visit I O G → DoorStep I O G
   TurnedAway : DoorStep I O G
   NoMore : DoorStep I O G
-  Left : LimitedReader I → O → DoorStep I O G
+  Left : LimitedReader I → WriterStatus O → O → DoorStep I O G
 
 -- one thing more happened at the entrance
 abbrev pub Sees : {D I O G : Type 0} → (D → List (DoorStep I O G) → Type 0) → D → DoorStep I O G → D → Type 0

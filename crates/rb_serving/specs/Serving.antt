@@ -1,5 +1,5 @@
 -- What serving visits leaves of the passes, and what a server gives.
-use Rattle.std.specs.Prelude.{◌≡◌, ℕ, List, [], ◌∷◌, ◌++◌, length, Option, Bool, Result, Ok, Err, ◌⊎◌, MatchBool}
+use Rattle.std.specs.Prelude.{◌≡◌, ℕ, List, [], ◌∷◌, ◌++◌, length, Option, Bool, Result, Ok, Err, MatchBool}
 use Rattle.atomic_table.specs.Seated.{TableId}
 use Rattle.rb_queue.specs.Counts.{audit_of}
 use Rattle.rb_queue.specs.declared.opening.Opening.{Opening}

@@ -38,7 +38,7 @@ module _ {L : Type 0} (words : Listener.Ghosts L) where
   ShowsStep door (LetIn visit) = IsAsked door × IsClient door visit
   ShowsStep door TurnedAway = IsAsked door × words.fails door.listener
   ShowsStep door NoMore = IsOver door
-  ShowsStep door (Left reader writer) = words.closes door.listener writer.stream
+  ShowsStep door (Left reader status writer) = words.closes door.listener writer.stream
 
   -- at an entrance of some door
   abbrev pub ShowsStepSomewhere : DoorStep TcpReader TcpWriter TcpGate → Type 0

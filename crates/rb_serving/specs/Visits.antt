@@ -3,7 +3,9 @@ use Rattle.std.specs.Prelude.{◌≡◌, ℕ, min, List, [], ◌∷◌, ◌++◌
 use Rattle.std.specs.List.{flat_map}
 use Rattle.std.specs.Io.KnownBytes.{Appends, Consumes, IsAtEnd}
 use Rattle.rb_protocol.specs.declared.streams.limited_reader.LimitedReader.{LimitedReader}
+use Rattle.rb_protocol.specs.declared.streams.writer_status.WriterStatus.{WriterStatus}
 use Rattle.rb_protocol.specs.declared.streams.reader_state.ReaderState.TheVariants.{Open}
+use Rattle.rb_protocol.specs.declared.streams.writer_state.WriterState.TheVariants.{Open as WriterOpen}
 use Rattle.rb_ledger.specs.declared.totals.TheConstants.{GREATEST_COUNT}
 use Rattle.rb_queue.specs.Counts.{events_of}
 use Rattle.rb_queue.specs.declared.opening.Opening.{Opening}
@@ -16,7 +18,7 @@ use Rattle.rb_retry.specs.declared.policy.Policy.{Policy}
 use Rattle.rb_session.specs.Rules.{SessionRules, session_rules, HadGotBehind}
 use Rattle.rb_session.specs.Served.{Served}
 use Rattle.rb_session.specs.Ran.{Ran}
-use Rattle.rb_session.specs.Reasons.{IsReason}
+use Rattle.rb_session.specs.Reasons.{IsReason, IsWriteReason}
 use Rattle.rb_serving.specs.DoorSteps.{DoorStep, Sees, LetIn, TurnedAway, NoMore, Left}
 use Rattle.rb_serving.specs.Terms.{Terms}
 use Rattle.rb_serving.specs.VisitCounts.{ended_visit, refused_visit}
@@ -76,11 +78,12 @@ module _ {I O G C : Type 0} (terms : Terms I O G C) where
       (HadGotBehind terms.contents (terms.contents writer))
 
   -- The session of this visit was run at a new desk of the pass, which is one of the server's queue. What came was read from the visit's reader, what
-  -- was sent went to its writer, and its gate could end the waits. `reader` and `writer` are what is left of the two.
+  -- was sent went to its writer, and its gate could end the waits. `reader` and `writer` are what is left of the two,
+  -- and `status` is of all that was written to the writer in between.
   -- The input ended only if the last read met its end, a read failed exactly if the session says so, and it gave
-  -- reading up only when all reads had been made.
-  pub record RanVisit (visit : Visit I O G) (reader : LimitedReader I) (writer : O) (old : PassState) (served : Served)
-      (new : PassState) : Type 0 where
+  -- reading up only when all reads had been made. It could not write exactly if it says so.
+  pub record RanVisit (visit : Visit I O G) (reader : LimitedReader I) (status : WriterStatus O) (writer : O)
+      (old : PassState) (served : Served) (new : PassState) : Type 0 where
     pub table : old.table ≡ terms.table
     pub consumed : Consumes (terms.remaining visit.reader) (terms.remaining reader.inner.now) served.came
     pub appended : Appends (terms.contents visit.writer) (terms.contents writer) served.sent
@@ -90,20 +93,25 @@ module _ {I O G C : Type 0} (terms : Terms I O G C) where
     pub ran : Ran (visit_rules visit.writer) (IsAtEnd (terms.remaining reader.inner.now)) from served to
     pub seen : to.pass ≡ new
     pub reason : IsReason Open reader served.ended
+    pub written_first : status.first.value ≡ visit.writer
+    pub written_last : status.last.value ≡ writer
+    pub write_reason : IsWriteReason WriterOpen status served.ended
 
   -- The session of this visit was run, and one thing more happened at the entrance: it got back what is left of the visit.
   pub record LeftVisit {D : Type 0} (has_seen : D → List (DoorStep I O G) → Type 0) (old_door : D) (visit : Visit I O G)
       (old : PassState) (served : Served) (new : PassState) (new_door : D) : Type 0 where
     pub reader : LimitedReader I
+    pub status : WriterStatus O
     pub writer : O
-    pub left : Sees has_seen old_door (Left reader writer) new_door
-    pub ran : RanVisit visit reader writer old served new
+    pub left : Sees has_seen old_door (Left reader status writer) new_door
+    pub ran : RanVisit visit reader status writer old served new
 
   -- What a session leaves of a visit is what the door demands of it.
-  abbrev pub Satisfies : (Visit I O G → LimitedReader I → O → Type 0) → Type 0
+  abbrev pub Satisfies : (Visit I O G → LimitedReader I → WriterStatus O → O → Type 0) → Type 0
   Satisfies demands =
-      (visit : Visit I O G) (reader : LimitedReader I) (writer : O) (old : PassState) (served : Served) (new : PassState)
-      → RanVisit visit reader writer old served new → demands visit reader writer
+      (visit : Visit I O G) (reader : LimitedReader I) (status : WriterStatus O) (writer : O) (old : PassState)
+      (served : Served) (new : PassState)
+      → RanVisit visit reader status writer old served new → demands visit reader status writer
 
   -- All that happened at an entrance, up to its end, and what became of its visitors. One was turned away, and the
   -- pass did nothing; or one was let in, the session of this visit was run by the pass, and the next that happened was
@@ -111,8 +119,8 @@ module _ {I O G C : Type 0} (terms : Terms I O G C) where
   abbrev pub AreVisits : PassState → List (DoorStep I O G) → List (Option Served) → PassState → Type 0
   AreVisits old [] [] new = new ≡ old
   AreVisits old (TurnedAway ∷ log) (None ∷ visits) new = AreVisits old log visits new
-  AreVisits old (LetIn visit ∷ Left reader writer ∷ log) (Some served ∷ visits) new =
-      (between : PassState) × RanVisit visit reader writer old served between × AreVisits between log visits new
+  AreVisits old (LetIn visit ∷ Left reader status writer ∷ log) (Some served ∷ visits) new =
+      (between : PassState) × RanVisit visit reader status writer old served between × AreVisits between log visits new
   AreVisits _ _ _ _ = ⊥
 
   -- A worker's pass, of the run that begins with this opening and has room for so many calls: it had made no call, had
@@ -130,8 +138,8 @@ module _ {I O G C : Type 0} (terms : Terms I O G C) where
 
   -- The session of this visit was run, and the next that happened at the entrance was that it got back what is left of it.
   abbrev pub IsServed : Visit I O G → List (DoorStep I O G) → Type 0
-  IsServed visit (Left reader writer ∷ later) =
-      (old : PassState) × (new : PassState) × (served : Served) × RanVisit visit reader writer old served new
+  IsServed visit (Left reader status writer ∷ later) =
+      (old : PassState) × (new : PassState) × (served : Served) × RanVisit visit reader status writer old served new
   IsServed visit _ = ⊥
 
   -- each visitor that was let in was served

@@ -1,11 +1,12 @@
 ghost use Rattle.std.specs.Prelude.{ℕ, ◌+◌, List, [], ◌++◌, OnErr, IfNone, IfOk, IfSome};
 ghost use Rattle.rb_protocol.specs.declared.streams.limited_reader.LimitedReader.{LimitedReader};
+ghost use Rattle.rb_protocol.specs.declared.streams.writer_status.WriterStatus.{WriterStatus};
 ghost use Rattle.rb_serving.specs.declared.visit.Visit.{Visit};
 ghost use Rattle.rb_serving.specs.DoorSteps.{DoorStep, Sees, LetIn, TurnedAway, NoMore, Left};
 
 use crate::visit::Visit;
 use rb_blocking::Gate;
-use rb_protocol::LimitedReader;
+use rb_protocol::{LimitedReader, WriterStatus};
 use std::io::{Read, Write};
 use std::sync::Wait;
 use std::time;
@@ -34,7 +35,8 @@ pub trait Door {
 
     ghost has_seen: { Self → List (DoorStep Self.Reader Self.Writer Self.Gate) → Type 0 };
 
-    ghost demands: { Visit Self.Reader Self.Writer Self.Gate → LimitedReader Self.Reader → Self.Writer → Type 0 };
+    ghost demands: { Visit Self.Reader Self.Writer Self.Gate → LimitedReader Self.Reader → WriterStatus Self.Writer
+        → Self.Writer → Type 0 };
 
     ghost is_ready: { Self → Type 0 };
 
@@ -58,11 +60,17 @@ pub trait Door {
         ensures no_more { IfNone result (Sees has_seen self.old NoMore self.new) };
 
     /// Takes back what is left of a visit that it let in, when its session is over: a reader that knows how often it
-    /// was read and what the last read came to, and the writer, to which nothing more is written.
-    fn leave(&mut self, reader: &LimitedReader<'_, Self::Reader>, writer: Self::Writer)
+    /// was read and what the last read came to, what the writer has come to, and the writer, to which nothing more is
+    /// written.
+    fn leave(
+        &mut self,
+        reader: &LimitedReader<'_, Self::Reader>,
+        status: &WriterStatus<Self::Writer>,
+        writer: Self::Writer,
+    )
         requires served { (visit : Visit Self.Reader Self.Writer Self.Gate) × awaits self.old visit
-            × demands visit reader.now writer }
-        ensures seen { Sees has_seen self.old (Left reader.now writer) self.new }
+            × demands visit reader.now status.now writer }
+        ensures seen { Sees has_seen self.old (Left reader.now status.now writer) self.new }
         ensures ready { is_ready self.new };
 
     /// Another entrance of the door, at which nothing happened yet.

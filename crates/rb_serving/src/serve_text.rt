@@ -2,7 +2,7 @@ ghost use Rattle.rb_serving.specs.ServeText.{Prints, listening_text, report_text
 
 use crate::serve_report::ServeReport;
 use rb_ending::{BrokerFault, audit_line};
-use rb_protocol::{LimitedWriter, send_at_once};
+use rb_protocol::{LimitedWriter, WriterStatus, send_at_once};
 use rb_timer::Timer;
 use std::alloc::Global;
 use std::io::Write;
@@ -41,6 +41,7 @@ pub(crate) fn print_report<T: Timer, W: Write>(
 fn print<W: Write>(writer: &mut W, text: &str) -> Result<(), BrokerFault>
     ensures { Prints result (W.contents writer.old) text.now (W.contents writer.new) }
 {
-    let mut writer = LimitedWriter::new(writer);
+    let mut status = WriterStatus::of(&*writer);
+    let mut writer = LimitedWriter::new(writer, &mut status);
     send_at_once(&mut writer, text.as_bytes()).map_err(|_| BrokerFault::Write)
 }

@@ -8,7 +8,7 @@ use crate::tcp_door::{NoMore, TcpDoor, TcpVisit};
 use crate::tcp_gate::TcpGate;
 use crate::tcp_reader::TcpReader;
 use crate::tcp_writer::TcpWriter;
-use rb_protocol::LimitedReader;
+use rb_protocol::{LimitedReader, WriterStatus};
 use std::sync::Wait;
 use std::time;
 
@@ -41,7 +41,7 @@ impl<'a, L: Listener> Door for TcpEntrance<'a, L> {
 
     ghost has_seen = { λ entrance log. All (ShowsStep L.Listener entrance.door.now) log };
 
-    ghost demands = { λ visit reader writer. Unit {0} };
+    ghost demands = { λ visit reader status writer. Unit {0} };
 
     ghost is_ready = { λ entrance. Unit {0} };
 
@@ -62,7 +62,12 @@ impl<'a, L: Listener> Door for TcpEntrance<'a, L> {
         }
     }
 
-    fn leave(&mut self, _reader: &LimitedReader<'_, TcpReader<'a>>, writer: TcpWriter<'a>) {
+    fn leave(
+        &mut self,
+        _reader: &LimitedReader<'_, TcpReader<'a>>,
+        _status: &WriterStatus<TcpWriter<'a>>,
+        writer: TcpWriter<'a>,
+    ) {
         let TcpWriter { stream, patience } = writer;
         self.door.listener.close(stream, patience.is_some());
     }

@@ -12,7 +12,7 @@ use crate::visit::Visit;
 use crate::visit_counts::VisitCounts;
 use rb_blocking::Clock;
 use rb_lock::Pass;
-use rb_protocol::{LimitedReader, LimitedWriter};
+use rb_protocol::{LimitedReader, LimitedWriter, WriterStatus};
 use rb_session::{Ended, SessionFault, run_limited};
 use rb_shared_desk::SharedDesk;
 use rb_timer::Timer;
@@ -86,7 +86,8 @@ pub(crate) fn work<T: Timer, D: Door, C: Clock, V, R: Wait + time::Clock>(
 }
 
 // Serves a visit to its end: one session at a desk of the pass, whose waits the visit's gate may end.
-// The door gets back the reader and the writer, so what was sent went to this writer, and nothing more.
+// The door gets back the reader and the writer, with what the writer has come to, so what was sent went to this writer,
+// and nothing more.
 fn serve_visit<T: Timer, D: Door, C: Clock, V, R: Wait + time::Clock>(
     rt: &R,
     service: &Service<'_, T, C, V>,
@@ -118,7 +119,8 @@ fn serve_visit<T: Timer, D: Door, C: Clock, V, R: Wait + time::Clock>(
         &mut gate,
         service.bell,
     );
-    let outlet = LimitedWriter::new(&mut writer);
+    let mut status = WriterStatus::of(&writer);
+    let outlet = LimitedWriter::new(&mut writer, &mut status);
     let (_, ended) = run_limited(
         service.alloc,
         &mut limited,
@@ -127,6 +129,6 @@ fn serve_visit<T: Timer, D: Door, C: Clock, V, R: Wait + time::Clock>(
         service.policy,
         service.delivery,
     );
-    door.leave(&limited, writer);
+    door.leave(&limited, &status, writer);
     ended
 }

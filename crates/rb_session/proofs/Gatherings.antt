@@ -6,7 +6,8 @@ use Rattle.std.specs.declared.io.Write as Write
 use Rattle.std.specs.Io.KnownBytes.{Appends, append_known}
 use Rattle.rb_protocol.specs.Sending.{Sends}
 use Rattle.rb_protocol.specs.Writes.{FailsNoMore, TellsOf}
-use Rattle.rb_protocol.specs.declared.streams.limited_writer.LimitedWriter.{LimitedWriter}
+use Rattle.rb_protocol.specs.declared.streams.writer_state.WriterState.{WriterState}
+use Rattle.rb_protocol.specs.declared.streams.writer_status.WriterStatus.{WriterStatus}
 use Rattle.rb_protocol.specs.declared.streams.writing.WriteFault.{WriteFault}
 use Rattle.rb_protocol.proofs.WrittenBytes.{writes_same, writes_then}
 use Rattle.rb_session.specs.Growth.{KeepsFront, grows_same, grows_on, all_got}
@@ -58,8 +59,8 @@ is_shared (Some xs) (Some ys) most before gathered passed empty few (more, grown
 }
 
 -- what a writer tells after nothing failed it tells from before
-pub tells_then : {T E W : Type 0} (result : Result T E) (one two three : LimitedWriter W) → FailsNoMore one two
-    → TellsOf result two three → TellsOf result one three
+pub tells_then : {T E W : Type 0} (result : Result T E) (one : WriterState) (two three : WriterStatus W) → FailsNoMore one two
+    → TellsOf result two.state three → TellsOf result one three
 tells_then (Ok done) one two three well told = λ failed. well (told failed)
 tells_then (Err fault) one two three well told = told
 

@@ -21,7 +21,7 @@ module _ {W : Type 0} (writer : Write.Ghosts W) where
 
   -- what its writer tells of what gave this result
   abbrev pub WriterTells : {T E : Type 0} → Result T E → Outlet W writer → Outlet W writer → Type 0
-  WriterTells result old new = TellsOf result old.writer new.writer
+  WriterTells result old new = TellsOf result old.writer.status.now.state new.writer.status.now
 
 -- the rules of a session from this outlet on
 abbrev pub rules_at : {S W : Type 0} → DeskRules S → (writer : Write.Ghosts W) → Outlet W writer → SessionRules S

@@ -2,10 +2,11 @@
 use Rattle.std.specs.Prelude.{◌≡◌, Result, Ok, Err}
 use Rattle.rb_protocol.specs.Reads.{HasNotFailed}
 use Rattle.rb_protocol.specs.Writes.{CannotWrite, FailsNoMore}
-use Rattle.rb_protocol.specs.declared.streams.limited_writer.LimitedWriter.{LimitedWriter}
+use Rattle.rb_protocol.specs.declared.streams.writer_status.WriterStatus.{WriterStatus}
 use Rattle.rb_protocol.specs.declared.streams.limited_reader.LimitedReader.{LimitedReader}
 use Rattle.rb_protocol.specs.declared.streams.reader_state.ReaderState.{ReaderState}
 use Rattle.rb_protocol.specs.declared.streams.reader_state.ReaderState.TheVariants.{AtEnd, Failed}
+use Rattle.rb_protocol.specs.declared.streams.writer_state.WriterState.{WriterState}
 use Rattle.rb_session.specs.declared.ended.Ended.{Ended}
 use Rattle.rb_session.specs.declared.ended.Ended.TheVariants.{Quit, EndOfInput}
 use Rattle.rb_session.specs.declared.session_fault.SessionFault.{SessionFault}
@@ -23,6 +24,6 @@ IsReason old new (Err Memory) = new.state ≡ old
 
 -- A session says that it could not write only where its writer has failed, or has no write left. In one that ends
 -- otherwise no write and no flush failed.
-abbrev pub IsWriteReason : {W : Type 0} → LimitedWriter W → LimitedWriter W → Result Ended SessionFault → Type 0
+abbrev pub IsWriteReason : {W : Type 0} → WriterState → WriterStatus W → Result Ended SessionFault → Type 0
 IsWriteReason old new (Err (Write lost)) = CannotWrite new
 IsWriteReason old new ended = FailsNoMore old new

@@ -15,7 +15,7 @@ use crate::outlet::Outlet;
 use crate::session_fault::SessionFault;
 use crate::session_room::SessionRoom;
 use crate::stop::Stop;
-use rb_protocol::{LimitedReader, LimitedWriter, WriteFault};
+use rb_protocol::{LimitedReader, LimitedWriter, WriteFault, WriterStatus};
 use rb_retry::{Desk, Policy};
 use std::alloc::Global;
 use std::io::{Read, Write};
@@ -43,7 +43,8 @@ pub fn run_session<R: Read, W: Write, D: Desk>(
     ensures name { D.name (D.state desk.new) ≡ D.name (D.state desk.old) }
 {
     let mut reader = LimitedReader::new(reader);
-    let writer = LimitedWriter::new(writer);
+    let mut status = WriterStatus::of(&*writer);
+    let writer = LimitedWriter::new(writer, &mut status);
     let (_, ended) = run_limited(alloc, &mut reader, writer, desk, policy, Delivery::AtOnce);
     ended
 }
@@ -77,7 +78,7 @@ pub fn run_limited<'a, R: Read, W: Write, D: Desk>(
         (IsAtEnd (R.remaining reader.new.inner.now))
         (D.state desk.old) (record { came = came; sent = sent; ended = result.1 }) (D.state desk.new)) }
     ensures reason { IsReason reader.old.state reader.new result.1 }
-    ensures write_reason { IsWriteReason writer.entry result.0 result.1 }
+    ensures write_reason { IsWriteReason writer.entry.status.now.state result.0.status.now result.1 }
     ensures on { WritesOn writer.entry result.0 }
     ensures counted { reader.new.left ≤ reader.old.left }
     ensures same_reference { reader.new.inner.ghost_name ≡ reader.old.inner.ghost_name }
@@ -106,7 +107,7 @@ pub fn run_in<'a, R: Read, W: Write, D: Desk>(
         (D.state desk.old) (record { came = came; sent = sent; ended = result.1 }) (D.state desk.new)) }
     ensures begun { result.1 ≢ Err SessionFault.Memory }
     ensures reason { IsReason reader.old.state reader.new result.1 }
-    ensures write_reason { IsWriteReason writer.entry result.0 result.1 }
+    ensures write_reason { IsWriteReason writer.entry.status.now.state result.0.status.now result.1 }
     ensures on { WritesOn writer.entry result.0 }
     ensures counted { reader.new.left ≤ reader.old.left }
     ensures same_reference { reader.new.inner.ghost_name ≡ reader.old.inner.ghost_name }

@@ -3,69 +3,56 @@ ghost use Rattle.std.specs.Io.{WritesAtMost};
 ghost use Rattle.std.specs.Io.KnownBytes.{WriteAppends, Keeps};
 ghost use Rattle.rb_protocol.specs.Writes.{IsAfterWrite, IsAfterFlush, TellsOf, WritesOn};
 
-use crate::limits::MOST_WRITES;
 use crate::streams::writer_state::WriterState;
+use crate::streams::writer_status::WriterStatus;
 use crate::streams::writing::WriteFault;
 use std::io;
 use std::io::{ErrorKind, Write};
+use std::snapshot::Snapshot;
 
-/// A writer that remembers whether it has failed. Nothing says that interruptions end, so it can be written at most
-/// 2^64 - 1 times.
+/// A writer that notes in a status whether it has failed. Nothing says that interruptions end, so it can be written at
+/// most 2^64 - 1 times.
 #[derive(Drop)]
 pub struct LimitedWriter<'a, W: Write> {
     inner: &'a mut W,
-    // How many more writes may be made.
-    left: u64,
-    state: WriterState,
+    status: &'a mut WriterStatus<W>,
 }
 
 impl<'a, W: Write> LimitedWriter<'a, W> {
-    ghost use Rattle.rb_protocol.specs.declared.limits.TheConstants.{MOST_WRITES};
-
-    /// A writer to `inner` that has not been written yet. It takes no memory.
-    pub fn new(inner: &'a mut W) -> LimitedWriter<'a, W>
+    /// A writer to `inner`, which notes what this comes to in `status`. It takes no memory.
+    pub fn new(inner: &'a mut W, status: &'a mut WriterStatus<W>) -> LimitedWriter<'a, W>
         ensures same_reference { result.inner.ghost_name ≡ inner.entry.ghost_name }
         ensures same { result.inner.now ≡ inner.old }
-        ensures all_left { result.left ≡ MOST_WRITES }
-        ensures open { result.state ≡ WriterState.Open }
+        ensures same_status { result.status.ghost_name ≡ status.entry.ghost_name }
+        ensures status { result.status.now ≡ status.old }
     {
-        LimitedWriter {
-            inner,
-            left: MOST_WRITES,
-            state: WriterState::Open,
-        }
-    }
-
-    /// Whether it has failed.
-    pub fn state(&self) -> WriterState
-        ensures { result ≡ self.now.state }
-    {
-        self.state
+        LimitedWriter { inner, status }
     }
 
     // Whether one more write may be made.
     pub(crate) fn may_write(&self) -> bool
-        ensures { IsTrue result ↔ (0 < self.now.left) }
+        ensures { IsTrue result ↔ (0 < self.now.status.now.left) }
     {
-        self.left > 0
+        self.status.left > 0
     }
 
     // Writes some bytes once to the inner writer, whose errors it returns, and counts the write.
     pub(crate) fn write(&mut self, buf: &[u8]) -> io::Result<usize>
-        requires left { 0 < self.old.left }
+        requires left { 0 < self.old.status.now.left }
         requires some { 0 < length buf.now }
         ensures bound { WritesAtMost result buf.now }
         ensures bytes { WriteAppends (W.contents self.old.inner.now) (W.contents self.new.inner.now) result buf.now }
-        ensures counted { self.new.left + 1 ≡ self.old.left }
-        ensures state { IsAfterWrite self.old.state result self.new.state }
-        ensures same_reference { self.new.inner.ghost_name ≡ self.old.inner.ghost_name }
+        ensures counted { self.new.status.now.left + 1 ≡ self.old.status.now.left }
+        ensures state { IsAfterWrite self.old.status.now.state result self.new.status.now.state }
+        ensures on { WritesOn self.old self.new }
     {
-        self.left -= 1;
+        self.status.left -= 1;
         let written = self.inner.write(buf);
+        self.status.last = Snapshot::of(&*self.inner);
         match &written {
-            Ok(0) => self.state = WriterState::Failed,
+            Ok(0) => self.status.state = WriterState::Failed,
             Err(fault) if fault.kind() != ErrorKind::Interrupted => {
-                self.state = WriterState::Failed;
+                self.status.state = WriterState::Failed;
             }
             _ => {}
         }
@@ -75,14 +62,16 @@ impl<'a, W: Write> LimitedWriter<'a, W> {
     /// Flushes the inner writer, which hands on what it has got. `Err` means that it could not.
     pub fn flush(&mut self) -> Result<(), WriteFault>
         ensures kept { Keeps (W.contents self.old.inner.now) (W.contents self.new.inner.now) }
-        ensures state { IsAfterFlush self.old.state result self.new.state }
-        ensures told { TellsOf result self.old self.new }
+        ensures state { IsAfterFlush self.old.status.now.state result self.new.status.now.state }
+        ensures told { TellsOf result self.old.status.now.state self.new.status.now }
         ensures on { WritesOn self.old self.new }
     {
-        match self.inner.flush() {
+        let flushed = self.inner.flush();
+        self.status.last = Snapshot::of(&*self.inner);
+        match flushed {
             Ok(()) => Ok(()),
             Err(_) => {
-                self.state = WriterState::Failed;
+                self.status.state = WriterState::Failed;
                 Err(WriteFault)
             }
         }

@@ -12,7 +12,7 @@ use std::io::Write;
 /// line, perhaps none.
 pub fn send_line<W: Write>(writer: &mut LimitedWriter<'_, W>, line: &[u8]) -> Result<(), WriteFault>
     ensures sent { Sends result (W.contents writer.old.inner.now) line.now (W.contents writer.new.inner.now) }
-    ensures told { TellsOf result writer.old writer.new }
+    ensures told { TellsOf result writer.old.status.now.state writer.new.status.now }
     ensures on { WritesOn writer.old writer.new }
 {
     if write_out(writer, line) < line.len() {
@@ -28,7 +28,7 @@ pub fn send_at_once<W: Write>(
     line: &[u8],
 ) -> Result<(), WriteFault>
     ensures sent { Sends result (W.contents writer.old.inner.now) line.now (W.contents writer.new.inner.now) }
-    ensures told { TellsOf result writer.old writer.new }
+    ensures told { TellsOf result writer.old.status.now.state writer.new.status.now }
     ensures on { WritesOn writer.old writer.new }
 {
     send_line(writer, line)?;

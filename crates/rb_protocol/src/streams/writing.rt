@@ -17,8 +17,8 @@ pub struct WriteFault;
 pub fn write_out<W: Write>(writer: &mut LimitedWriter<'_, W>, bytes: &[u8]) -> usize
     ensures within { result ≤ length bytes.now }
     ensures taken { Appends (W.contents writer.old.inner.now) (W.contents writer.new.inner.now) (take result bytes.now) }
-    ensures reason { result < length bytes.now → CannotWrite writer.new }
-    ensures well { result ≡ length bytes.now → FailsNoMore writer.old writer.new }
+    ensures reason { result < length bytes.now → CannotWrite writer.new.status.now }
+    ensures well { result ≡ length bytes.now → FailsNoMore writer.old.status.now.state writer.new.status.now }
     ensures on { WritesOn writer.old writer.new }
 {
     let mut taken = 0;

@@ -1,5 +1,5 @@
 use rb_history::{HistoryRoom, write_history_in};
-use rb_protocol::{LimitedWriter, WriteFault};
+use rb_protocol::{LimitedWriter, WriteFault, WriterStatus};
 use rb_queue::{Event, Opening};
 use rb_replay::{HistoryFault, TextFault, TextReason, write_history};
 use std::alloc::Global;
@@ -117,7 +117,9 @@ pub fn write_in<W: Write>(
     device: &mut W,
 ) -> Result<(), WriteFault> {
     assert!(rt; events.len() <= 1_000_000);
-    let (_, written) = write_history_in(room, opening, events, LimitedWriter::new(device));
+    let mut status = WriterStatus::of(&*device);
+    let writer = LimitedWriter::new(device, &mut status);
+    let (_, written) = write_history_in(room, opening, events, writer);
     written
 }
 

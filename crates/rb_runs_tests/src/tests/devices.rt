@@ -2,10 +2,10 @@ ghost use Rattle.std.specs.Prelude.{◌≤◌, length, IfOk};
 
 use rb_ending::BrokerFault;
 use rb_options::{ScriptOptions, TimerKind};
-use rb_protocol::{LimitedReader, LimitedWriter};
+use rb_protocol::{LimitedReader, LimitedWriter, WriterStatus};
 use rb_queue::Opening;
 use rb_retry::Policy;
-use rb_runs::{run_script, run_script_delivered};
+use rb_runs::{ScriptReport, run_script, run_script_delivered};
 use rb_session::{Delivery, Ended, HandsOn};
 use std::alloc::Global;
 use std::cell::Cell;
@@ -341,6 +341,29 @@ pub fn ran(
     recorded(rt, alloc, way, calls, source, sink, &mut nothing)
 }
 
+/// Runs a script by `run_script_delivered`.
+pub fn delivered<R: Read, W: Write, H: Write>(
+    alloc: Global,
+    options: &ScriptOptions,
+    delivery: Delivery,
+    opening: Opening,
+    source: &mut R,
+    sink: &mut W,
+    history: Option<&mut H>,
+) -> ScriptReport {
+    let mut status = WriterStatus::of(&*sink);
+    let (_, report) = run_script_delivered(
+        alloc,
+        options,
+        delivery,
+        opening,
+        &mut LimitedReader::new(source),
+        LimitedWriter::new(sink, &mut status),
+        history,
+    );
+    report
+}
+
 /// Runs a script from the empty opening, by `run_script` or `run_script_delivered`. Writes its history
 /// if there is a device for it.
 pub fn recorded(
@@ -359,18 +382,16 @@ pub fn recorded(
     let history = history.as_mut();
     let ended = match delivery {
         Delivery::AtOnce => run_script(alloc, &options, opening, &mut source, &mut sink, history),
-        gathered => {
-            let (_, report) = run_script_delivered(
-                alloc,
-                &options,
-                gathered,
-                opening,
-                &mut LimitedReader::new(&mut source),
-                LimitedWriter::new(&mut sink),
-                history,
-            );
-            report.result()
-        }
+        gathered => delivered(
+            alloc,
+            &options,
+            gathered,
+            opening,
+            &mut source,
+            &mut sink,
+            history,
+        )
+        .result(),
     };
     Outcome {
         ended,

@@ -5,11 +5,12 @@ use crate::tests::devices::{
 use rb_binary::BinaryTimer;
 use rb_ending::BrokerFault;
 use rb_kept::Kept;
-use rb_protocol::{LimitedReader, LimitedWriter};
-use rb_retry::{KeptDesk, Policy};
+use rb_protocol::{LimitedReader, LimitedWriter, WriterStatus};
+use rb_retry::{Desk, KeptDesk, Policy};
 use rb_session::{Delivery, Ended, HandsOn, SessionFault, run_limited};
 use std::alloc::{AllocError, Global};
 use std::cell::Cell;
+use std::io::{Read, Write};
 use std::process::Abort;
 use std::test::Fail;
 
@@ -134,6 +135,21 @@ struct Cut {
     left: u64,
 }
 
+fn session_of<R: Read, W: Write, D: Desk>(
+    alloc: Global,
+    source: &mut R,
+    sink: &mut W,
+    desk: &mut D,
+    policy: &Policy,
+    delivery: Delivery,
+) -> Result<Ended, SessionFault> {
+    let mut reader = LimitedReader::new(source);
+    let mut status = WriterStatus::of(&*sink);
+    let outlet = LimitedWriter::new(sink, &mut status);
+    let (_, ended) = run_limited(alloc, &mut reader, outlet, desk, policy, delivery);
+    ended
+}
+
 fn cut_off(rt: &impl Abort, alloc: Global, script: &[u8], hands_on: HandsOn) -> Result<Cut, Fail> {
     let policy = Policy::fixed(1_000, 3).expect(rt, "a policy");
     let (mut kept, mut tally) = Kept::<BinaryTimer>::new(alloc, 100)?;
@@ -141,9 +157,7 @@ fn cut_off(rt: &impl Abort, alloc: Global, script: &[u8], hands_on: HandsOn) -> 
     let mut source = Source::of(script, usize::MAX);
     let mut sink = Sink::bounded(alloc, 5, true);
     let delivery = Delivery::Gathered(hands_on);
-    let mut reader = LimitedReader::new(&mut source);
-    let outlet = LimitedWriter::new(&mut sink);
-    let (_, ended) = run_limited(alloc, &mut reader, outlet, &mut desk, &policy, delivery);
+    let ended = session_of(alloc, &mut source, &mut sink, &mut desk, &policy, delivery);
     Ok(Cut {
         ended,
         bytes: sink.bytes,

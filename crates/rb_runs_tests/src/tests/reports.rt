@@ -1,11 +1,10 @@
 // What a run reports of its session and of its history, each by itself.
 
-use crate::tests::devices::{End, Fault, Sink, Source, expect, expect_bytes, options};
+use crate::tests::devices::{End, Fault, Sink, Source, delivered, expect, expect_bytes, options};
 use rb_history::HistoryFault;
 use rb_options::TimerKind;
-use rb_protocol::{LimitedReader, LimitedWriter};
 use rb_queue::Opening;
-use rb_runs::{Recording, ScriptReport, run_script_delivered};
+use rb_runs::{Recording, ScriptReport};
 use rb_session::{Delivery, Ended, HandsOn, SessionFault};
 use std::alloc::Global;
 use std::process::Abort;
@@ -27,16 +26,15 @@ fn reported(
     device: &mut Option<Sink<'static>>,
 ) -> ScriptReport {
     let (mut source, mut sink) = (Source::ending(REQUESTS, end), Sink::new(alloc));
-    let (_, report) = run_script_delivered(
+    delivered(
         alloc,
         &options(rt, TimerKind::Heap, 10),
         Delivery::Gathered(HandsOn::BeforeReads),
         Opening::empty(alloc),
-        &mut LimitedReader::new(&mut source),
-        LimitedWriter::new(&mut sink),
+        &mut source,
+        &mut sink,
         device.as_mut(),
-    );
-    report
+    )
 }
 
 fn expect_report(

@@ -206,7 +206,7 @@ impl<'a, R: Wait + time::Clock + Sync> Door for PlannedDoor<'a, R> {
 
     ghost has_seen = { λ door log. Unit {0} };
 
-    ghost demands = { λ visit reader writer. Unit {0} };
+    ghost demands = { λ visit reader status writer. Unit {0} };
 
     ghost is_ready = { λ door. Unit {0} };
 
@@ -235,7 +235,12 @@ impl<'a, R: Wait + time::Clock + Sync> Door for PlannedDoor<'a, R> {
         }))
     }
 
-    fn leave(&mut self, _reader: &LimitedReader<'_, Sender<'a, R>>, _writer: Receiver<'a, R>) {}
+    fn leave(
+        &mut self,
+        _reader: &LimitedReader<'_, Sender<'a, R>>,
+        _status: &WriterStatus<Receiver<'a, R>>,
+        _writer: Receiver<'a, R>,
+    ) {}
 
     fn split(&mut self) -> PlannedDoor<'a, R> {
         PlannedDoor {

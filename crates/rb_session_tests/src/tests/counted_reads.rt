@@ -4,7 +4,7 @@ use crate::tests::devices::{
 use rb_binary::BinaryTimer;
 use rb_kept::Kept;
 use rb_ledger::Tally;
-use rb_protocol::{LimitedReader, LimitedWriter, ReaderState, WriterState};
+use rb_protocol::{LimitedReader, LimitedWriter, ReaderState, WriterState, WriterStatus};
 use rb_retry::{KeptDesk, Policy};
 use rb_session::{Delivery, Ended, SessionFault, run_limited};
 use std::alloc::Global;
@@ -26,9 +26,10 @@ fn expect_reads(rt: &impl Abort, alloc: Global, desk: &mut KeptDesk<'_, BinaryTi
     let (mut script, mut writer) = (b"AT 7\n".as_slice(), Vec::new(alloc));
     let mut reader = LimitedReader::new(&mut script);
     let delivery = Delivery::AtOnce;
-    let outlet = LimitedWriter::new(&mut writer);
-    let (outlet, ended) = run_limited(alloc, &mut reader, outlet, desk, &policy, delivery);
-    let (leaves_some, state, written) = (reader.may_read(), reader.state(), outlet.state());
+    let mut status = WriterStatus::of(&writer);
+    let outlet = LimitedWriter::new(&mut writer, &mut status);
+    let (_, ended) = run_limited(alloc, &mut reader, outlet, desk, &policy, delivery);
+    let (leaves_some, state, written) = (reader.may_read(), reader.state(), status.state());
     expect_end(rt, ended, Ok(Ended::EndOfInput { lost: 0 }), 0);
     expect_bytes(rt, &writer, b"NOW 7\n", 0);
     expect(rt, leaves_some);
@@ -49,10 +50,11 @@ fn expect_failed(rt: &impl Abort, alloc: Global, desk: &mut KeptDesk<'_, BinaryT
     let policy = Policy::fixed(1_000, 3).expect(rt, "a policy");
     let (mut script, mut writer) = (b"AT 7\n".as_slice(), Sheet::new(alloc, 0));
     let mut reader = LimitedReader::new(&mut script);
-    let outlet = LimitedWriter::new(&mut writer);
+    let mut status = WriterStatus::of(&writer);
+    let outlet = LimitedWriter::new(&mut writer, &mut status);
     let delivery = Delivery::AtOnce;
-    let (outlet, ended) = run_limited(alloc, &mut reader, outlet, desk, &policy, delivery);
-    let written = outlet.state();
+    let (_, ended) = run_limited(alloc, &mut reader, outlet, desk, &policy, delivery);
+    let written = status.state();
     expect_end(rt, ended, Err(SessionFault::Write { lost: 0 }), 0);
     expect(rt, written == WriterState::Failed);
 }

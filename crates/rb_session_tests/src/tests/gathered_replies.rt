@@ -1,6 +1,6 @@
 use crate::tests::devices::{Slip, expect_bytes, expect_end, with_kept};
 use rb_binary::BinaryTimer;
-use rb_protocol::{LimitedReader, LimitedWriter};
+use rb_protocol::{LimitedReader, LimitedWriter, WriterStatus};
 use rb_retry::{KeptDesk, Policy};
 use rb_session::{Delivery, Ended, HandsOn, SessionFault, run_limited};
 use std::alloc::{AllocError, Global};
@@ -35,7 +35,8 @@ fn slipped_at(
     let (mut reader, mut writer) = (script, Slip { bytes });
     let mut reader = LimitedReader::new(&mut reader);
     let delivery = Delivery::Gathered(HandsOn::BeforeReads);
-    let outlet = LimitedWriter::new(&mut writer);
+    let mut status = WriterStatus::of(&writer);
+    let outlet = LimitedWriter::new(&mut writer, &mut status);
     let (_, ended) = run_limited(alloc, &mut reader, outlet, desk, policy, delivery);
     (ended, writer.bytes)
 }

@@ -12,7 +12,7 @@ returns-in-Err-clause-writes g c =
     let written = c.write_history_in-written in
     let part = subst (λ (got : Option (List ℕ)). Writes {X = Unit {0}} (Err Write) got
     (history_text c.args.opening.now c.args.events.now) (g.W.Write.contents written.result.0.inner.now))
-    (ap g.W.Write.contents c.new-2.ensures.same)
+    (ap g.W.Write.contents c.new-writer.ensures.same)
     (writes_part written.result.1 _ _ _ (ap is_err c.in-Err.is) written.ensures.writes) in
-    let name = sym (written.ensures.on.same_reference ∙ c.new-2.ensures.same_reference) in
+    let name = sym (written.ensures.on.same_reference ∙ c.new-writer.ensures.same_reference) in
     search rules

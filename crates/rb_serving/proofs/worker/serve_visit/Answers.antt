@@ -1,8 +1,15 @@
 -- The session ran at a new desk over the worker's pass, which has seen what the desk did, and the door got back the rest.
-use Rattle.std.proofs.Common.{rules, ◌≡◌, ◌∙◌, sym, ap, subst, ℕ, length, refl, List, Option}
+use Rattle.std.proofs.Common.{rules, ◌≡◌, ◌∙◌, sym, ap, subst, ℕ, length, refl, List, Option, Result}
 use Rattle.std.specs.Io.KnownBytes.{Appends, Consumes}
 use Rattle.rb_protocol.specs.declared.streams.reader_state.ReaderState.{ReaderState}
-use Rattle.rb_session.specs.Reasons.{IsReason}
+use Rattle.rb_protocol.specs.Writes.{WritesOn}
+use Rattle.rb_protocol.specs.declared.streams.limited_writer.LimitedWriter.{LimitedWriter}
+use Rattle.rb_protocol.specs.declared.streams.writer_state.WriterState.{WriterState}
+use Rattle.rb_protocol.specs.declared.streams.writer_state.WriterState.TheVariants.{Open}
+use Rattle.rb_protocol.specs.declared.streams.writer_status.WriterStatus.{WriterStatus}
+use Rattle.rb_session.specs.Reasons.{IsReason, IsWriteReason}
+use Rattle.rb_session.specs.declared.ended.Ended.{Ended}
+use Rattle.rb_session.specs.declared.session_fault.SessionFault.{SessionFault}
 use Rattle.rb_shared_desk.specs.SharedSteps.{SharedState, name_of}
 use Rattle.rb_session.specs.Served.{Served}
 use Rattle.rb_serving.specs.Visits.{IsDeskOf}
@@ -20,14 +27,44 @@ is_desk {C} {G} clock gate reference pass desk is = record {
   before = ap (λ (desk : SharedState C G). desk.before) is;
 }
 
+same_first : {O : Type 0} (one other : WriterStatus O) → one.first ≡ other.first → one.first.value ≡ other.first.value
+same_first one other same i = (same i).value
+
+-- What is lent to a session that writes to a writer is the status of what became of this writer.
+module _ {O : Type 0} (begun ended : LimitedWriter O) (made status : WriterStatus O) (first last : O)
+    (on : WritesOn begun ended) (lends : begun.status.now ≡ made) (writes : begun.inner.now ≡ first)
+    (status_is : ended.status.now ≡ status) (last_is : ended.inner.now ≡ last) where
+  of_first : made.first.value ≡ first → status.first.value ≡ first
+  of_first is =
+      ap (λ (s : WriterStatus O). s.first.value) (sym status_is) ∙ same_first ended.status.now begun.status.now on.first
+      ∙ ap (λ (s : WriterStatus O). s.first.value) lends ∙ is
+
+  of_last : made.last.value ≡ first → status.last.value ≡ last
+  of_last is =
+      ap (λ (s : WriterStatus O). s.last.value) (sym status_is)
+      ∙ on.last (ap (λ (s : WriterStatus O). s.last.value) lends ∙ is ∙ sym writes) ∙ last_is
+
+  tells : (result : Result Ended SessionFault) → made.state ≡ Open
+      → IsWriteReason begun.status.now.state ended.status.now result → IsWriteReason Open status result
+  tells result unfailed reason =
+      subst (λ (state : WriterState). IsWriteReason state status result)
+      (ap (λ (s : WriterStatus O). s.state) lends ∙ unfailed)
+      (subst (λ (s : WriterStatus O). IsWriteReason begun.status.now.state s result) status_is reason)
+
 pub returns-clause-ran : goal.returns-clause-ran
 returns-clause-ran g c =
     let limited = c.new-limited.ensures in
     let session = c.run_limited-ended in
     let outlet = c.new-outlet.ensures in
+    let made = c.of-status.ensures in
+    let on = session.ensures.on in
     let desk_name = session.ensures.name ∙ ap name_of c.new-desk.ensures.state in
-    let name = sym (session.ensures.on.same_reference ∙ outlet.same_reference) in
-    let same : session.result.0.inner.now ≡ c.writer-2-1.given.0 = sym (search (rules, name)) in
+    let name = sym (on.same_reference ∙ outlet.same_reference) in
+    let status_name = sym (on.same_status ∙ outlet.same_status) in
+    let writer = c.writer-3-1.given.0 in
+    let status = c.status-2-1.given.0 in
+    let same : session.result.0.inner.now ≡ writer = sym (search (rules, name)) in
+    let same_status : session.result.0.status.now ≡ status = sym (search (rules, status_name)) in
     let ran = rw (ap g.D.Writer.Write.contents outlet.same) at session.ensures.ran in
     let visit = c.args.visit in
     let served : Served = record { came = ran.came; sent = ran.sent; ended = session.result.1 } in (
@@ -35,7 +72,8 @@ returns-clause-ran g c =
       refl,
       record {
         reader = session.new.reader;
-        writer = c.writer-2-1.given.0;
+        status = status;
+        writer = writer;
         left = c.leave.ensures.seen;
         ran = record {
           table = c.requires.pass;
@@ -50,6 +88,12 @@ returns-clause-ran g c =
           seen = search (rules, desk_name);
           reason = subst (λ (state : ReaderState). IsReason state session.new.reader session.result.1) limited.unread
               session.ensures.reason;
+          written_first = of_first c.new-outlet.result session.result.0 c.of-status.result status visit.writer writer on
+              outlet.status outlet.same same_status same made.first;
+          written_last = of_last c.new-outlet.result session.result.0 c.of-status.result status visit.writer writer on
+              outlet.status outlet.same same_status same made.last;
+          write_reason = tells c.new-outlet.result session.result.0 c.of-status.result status visit.writer writer on
+              outlet.status outlet.same same_status same session.result.1 made.«open» session.ensures.write_reason;
         };
       },
     )
@@ -59,15 +103,21 @@ leave-requires g c =
     let limited = c.new-limited.ensures in
     let session = c.run_limited-ended in
     let outlet = c.new-outlet.ensures in
-    let name = sym (session.ensures.on.same_reference ∙ outlet.same_reference) in
-    let same : session.result.0.inner.now ≡ c.writer-2-1.given.0 = sym (search (rules, name)) in
+    let made = c.of-status.ensures in
+    let on = session.ensures.on in
+    let name = sym (on.same_reference ∙ outlet.same_reference) in
+    let status_name = sym (on.same_status ∙ outlet.same_status) in
+    let writer = c.writer-3-1.given.0 in
+    let status = c.status-2-1.given.0 in
+    let same : session.result.0.inner.now ≡ writer = sym (search (rules, name)) in
+    let same_status : session.result.0.status.now ≡ status = sym (search (rules, status_name)) in
     let ran = rw (ap g.D.Writer.Write.contents outlet.same) at session.ensures.ran in
     let visit = c.args.visit in
     let served : Served = record { came = ran.came; sent = ran.sent; ended = session.result.1 } in record {
       served = (
         visit,
         c.requires.awaited,
-        c.requires.honest visit session.new.reader c.writer-2-1.given.0 c.args.pass.now served _ (record {
+        c.requires.honest visit session.new.reader status writer c.args.pass.now served _ (record {
           table = c.requires.pass;
           consumed = subst (λ (first : Option (List ℕ)). Consumes first (g.D.Reader.Read.remaining session.new.reader.inner.now) ran.came)
               (ap g.D.Reader.Read.remaining limited.same) ran.consumed;
@@ -80,6 +130,12 @@ leave-requires g c =
           seen = refl;
           reason = subst (λ (state : ReaderState). IsReason state session.new.reader session.result.1) limited.unread
               session.ensures.reason;
+          written_first = of_first c.new-outlet.result session.result.0 c.of-status.result status visit.writer writer on
+              outlet.status outlet.same same_status same made.first;
+          written_last = of_last c.new-outlet.result session.result.0 c.of-status.result status visit.writer writer on
+              outlet.status outlet.same same_status same made.last;
+          write_reason = tells c.new-outlet.result session.result.0 c.of-status.result status visit.writer writer on
+              outlet.status outlet.same same_status same session.result.1 made.«open» session.ensures.write_reason;
         }),
       );
     }

@@ -41,10 +41,10 @@ loop-preserved g c = record {
             let left = ran.2 in
             rw (w.pass-is, w.door-is)
             (works_more terms g.D.Door.has_seen c.loop.door done.new.door c.args.pass c.loop.pass done.new.pass
-            c.loop.counts c.match-this.visit c.with-counts.result (LetIn _ ∷ Left left.reader left.writer ∷ [])
+            c.loop.counts c.match-this.visit c.with-counts.result (LetIn _ ∷ Left left.reader left.status left.writer ∷ [])
             (Some ran.0) before
             (seen_both terms g.D.Door.has_seen c.loop.door c.next-in-loop.new.self done.new.door (LetIn _)
-            (Left left.reader left.writer) (let lets = c.next-in-loop.ensures.let_in in search rules) left.left)
+            (Left left.reader left.status left.writer) (let lets = c.next-in-loop.ensures.let_in in search rules) left.left)
             (done.new.pass, left.ran, refl)
             (w.visit-is ∙ w.of_session-visit.ensures ∙ ap ended_visit (sym ran.1)) c.with-counts.ensures)
       ];

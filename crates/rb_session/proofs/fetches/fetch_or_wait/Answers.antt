@@ -1,5 +1,5 @@
 -- One try that answers is a call, and a call after one that did not is a call from before it.
-use Rattle.std.proofs.Common.{ℕ, sym, subst, List}
+use Rattle.std.proofs.Common.{sym, subst, List}
 use Rattle.rb_retry.specs.Jobs.{answer_with}
 use Rattle.rb_retry.specs.Made.{Made}
 use Rattle.rb_session.specs.Held.{AreGiven}

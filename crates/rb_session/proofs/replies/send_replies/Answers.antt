@@ -175,9 +175,9 @@ returns-clause-becomes g c = elim c.match-reply.branch [
 pub returns-clause-told : goal.returns-clause-told
 returns-clause-told g c = elim c.match-reply.branch [
   | in-Drained+else-loop-job-test w ↦
-      tells_then c.after_replies.result c.args.outlet.now.writer c.match-reply.outlet.writer
-      c.after_replies.new.self.writer (rw w.outlet-is w.loop-job.invariant.well) c.after_replies.ensures.told
+      tells_then c.after_replies.result c.args.outlet.now.writer.status.now.state c.match-reply.outlet.writer.status.now
+      c.after_replies.new.self.writer.status.now (rw w.outlet-is w.loop-job.invariant.well) c.after_replies.ensures.told
   | in_default w ↦
-      tells_then c.after_replies.result c.args.outlet.now.writer c.match-reply.outlet.writer
-      c.after_replies.new.self.writer (rw w.outlet-is c.in_ok-send.ensures.told) c.after_replies.ensures.told
+      tells_then c.after_replies.result c.args.outlet.now.writer.status.now.state c.match-reply.outlet.writer.status.now
+      c.after_replies.new.self.writer.status.now (rw w.outlet-is c.in_ok-send.ensures.told) c.after_replies.ensures.told
 ]

@@ -13,6 +13,6 @@ abbrev pub invariant-loop-job : goal.invariant-loop-job
 invariant-loop-job g l = record {
   sent : Appends (sent_to g.W.Write l.fn.outlet) (sent_to g.W.Write l.outlet)
       (text_of l.reply ++ texts_of (map lines.Item (present (take l.job-index l.job-items))));
-  well : FailsNoMore l.fn.outlet.writer l.outlet.writer;
+  well : FailsNoMore l.fn.outlet.writer.status.now.state l.outlet.writer.status.now;
   becomes : Becomes g.W.Write l.fn.outlet l.outlet;
 }

@@ -4,7 +4,7 @@ use Rattle.std.specs.Prelude.{IsErrAnd}
 use Rattle.std.specs.declared.io.Error.{Error}
 use Rattle.rb_protocol.specs.declared.streams.writer_state.WriterState.{WriterState}
 use Rattle.rb_protocol.specs.declared.streams.writer_state.WriterState.TheVariants.{Failed}
-use Rattle.rb_protocol.proofs.WrittenBytes.{appends_more}
+use Rattle.rb_protocol.proofs.WrittenBytes.{appends_more, writes_then}
 use Rattle.rb_protocol.proofs.streams.writing.write_out.Goals as goal
 
 -- a write that took some bytes did not fail
@@ -22,9 +22,6 @@ loop-taken-preserved-in-Ok g c =
         within = omega (arith, c.in-Ok.ensures.bound, before.got.within, length-take (length c.args.bytes.now - c.loop-taken.taken) (drop c.loop-taken.taken c.args.bytes.now), length-drop c.loop-taken.taken c.args.bytes.now);
         written = appends_more _ _ _ _ _ c.in-Ok.count before.got.written c.in-Ok.ensures.bytes;
       };
-      well = λ failed. before.well (had_failed c.loop-taken.writer.state c.in-Ok.count c.write.result _ c.in-Ok.is c.in-Ok.count-test.1 (c.write.ensures.state.0 failed));
-      on = record {
-        same_reference = c.write.ensures.same_reference ∙ before.on.same_reference;
-        counted = omega (arith, c.write.ensures.counted, before.on.counted);
-      };
+      well = λ failed. before.well (had_failed c.loop-taken.writer.status.now.state c.in-Ok.count c.write.result _ c.in-Ok.is c.in-Ok.count-test.1 (c.write.ensures.state.0 failed));
+      on = writes_then before.on c.write.ensures.on;
     }

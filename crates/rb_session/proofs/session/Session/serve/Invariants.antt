@@ -21,7 +21,7 @@ invariant-loop-reading g l = record {
   counted : l.reader.left ≤ l.fn.reader.left;
   still : HasNotFailed l.fn.reader.state l.reader.state;
   same_reference : l.reader.inner.ghost_name ≡ l.fn.reader.inner.ghost_name;
-  well : FailsNoMore l.fn.outlet.writer l.outlet.writer;
+  well : FailsNoMore l.fn.outlet.writer.status.now.state l.outlet.writer.status.now;
   becomes : Becomes g.W.Write l.fn.outlet l.outlet;
 }
 
