@@ -16,6 +16,7 @@ mod machine_clock;
 mod many_threads;
 mod memory_refusals;
 mod names;
+mod notes;
 mod rung_offers;
 mod spared_turns;
 mod takers;

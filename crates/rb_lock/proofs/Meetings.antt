@@ -9,7 +9,7 @@ use Rattle.rb_queue.specs.declared.opening.Opening.{Opening}
 use Rattle.rb_lock.specs.Passes.{PassState}
 use Rattle.rb_lock.specs.Views.{idle, pass_of, holders, total, rested, note_of, nobody, longer, meeting}
 use Rattle.rb_lock.specs.Rule.{Locked, IsFree, IsHeld}
-use Rattle.rb_lock.specs.LockSteps.{LockSeat, AtRest, learned}
+use Rattle.rb_lock.specs.LockSteps.{LockSeat, AtRest, IsNote, learned}
 use Rattle.atomic_table.specs.Seated.{TableId}
 use Rattle.rb_lock.specs.declared.stage.Stage.TheVariants.{Meets}
 use Rattle.rb_lock.specs.declared.view.View.{View}
@@ -128,26 +128,40 @@ compares {T} slots id pass other room start s law many at small =
       ),
     )
 
--- The same at seats that are at rest.
-module _ {T : Type 0} (table table' : TableId) (seat other : LockSeat T) (rest : AtRest table seat) (rest' : AtRest table' other) where
-  pub notes_at : (id : ℕ) → Splits (Locked {T = T}) id other.0 other.0 (note_of other.0)
-  notes_at id = subst (λ (m : LockSeat T). Splits (Locked {T = T}) id m.0 m.0 (note_of m.0)) (sym rest') (notes id (pass_of table' other.0))
+-- The same at a seat that is at rest, and a note.
+module _ {T : Type 0} (table : TableId) (seat : LockSeat T) (rest : AtRest table seat) where
+  pub notes_at : (id : ℕ) → Splits (Locked {T = T}) id seat.0 seat.0 (note_of seat.0)
+  notes_at id = subst (λ (m : LockSeat T). Splits (Locked {T = T}) id m.0 m.0 (note_of m.0)) (sym rest) (notes id (pass_of table seat.0))
 
-  module _ (note : LockSeat T) (noted : note ≡ (note_of other.0, [])) where
-    note_is : note ≡ (note_of (idle (pass_of table' other.0)), [])
-    note_is = noted ∙ ap (λ (m : LockSeat T). (note_of m.0, [])) rest'
-
+  module _ (note : LockSeat T) (noted : IsNote note) where
     pub meets_at : (id of_note : ℕ) → Joins (Locked {T = T}) id seat.0 of_note note.0 (meeting seat.0 note.0) nobody
     meets_at id of_note =
         subst (λ (m : LockSeat T). Joins (Locked {T = T}) id m.0 of_note note.0 (meeting m.0 note.0) nobody) (sym rest)
-        (subst (λ (m : LockSeat T). Joins (Locked {T = T}) id (idle (pass_of table seat.0)) of_note m.0 (meeting (idle (pass_of table seat.0)) m.0) nobody) (sym note_is)
-        (meets id of_note (pass_of table seat.0) (pass_of table' other.0)))
+        (subst (λ (m : LockSeat T). Joins (Locked {T = T}) id (idle (pass_of table seat.0)) of_note m.0 (meeting (idle (pass_of table seat.0)) m.0) nobody) (sym noted.is)
+        (meets id of_note (pass_of table seat.0) noted.pass))
 
     pub compares_at : (slots id : ℕ) (seat2 : LockSeat T) → seat2 ≡ (meeting seat.0 note.0, seat.1)
         → Allows (Locked {T = T}) slots id seat2 0 (λ n. n) (learned {T = T} (step 0 0 0 0 none) seat2)
     compares_at slots id seat2 met =
         let one : PassState = pass_of table seat.0 in
-        let two : PassState = pass_of table' other.0 in
-        let is : seat2 ≡ (comparing one two.seen two.capacity two.opening, []) = met ∙ (λ i. (meeting (rest i).0 (note_is i).0, (rest i).1)) in
+        let two : PassState = noted.pass in
+        let is : seat2 ≡ (comparing one two.seen two.capacity two.opening, []) = met ∙ (λ i. (meeting (rest i).0 (noted.is i).0, (rest i).1)) in
         subst (λ (m : LockSeat T). Allows (Locked {T = T}) slots id m 0 (λ n. n) (learned {T = T} (step 0 0 0 0 none) m)) (sym is)
         (compares slots id one two.seen two.capacity two.opening)
+
+-- two lists that begin each other are the same
+pub same_beginnings : (one other : List Event) → IsPrefix one other → IsPrefix other one → one ≡ other
+same_beginnings [] [] p q = refl
+same_beginnings [] (y ∷ other) p q = absurd (cc (q.1))
+same_beginnings (x ∷ one) [] p q = absurd (cc (p.1))
+same_beginnings (x ∷ one) (y ∷ other) p q =
+    let rest = same_beginnings one other (p.0, cc (p.1)) (q.0, cc (q.1)) in cc (p.1, rest)
+
+-- A second pass has heard a note of a first, and the first then one of the second: both have seen the same.
+pub same_seen : (first second one other new : List Event) → one ≡ first → other ≡ second → IsPrefix one second
+    → IsPrefix other new → (new ≡ first) ⊎ (new ≡ other) → new ≡ second
+same_seen first second one other new told told_back heard heard_back which =
+    ⊎_elim (λ (stays : new ≡ first). stays ∙ same_beginnings first second
+    (subst (λ (es : List Event). IsPrefix es second) told heard)
+    (subst (λ (es : List Event). IsPrefix es first) told_back (subst (λ (es : List Event). IsPrefix other es) stays heard_back)))
+    (λ (learns : new ≡ other). learns ∙ told_back) which

@@ -15,7 +15,7 @@ use Rattle.rb_kept.specs.declared.tries.Try.{Try}
 use Rattle.rb_kept.specs.declared.outcome.Outcome.{Outcome}
 use Rattle.rb_kept.specs.declared.fault.CallFault.{CallFault}
 use Rattle.rb_lock.specs.Passes.{PassState, IsSoundPass, tally_of}
-use Rattle.rb_lock.specs.Views.{weight, idle, pass_of, holder_of, caught_up, has_drawn, rested, longer}
+use Rattle.rb_lock.specs.Views.{weight, idle, pass_of, holder_of, caught_up, has_drawn, rested, note_of, longer}
 use Rattle.rb_lock.specs.Rule.{Fits, pair_of}
 use Rattle.rb_lock.specs.declared.pair.Pair.{Pair}
 use Rattle.rb_lock.specs.declared.pair.TheConstants.{MOST_NAMES}
@@ -106,6 +106,13 @@ module _ {T : Type 0} where
     pub name_is : name ≡ seat.0.name
     pub counted : tally ≡ tally_of (pass_of table seat.0)
     pub sound : IsSoundPass (pass_of table seat.0)
+
+  -- The seat is a note of what a pass had seen: a legal history, no longer than its capacity.
+  pub record IsNote (seat : LockSeat T) : Type 0 where
+    pub pass : PassState
+    pub is : seat ≡ (note_of (idle pass), [])
+    pub legal : IsLegal pass.opening pass.seen
+    pub few : length pass.seen ≤ pass.capacity
 
   -- the seat holds the lock, and has in hand the pair that it found, or one that has grown by its events
   pub record MayGive (seat : LockSeat T) : Type 0 where

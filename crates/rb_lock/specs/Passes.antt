@@ -55,6 +55,17 @@ seen_code =
     })
     (λ _. refl)
 
+-- What contracts see of a note: its queue, and what a pass had seen when it was taken.
+pub record NoteState : Type 0 where
+  pub table : TableId
+  pub seen : List Event
+
+-- it is stored as the pair of its fields
+abbrev pub note_code : Coded NoteState
+note_code =
+    code_by (TableId × List Event) (coded× table_id_coded (coded_list event.the_row.coded))
+    (λ note. (note.table, note.seen)) (λ p. record { table = p.0; seen = p.1 }) (λ _. refl)
+
 -- the log of the pass's queue, at this history
 abbrev pub log_at : PassState → List Event → Log
 log_at pass history = record { opening = pass.opening; history = history; capacity = pass.capacity }

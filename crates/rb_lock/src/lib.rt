@@ -7,6 +7,7 @@
 mod fault;
 mod laws;
 mod lock;
+mod note;
 mod pair;
 mod pass;
 mod pass_record;
@@ -18,6 +19,7 @@ mod view;
 
 pub use fault::{CloseFault, OpenFault, SplitFault};
 pub use laws::{looks_have_their_value, most_names_has_its_value};
+pub use note::Note;
 pub use pair::MOST_NAMES;
 pub use pass::Pass;
 pub use shared::Shared;

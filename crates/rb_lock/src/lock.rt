@@ -1,14 +1,14 @@
 //! The lock: its word, and how the pair in its slot is taken, used and given back.
 ghost use Rattle.std.specs.Prelude.{◌≡◌, ◌≤◌, [], ◌∷◌, Some, None, length, true, false};
 ghost use Rattle.rb_queue.specs.History.{IsLegal};
-ghost use Rattle.rb_lock.specs.LockSteps.{HasOneWord, AtRest, TakesLock, MayGive, MayDraw};
+ghost use Rattle.rb_lock.specs.LockSteps.{HasOneWord, AtRest, IsNote, TakesLock, MayGive, MayDraw};
 ghost use Rattle.rb_lock.specs.LockSteps.{ActsIn, ActsOn, NamesIn, NamesOn, HasLearned, in_hand};
-ghost use Rattle.rb_lock.specs.Views.{caught_up, has_drawn};
+ghost use Rattle.rb_lock.specs.Views.{caught_up, has_drawn, note_of};
 ghost use Rattle.rb_lock.specs.declared.stage.Stage.TheVariants.{Idle};
 
 use crate::pair::Pair;
 use crate::rule::{LockTable, PassSeat};
-use crate::steps::{Compare, Draw, Give, Learn, Note, Take};
+use crate::steps::{Compare, Draw, Give, Learn, Noting, Take};
 use rb_kept::{CallFault, Outcome};
 use rb_ledger::Tally;
 use rb_queue::Ask;
@@ -167,19 +167,29 @@ fn next_name_of<T: Timer>(slot: &mut Option<Pair<T>>) -> Option<u64>
     pair.give_name()
 }
 
-/// Lets a seat learn what another has seen. Both are at rest.
-pub(crate) fn learn<T: Timer>(table: &LockTable<T>, seat: &mut PassSeat<T>, other: &mut PassSeat<T>)
+/// Cuts a note of what a seat has seen off it. The seat is at rest, and stays as it is.
+pub(crate) fn cut_note<T: Timer>(table: &LockTable<T>, seat: &mut PassSeat<T>) -> PassSeat<T>
     requires lock { HasOneWord table.now.table_id }
     requires table { seat.old.table_id ≡ table.now.table_id }
     requires rest { AtRest seat.old.table_id seat.old.me }
-    requires other_table { other.old.table_id ≡ table.now.table_id }
-    requires other_rest { AtRest other.old.table_id other.old.me }
     ensures table { seat.new.table_id ≡ seat.old.table_id }
-    ensures learned { HasLearned seat.old.me.0 other.old.me.0 seat.new.me }
-    ensures other_table { other.new.table_id ≡ other.old.table_id }
-    ensures other { other.new.me ≡ other.old.me }
+    ensures same { seat.new.me ≡ seat.old.me }
+    ensures note_table { result.table_id ≡ table.now.table_id }
+    ensures note { result.me ≡ (note_of seat.old.me.0, []) }
 {
-    let note = table.split_seat::<Note>(other);
+    table.split_seat::<Noting>(seat)
+}
+
+/// Lets a seat, which is at rest, learn what a note tells.
+pub(crate) fn learn<T: Timer>(table: &LockTable<T>, seat: &mut PassSeat<T>, note: PassSeat<T>)
+    requires lock { HasOneWord table.now.table_id }
+    requires table { seat.old.table_id ≡ table.now.table_id }
+    requires rest { AtRest seat.old.table_id seat.old.me }
+    requires note_table { note.table_id ≡ table.now.table_id }
+    requires note { IsNote note.me }
+    ensures table { seat.new.table_id ≡ seat.old.table_id }
+    ensures learned { HasLearned seat.old.me.0 note.me.0 seat.new.me }
+{
     table.join_seat::<Compare>(seat, note);
     table.load::<Learn>(seat, 0);
 }

@@ -1,4 +1,5 @@
-ghost use Rattle.std.specs.Prelude.{◌≡◌, ◌≤◌, ◌<◌, [], ◌∷◌, ℕ, Some, IfOk, IfErr, OnErr};
+ghost use Rattle.std.specs.Prelude.{◌≡◌, ◌≤◌, ◌<◌, ◌⊎◌, [], ◌∷◌, ℕ, Some, IfOk, IfErr, OnErr};
+ghost use mathlib.Core.List.{IsPrefix};
 ghost use Rattle.rb_ledger.specs.Totals.{nothing};
 ghost use Rattle.rb_queue.specs.Counts.{events_of, audit_of};
 ghost use Rattle.rb_lock.specs.Passes.{first_pass, split_from, folded_with, all_records, tally_of, Learns};
@@ -7,7 +8,10 @@ ghost use Rattle.rb_lock.specs.SharedCalls.{Answered};
 ghost use Rattle.rb_lock.specs.ClosedQueues.{HasCallsOf, IsRefused, AreCounts};
 
 use crate::fault::{CloseFault, OpenFault, SplitFault};
-use crate::lock::{FREE, act, give, give_and_draw, learn, next_name, put_back, take, take_out};
+use crate::lock::{
+    FREE, act, cut_note, give, give_and_draw, learn, next_name, put_back, take, take_out,
+};
+use crate::note::Note;
 use crate::pair::{MOST_NAMES, Pair};
 use crate::pass::Pass;
 use crate::rule::LockRule;
@@ -130,6 +134,30 @@ impl<T: Timer> Shared<T> {
         pass.tally.join(tally);
     }
 
+    /// A note of what a pass has seen. It does not wait.
+    pub fn note(&self, pass: &mut Pass<T>) -> Note<T>
+        requires { pass.old.table ≡ self.now }
+        ensures pass { pass.new ≡ pass.old }
+        ensures note { result ≡ record { table = self.now; seen = pass.old.seen } }
+    {
+        let seat = cut_note(&self.table.shared, &mut pass.seat);
+        Note { seat }
+    }
+
+    /// Lets a pass learn what a note tells. It does not wait.
+    ///
+    /// So a call that got its reply before its pass gave the note stands before each call that this pass makes from now on.
+    pub fn hear(&self, pass: &mut Pass<T>, note: Note<T>)
+        requires pass { pass.old.table ≡ self.now }
+        requires note { note.table ≡ self.now }
+        ensures learns { Learns pass.old pass.new }
+        ensures mine { pass.new.mine ≡ pass.old.mine }
+        ensures heard { IsPrefix note.seen pass.new.seen }
+        ensures which { (pass.new.seen ≡ pass.old.seen) ⊎ (pass.new.seen ≡ note.seen) }
+    {
+        learn(&self.table.shared, &mut pass.seat, note.seat);
+    }
+
     /// Lets two passes learn what the other has seen. It does not wait.
     ///
     /// Afterwards both have seen the same history, which begins with what each had seen.
@@ -142,9 +170,10 @@ impl<T: Timer> Shared<T> {
         ensures second { Learns second.old second.new }
         ensures second_mine { second.new.mine ≡ second.old.mine }
     {
-        let table = &self.table.shared;
-        learn(table, &mut first.seat, &mut second.seat);
-        learn(table, &mut second.seat, &mut first.seat);
+        let note = self.note(first);
+        self.hear(second, note);
+        let note = self.note(second);
+        self.hear(first, note);
     }
 
     /// Makes one call, like `Kept::act`, with the pass's name as seat. It waits while another pass

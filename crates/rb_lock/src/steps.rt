@@ -55,9 +55,9 @@ impl Join<View> for Fold {
 }
 
 /// A note of what a seat has seen is cut off it.
-pub(crate) struct Note;
+pub(crate) struct Noting;
 
-impl Split<View> for Note {
+impl Split<View> for Noting {
     ghost use Rattle.rb_lock.specs.Views.{note_of};
 
     ghost left = { λ v. v };

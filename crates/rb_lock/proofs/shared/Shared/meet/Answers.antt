@@ -1,17 +1,15 @@
--- Each pass takes the longer of the two histories, so both have seen the same one at the end.
+-- Each has heard a note of the other, the first one last.
 use Rattle.std.proofs.Common.{sym, ap, ◌∙◌}
-use Rattle.rb_lock.specs.Views.{longer}
-use Rattle.rb_lock.specs.LockSteps.{LockSeat}
-use Rattle.rb_lock.proofs.Meetings.{longer_whole}
+use Rattle.rb_lock.specs.Passes.{NoteState, PassState}
+use Rattle.rb_lock.proofs.Meetings.{same_seen}
 use Rattle.rb_lock.proofs.shared.Shared.meet.Goals as goal
 
 pub returns-clause-same : goal.returns-clause-same
 returns-clause-same g c =
-    let first = c.first.inside.seat.me.0.seen in
-    let second = c.second.inside.seat.me.0.seen in
-    let both = longer first second in
-    let told = ap (λ (m : LockSeat g.row.T.Denot). m.0.seen) c.learn.ensures.learned.rest in
-    let still = ap (λ (m : LockSeat g.row.T.Denot). m.0.seen) c.learn-2.ensures.other in
-    let again = ap (λ (m : LockSeat g.row.T.Denot). m.0.seen) c.learn-2.ensures.learned.rest in
-    let kept = ap (λ (m : LockSeat g.row.T.Denot). m.0.seen) c.learn.ensures.other in
-    still ∙ (told ∙ sym (again ∙ ((λ i. longer (kept i) (told i)) ∙ longer_whole second both c.learn.ensures.learned.compared.second)))
+    let first = c.note-note in
+    let second = c.note-note-2 in
+    same_seen first.new.pass.seen c.hear.new.pass.seen first.result.seen second.result.seen c.hear-2.new.pass.seen
+    (ap (λ (note : NoteState). note.seen) first.ensures.note ∙ sym (ap (λ (pass : PassState). pass.seen) first.ensures.pass))
+    (ap (λ (note : NoteState). note.seen) second.ensures.note)
+    c.hear.ensures.heard c.hear-2.ensures.heard c.hear-2.ensures.which
+    ∙ sym (ap (λ (pass : PassState). pass.seen) second.ensures.pass)
