@@ -46,12 +46,6 @@ is_longer (x ∷ one) (y ∷ other) (z ∷ whole) p q =
           (λ (same : longer one other ≡ other). inr (λ i. heads i ∷ same i)) rest.which;
     }
 
--- a list that begins another is not the longer
-pub longer_whole : (one other : List Event) → IsPrefix one other → longer one other ≡ other
-longer_whole [] other p = refl
-longer_whole (x ∷ one) [] p = absurd (cc (p.1))
-longer_whole (x ∷ one) (y ∷ other) p = let rest = longer_whole one other (p.0, cc (p.1)) in cc (p.1, rest)
-
 -- a note of what a pass has seen
 pub notes : {T : Type 0} (id : ℕ) (pass : PassState) → Splits (Locked {T = T}) id (idle pass) (idle pass) (note_of (idle pass))
 notes id pass s law at =
