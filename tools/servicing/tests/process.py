@@ -59,7 +59,7 @@ class Service:
     @property
     def lines(self) -> list[str]:
         """What it has said."""
-        return os.pread(self._said, 1 << 20, 0).decode().splitlines()
+        return os.pread(self._said, os.fstat(self._said).st_size, 0).decode().splitlines()
 
     def all(self, event: str) -> list[Event]:
         """The words of each line of an event, with their values."""
