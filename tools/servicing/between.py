@@ -39,7 +39,7 @@ def resumed(parts: Parts) -> Current | Next:
             return current
         parts.publisher.run = current.record
         return saved(parts, current)
-    following = _following(parts, last, start)
+    following = _following(parts, last, start, server)
     if start is Start.AGAIN and last.end is None:
         parts.runs.drop(last)
     if server is not None:
@@ -75,10 +75,10 @@ def _await_end(parts: Parts, server: Server) -> None:
         parts.signals.wait(LOOK)
 
 
-def _following(parts: Parts, last: Run, start: Start) -> Next:
-    """What follows a run without a server. Raises an `Unusable`."""
+def _following(parts: Parts, last: Run, start: Start, server: Server | None) -> Next:
+    """What follows a run whose server has ended. Raises an `Unusable`."""
     if start is Start.CONTINUE:
-        return _continued(parts, last)
+        return _continued(parts, last, server)
     if start is Start.AGAIN:
         return parts.runs.again(last, last.calls if last.end is not None else 0)
     if start is Start.MISSING:
@@ -95,7 +95,7 @@ def _accept(parts: Parts, misfit: Misfit) -> None:
     parts.until_written(f"run-{misfit.run}", lambda: parts.runs.accept(misfit))
 
 
-def _continued(parts: Parts, last: Run) -> Next:
+def _continued(parts: Parts, last: Run, server: Server | None) -> Next:
     """What follows a run that ended in good order, by the file of its history. Raises an `Unusable`."""
     path = parts.folder.history(last.number)
     assert path
@@ -108,15 +108,17 @@ def _continued(parts: Parts, last: Run) -> Next:
         _accept(parts, Misfit(last.number, f"{path} can't be continued: {why}"))
         return _lost(parts, last, f"its history did not fit, which was accepted: {why}")
     if last.end is None:
-        _write_end(parts, last, _end_of(Reason.UNKNOWN, told))
+        _write_end(parts, last, _end_of(Reason.UNKNOWN, told, server))
     return parts.runs.after(last, told.left)
 
 
-def _end_of(why: Reason, told: Checked) -> End:
-    """The end of a run by its history. The service's own elements are not counted."""
+def _end_of(why: Reason, told: Checked, server: Server | None, cut: int = 0) -> End:
+    """The end of a run by its history, and by what its server printed, if that is still known. The service's own
+    elements are not counted."""
     audit, left = told.audit, told.left
+    sessions, lost_jobs = server.counts if server else (None, None)
     return End(time.time(), why, audit["calls"], audit["offered"] - left.probes, left.failed, audit["given"],
-               len(left.elements), digest=told.digest)
+               len(left.elements), lost_jobs, sessions=sessions, cut=cut, digest=told.digest)
 
 
 def saved(parts: Parts, run: Current) -> Next:
@@ -141,11 +143,7 @@ def saved(parts: Parts, run: Current) -> Next:
     else:
         record = run.timed_by(told.left)
         parts.until_written(f"run-{record.number}.txt", lambda: parts.runs.save_history(server), server)
-        sessions, lost_jobs = server.counts
-        end = replace(_end_of(why, told), sessions=sessions, lost_jobs=lost_jobs, cut=run.cut)
-        if end.lost_jobs:  # which is said before it is written down, as a service is killed at any moment
-            say("error", "lost-jobs", run=record.number, jobs=end.lost_jobs,
-                text="they failed when the run was full, and could not come back")
+        end = _end_of(why, told, server, run.cut)
         _write_end(parts, record, end)
         following = parts.runs.after(record, told.left)
         say("info", "saved", run=record.number, calls=end.calls, offered=end.offered, given=end.given, left=end.left,
@@ -168,4 +166,8 @@ def _lost(parts: Parts, record: Run, why: str) -> Next:
 
 
 def _write_end(parts: Parts, record: Run, end: End) -> None:
+    """Writes down how a run ended. Which jobs are lost is said before, as a service is killed at any moment."""
+    if end.lost_jobs:
+        say("error", "lost-jobs", run=record.number, jobs=end.lost_jobs,
+            text="they failed when the run was full, and could not come back")
     parts.until_written(f"run-{record.number}.json", lambda: parts.runs.write(replace(record, end=end)))

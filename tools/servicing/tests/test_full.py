@@ -1,11 +1,14 @@
 """Runs whose calls are used up: jobs in hand come back, and what is lost all the same is said until somebody
 acknowledges it."""
 import contextlib
+import shutil
+import signal
 import subprocess
 import sys
 import threading
 import time
 import unittest
+from pathlib import Path
 
 from common.program import TOP
 from servicing.looking import Looks
@@ -73,6 +76,23 @@ class FullTest(ServiceTest):
             until(lambda: not self.alert()[1], "the alert is over")
         with self.serving():
             self.assertEqual(self.alert(), (f"rb_broker_lost_jobs_total{{port=\"{self.port}\"}} {jobs}", False))
+
+    def test_the_next_service_says_what_is_lost(self) -> None:
+        """The one before was killed once it had saved the history, and before it wrote down how the run ended."""
+        service = self.begin("--calls", "60")
+        service.process.send_signal(signal.SIGSTOP)
+        with Client(self.port) as it:
+            it.greeted().send(*[f"OFFER 0 job-{number}" for number in range(30)], *["TAKE"] * 30)
+            held = sum(it.line().startswith("ITEM ") for _ in range(60))
+            service.kill()
+            it.rest()
+        until(lambda: not service.servers, "the server ends")
+        (history,) = Path(self.path("memory/rb_broker")).glob("*-1-history")
+        shutil.copy(history, self.path("runs/run-1.txt"))
+        with self.serving() as service:
+            self.assertEqual(service.all("resume")[0]["how"], "continue")
+            self.assertEqual(service.all("lost-jobs")[0]["jobs"], f"{held}")
+            self.assertEqual(self.alert(), (f"rb_broker_lost_jobs_total{{port=\"{self.port}\"}} {held}", True))
 
     def alert(self) -> tuple[str, bool]:
         """The count of lost jobs, and whether there is the alert."""
