@@ -54,6 +54,8 @@ def answer_of(board: Board, folder: str, path: str) -> Answer | None:
         return Answer(status, "text/plain; version=0.0.4", metrics(state))
     if path == "/health":
         return Answer(status if state.is_healthy else HTTPStatus.SERVICE_UNAVAILABLE, "text/plain", text(state))
+    if path == "/favicon.ico":  # for which browsers ask by themselves
+        return Answer(HTTPStatus.NO_CONTENT)
     kept = [it for it in state.runs if it.has_history]
     if path.startswith(f"{JOBS}/"):
         return jobs_named(unquote(path[len(JOBS) + 1:]), kept[:MOST_RUNS], folder)

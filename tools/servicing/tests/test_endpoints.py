@@ -45,6 +45,7 @@ class PathsTest(RoomTest):
         for path, kind, says in (("/", "text/html", page(state())), ("/health", "text/plain", text(state())),
                                  ("/metrics", "text/plain; version=0.0.4", metrics(state()))):
             self.assertEqual(self.answer(path), (200, kind, says))
+        self.assertEqual(self.answer("/favicon.ico"), (204, "", ""))
         for path in ("", "/page", "/metrics/", "/../health", "/runs/", "/runs/011", "/runs/11/", "/runs/../runs/11"):
             self.assertIsNone(answer_of(self.board, self.room, path), path)
 
