@@ -67,9 +67,9 @@ class Runs:
     def past(self) -> tuple[Run, ...]:
         return tuple(it for _, it in sorted(self.records.items(), reverse=True) if it.end)
 
-    def prepare(self, following: Next, settings: Settings) -> Run:
+    def prepare(self, number: int, following: Next, settings: Settings) -> Run:
         """Writes down the next run, whose server is started right behind. Raises an `OSError` if the disk is full."""
-        now, number, (lost, lost_jobs) = read_clock(), self.greatest + 1, self.lost
+        now, (lost, lost_jobs) = read_clock(), self.lost
         opening = following.at(now)
         record = Run(number, now, opening.moment, opening.next_id, len(opening.elements), len(opening.aside),
                      settings.calls, settings.policy, lost_before=lost, lost_jobs_before=lost_jobs,

@@ -107,7 +107,7 @@ def _listening(
     parts: Parts, door: socket.socket, server: Server, following: Next, before: Current | None
 ) -> Current:
     """A run whose server listens. Raises a `NotStarted`."""
-    record = parts.until_written("opening", lambda: parts.runs.prepare(following, parts.settings))
+    record = parts.until_written("opening", lambda: parts.runs.prepare(server.run, following, parts.settings))
     opening = following.at(record.began)
     words, body = parts.settings.serve_words(record.greeting, door.fileno()), b"".join(opening.body)
 
