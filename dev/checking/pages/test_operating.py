@@ -148,7 +148,7 @@ def test_a_path_of_the_page(tmp_path: Path, program: str, path: str) -> None:
     assert path in paths
     it = Served(command, tmp_path, program, *(("--every", "1s") if path == "/runs/1" else ()))
     address = f"http://127.0.0.1:{it.page}{path}"
-    answers = ["curl", "-sS", "-m", "60", "-o", tmp_path / "answer", "-w", "%{http_code}", address]
+    answers = ["curl", "-sS", "-m", "300", "-o", tmp_path / "answer", "-w", "%{http_code}", address]
     asks = [sys.executable, "-B", f"{TOP}/tools/service", *status.split()[1:], "--folder", it.folder]
     try:
         it.wait("event=serving", 2 if path == "/runs/1" else 1)
