@@ -140,7 +140,7 @@ class Pipeline:
         if self._is_read or self._is_ended:
             return
         if not all(it.is_given_up for it in self._calls):
-            any(it.wake() for it in self._calls)
+            any(it.wake() for it in self._calls if not it.is_given_up)
         elif self.is_left or self._calls:
             self.is_left = self._is_ended = True
             self.session.close()

@@ -5,7 +5,6 @@ import json
 import shlex
 import unittest.mock
 
-import rb_broker_client
 from scripted import ScriptedTest, free_port, table
 from rb_broker_client.__main__ import _delay, main
 from rb_broker_client.durations import nanoseconds
@@ -103,6 +102,3 @@ class CommandTest(ScriptedTest):
             self.assertIn(f"usage: python3 -m rb_broker_client {'' if words[0] == '--help' else words[0]}", said)
             self.assertEqual(f"\nexample: python3 -m rb_broker_client {words[0]} " in said, words[0] in commands)
         self.assertTrue(all(f"\n    {it}" in run("--help")[1] for it in commands))
-
-    def test_the_version(self):
-        self.assertEqual(run("--version"), (0, f"rb_broker_client {rb_broker_client.__version__}\n", ""))

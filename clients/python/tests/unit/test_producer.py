@@ -164,8 +164,9 @@ class ThreadsTest(ProducerCase):
         self.in_threads(*[lambda: [told.append(offer(producer).id) for _ in range(count // 4)]] * 4)
         self.assertEqual(sorted(told), list(range(count)))
 
-    def offer_beside(self, steps, fault, text):
-        """An offer, and another one that has less patience and fails, while the server lets the first wait."""
+    def offer_beside(self, steps, fault, text, behind=""):
+        """An offer, and another one that has less patience and fails, while the server lets the first wait; and what is
+        offered behind it."""
         is_asked, is_over, told = threading.Event(), threading.Event(), []
         self.goes_on = lambda _: is_asked.set() or is_over.wait(PATIENCE)
 
@@ -175,10 +176,11 @@ class ThreadsTest(ProducerCase):
                 self.assertRaisesRegex(fault, text, offer, producer, "b")
             told.append("given up")
             is_over.set()
+            told.extend(offer(producer, it) for it in behind)
 
         producer = self.produce(*steps)
         self.in_threads(lambda: told.append(offer(producer)), offer_meanwhile)
-        self.assertEqual(told, ["given up", Offered(0, 5)])
+        self.assertEqual(told, ["given up", Offered(0, 5), *[Offered(2, 5)] * len(behind)])
         return producer
 
     def test_one_that_waits_for_another_too_long_has_not_offered(self):
@@ -191,6 +193,12 @@ class ThreadsTest(ProducerCase):
                                       "OFFER 5 c > OFFERED 2 5"], InDoubtError,
                                      r"^OFFER 5 b was accepted or not: no reply came within 0\.\d seconds$")
         self.assertEqual(offer(producer, "c"), Offered(2, 5))
+
+    def test_beside_one_that_has_given_up_another_goes_on_reading(self):
+        """Once the one that read for all has its own reply."""
+        self.rests = lambda _: time.sleep(0.2)
+        self.offer_beside([f"{OFFER} > goes_on: nothing; OFFER 5 b > nothing; OFFER 5 c > rests: OFFERED 0 5; > rests: "
+                           "OFFERED 1 5, OFFERED 2 5"], InDoubtError, "^OFFER 5 b was accepted or not: ", behind="c")
 
     def test_all_that_wait_are_in_doubt_once_the_session_is_lost(self):
         doubts = []
