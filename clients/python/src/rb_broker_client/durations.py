@@ -28,12 +28,10 @@ def nanoseconds(duration: Duration | Fraction) -> int:
 
 def from_text(duration: Duration | str) -> float:
     """A duration in seconds, 0 or more, which may be a text: `"5s"`, `"2m"`, `"1.5h"`, or a number of seconds."""
-    if not isinstance(duration, str):
-        return nanoseconds(duration) / SECOND
-    found = nanoseconds_in(duration, bare=SECOND)
+    found = nanoseconds_in(duration, bare=SECOND) if isinstance(duration, str) else nanoseconds(duration)
     if found is None:
         raise ValueError(f"{duration} is no delay, such as 5s, 2m, 1.5h or 250")
-    return float(found / SECOND)
+    return nanoseconds(Fraction(found, SECOND)) / SECOND
 
 
 def seconds(duration: Duration) -> float:

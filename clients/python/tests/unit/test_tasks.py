@@ -84,9 +84,11 @@ class TasksTest(ScriptedTest):
         for it in (lambda: one.later(0), lambda: one.later(0, object()), lambda: self.app.task()(lambda key: None)):
             self.assertRaises(TypeError, it)
         without_zone = datetime(2030, 1, 1)
-        self.assertRaises(ValueError, one.later, "soon", 1)
+        for it in ("soon", "999999999d"):
+            self.assertRaises(ValueError, one.later, it, 1)
         self.assertRaises(ValueError, one.at, without_zone, 1)
         self.assertRaises(ValueError, self.app.task(name="one"), run)
+        self.assertEqual(self.moments(self.app._store)(60).overdue(60), [])
 
     def test_a_task_is_in_the_file_before_it_is_offered_and_only_one_process_runs_it(self):
         """There is no server, and the file is read as other processes would."""
