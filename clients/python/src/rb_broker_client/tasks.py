@@ -23,7 +23,7 @@ from .producer import Producer
 from .task_runners import Processes, Testing
 from .task_store import STALE, Store, StoredTask, going_on
 from .waiting import Blocking, Kind, Looping, blocking
-from .worker import AsyncWorker, Worker
+from .worker import AsyncWorker, Worker, check_has_run
 
 __all__ = ["Backoff", "Middleware", "RetryLater", "StoredTask", "Task", "Tasks", "Testing", "exponential"]
 
@@ -195,7 +195,7 @@ class Tasks:
     def _offer(self, task: StoredTask) -> bool:
         try:
             greeting = self._send(f"{self._store.file}.{task.id}.{task.turn}", max(task.due - self._store.now(), 0))
-        except (BrokerError, OSError) as fault:
+        except (BrokerError, OSError, ValueError) as fault:  # such as no broker, or a back-off that is infinite
             log.warning("task %s of %s is offered later, from the file: %s", task.id, task.name, fault)
             return False
         self._store.sent(task, greeting)
@@ -215,7 +215,7 @@ class Tasks:
         self._in_hand.add(task.id)
         try:
             await self._call(kind, task, self._tasks[task.name])
-        except Exception as fault:
+        except (Exception, SystemExit) as fault:
             end = partial(self._fail, task, fault)
         except BaseException:  # such as a cancellation
             await kind.apart(partial(self._store.release, task))
@@ -229,9 +229,9 @@ class Tasks:
         if function.is_async:
             with self._told(task):
                 async with asyncio.timeout(None if function.timeout == math.inf else function.timeout):
-                    await function.function(*words, **options)
+                    check_has_run(await function.function(*words, **options))
         else:
-            await kind.apart(self._told(task)(partial(function.function, *words, **options)))
+            await kind.apart(self._told(task)(lambda: check_has_run(function.function(*words, **options))))
 
     @contextmanager
     def _told(self, task: StoredTask) -> Iterator[None]:
@@ -268,7 +268,7 @@ class Tasks:
         self._store.sent(task, self._send(job.payload, STALE))
         return None
 
-    def _fail(self, task: StoredTask, fault: Exception) -> None:
+    def _fail(self, task: StoredTask, fault: BaseException) -> None:
         function = self._tasks[task.name]
         failures, error = task.failures + 1, "".join(traceback.format_exception(fault))
         if failures >= function.attempts:

@@ -48,6 +48,12 @@ class _Call:
     cancel: Callable[[], object] | None = None
 
 
+def check_has_run(given: object) -> None:
+    """Raises `TypeError` if what a function gives is yet to be run."""
+    if inspect.isawaitable(given) or inspect.isgenerator(given) or inspect.isasyncgen(given):
+        raise TypeError(f"nothing awaits or runs what the function gives: {given!r}")
+
+
 class BaseWorker(Generic[Handler, OnDead]):
     """What `Worker` and `AsyncWorker` have in common."""
 
@@ -230,12 +236,7 @@ class BaseWorker(Generic[Handler, OnDead]):
         is_done: bool | None = False
         try:
             called = call.function(job)
-            if inspect.isawaitable(called):
-                if not self._session_of._kind.is_async:
-                    raise TypeError("only an AsyncWorker awaits what a handler gives")
-                await called
-            elif inspect.isgenerator(called) or inspect.isasyncgen(called):
-                raise TypeError("nothing runs the generator that a handler gives")
+            check_has_run(await called if self._session_of._kind.is_async and inspect.isawaitable(called) else called)
             is_done = True
         except Exception:
             if call.work is None:

@@ -1,7 +1,6 @@
 """The package as a command, over scripted servers."""
 import contextlib
 import io
-import json
 import shlex
 import unittest.mock
 
@@ -85,14 +84,6 @@ class CommandTest(ScriptedTest):
                 status, said, errors = run(*words)
                 self.assertEqual((status, said), (2, ""))
                 self.assertRegex(errors, r"(?m)^(rb_broker_client: |python3 -m rb_broker_client.*: error: )[^\n]+\n\Z")
-
-    def test_a_record(self):
-        server = self.play("AT 0; SIZE > SIZE 3; QUIT")
-        self.assertEqual(run("size", "--port", server.port, "--record", self.path)[0], 0)
-        with open(self.path, encoding="ascii") as file:
-            lines = [json.loads(it) for it in file]
-        self.assertEqual([(it["request"], it["reply"]) for it in lines],
-                         [("AT 0", ["ERR 1 syntax"]), ("SIZE", ["SIZE 3"]), ("QUIT", ["BYE"])])
 
     def test_help(self):
         commands = ("worker", "offer", "size", "peek", "drain", "remove", "clear", "dead")

@@ -1,9 +1,11 @@
 """Tasks in this process, at moments that the tests set, and what is in their file."""
 import asyncio
 import contextlib
+import math
 import os
 import signal
 import sqlite3
+import sys
 import threading
 import time
 import unittest.mock
@@ -16,6 +18,7 @@ from runpy import run_path
 import pytest
 from scripted import ScriptedTest, fork, free_port, wait_for
 from test_command import run
+from worker_case import Awaitable
 from rb_broker_client import Greeting, Job, Report, waiting
 from rb_broker_client.task_runners import Processes
 from rb_broker_client.tasks import Middleware, RetryLater, Tasks, exponential
@@ -161,6 +164,17 @@ class TasksTest(ScriptedTest):
         self.assertEqual((sorted(self.seen), dead.arguments), ([0, 5], "[[5], {}]"))
         self.assertRegex(dead.error, "TimeoutError\n$")
 
+    def test_a_function_that_leaves_its_work_to_nobody_or_ends_the_program_has_failed(self):
+        async def forgets():
+            return Awaitable()
+
+        with self.app.testing() as moments:
+            for number, it in enumerate((Awaitable, forgets, lambda: (it for it in ()), lambda: sys.exit(3))):
+                self.app.task(name=str(number), attempts=1)(it).later(0)
+            moments.pass_by(0)
+            told = {it.name: it.error.splitlines()[-1].partition(":")[0] for it in self.app.dead()}
+        self.assertEqual(told, {"0": "TypeError", "1": "TypeError", "2": "TypeError", "3": "SystemExit"})
+
     def test_middleware_is_told_of_each_attempt_and_changes_nothing(self):
         told = []
         note = lambda name, what, task, *fault: told.append(" ".join([name, what, task.name, *map(str, fault)]))
@@ -281,6 +295,7 @@ class TasksTest(ScriptedTest):
                     unittest.mock.patch("rb_broker_client.tasks.STALE", 0.01), self.logged() as said:
                 keep()
             self.assertEqual([it.splitlines()[0] for it in said], [text] * 2)
+        self.assertFalse(self.app._offer(self.app._store.add("note", "[]", None, math.inf)))
         child = unittest.mock.Mock(process=unittest.mock.Mock(exitcode=None))
         with unittest.mock.patch.object(self.app._store, "running", side_effect=full), self.logged() as said:
             Processes(self.app, 1, 1)._look_after(child)

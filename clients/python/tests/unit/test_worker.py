@@ -10,7 +10,7 @@ import unittest.mock
 
 from from_threads import for_both_kinds
 from scripted import PATIENCE, fork, free_port, status_of
-from worker_case import A, GIVES_A, GIVES_B, LAST, WorkerCase
+from worker_case import A, GIVES_A, GIVES_B, LAST, Awaitable, WorkerCase
 from rb_broker_client import AsyncWorker, Job, Pauses, Report, UnknownReplyError, Worker
 
 FULL = "WAIT > ERR 6 full; QUIT"
@@ -72,7 +72,7 @@ class JobTest(WorkerCase):
 
 
 class HandlerTest(WorkerCase):
-    """A worker without a loop awaits nothing, so no job may count as done whose handler has not run."""
+    """No job may count as done whose handler has left its work to nobody."""
 
     def test_one_that_is_broken_off_ends_the_session_with_its_job(self):
         interrupt = unittest.mock.Mock(side_effect=KeyboardInterrupt)
@@ -97,17 +97,22 @@ class HandlerTest(WorkerCase):
                 self.assertRaisesRegex(TypeError, "nothing runs a generator: .*yields", kind, it, 7011)
                 self.assertRaisesRegex(TypeError, "nothing runs a generator", kind, self.handle, 7011, on_dead=it)
             for it in (lambda job: yields(job), lambda job: yields_async(job)):
-                port = self.play(f"AT 0; {GIVES_A}; FAIL 0 > stops: DEAD 0; QUIT").port
-                self.worker = kind(it, port)
-                report = self.worker.run() if kind is Worker else asyncio.run(self.worker.run())
-                self.assertEqual(report, Report(dead=1))
+                self.assert_fails(kind, it)
 
     def test_a_job_fails_whose_handler_gives_an_awaitable(self):
-        class Awaitable:
-            def __await__(self):
-                yield
+        async def forgets(job):
+            return Awaitable()
 
-        self.assert_reports(Report(dead=1), f"{GIVES_A}; FAIL 0 > DEAD 0; {LAST}", handler=lambda job: Awaitable())
+        self.assert_fails(Worker, lambda job: Awaitable())
+        self.assert_fails(AsyncWorker, forgets)
+
+    def assert_fails(self, kind, handler):
+        """Each job of such a worker fails."""
+        port = self.play(f"AT 0; {GIVES_A}; FAIL 0 > stops: DEAD 0; QUIT").port
+        self.worker = kind(handler, port)
+        self.stop_later(PATIENCE)
+        report = self.worker.run() if kind is Worker else asyncio.run(self.worker.run())
+        self.assertEqual(report, Report(dead=1))
 
 
 @for_both_kinds

@@ -9,6 +9,7 @@ from rb_broker_client import Pauses, Report, Worker
 LONG_ENOUGH = 0.05  # seconds after which a wait has waited
 GIVES_A, GIVES_B = "WAIT > ITEM 0 0 1 a", "WAIT > ITEM 1 0 1 b"
 A, LAST = f"{GIVES_A}; DONE 0", "WAIT > stops: NONE; QUIT"  # a job that is done, and the end of a worker
+Awaitable = type("Awaitable", (), {"__await__": iter})  # which nobody has awaited
 
 
 def values(words):
