@@ -31,6 +31,7 @@ _TABLES = """
         began REAL NOT NULL DEFAULT 0, run INTEGER NOT NULL DEFAULT 0);
     CREATE UNIQUE INDEX IF NOT EXISTS keys ON tasks (key) WHERE state != 'dead';
     CREATE INDEX IF NOT EXISTS states ON tasks (state, touched);
+    CREATE INDEX IF NOT EXISTS waits ON tasks (state, due);
     CREATE TABLE IF NOT EXISTS file (id TEXT NOT NULL, run INTEGER NOT NULL DEFAULT 0, lost INTEGER NOT NULL DEFAULT 0);
 """
 _COLUMNS = "id, name, arguments, key, due, turn, failures, error, state"
@@ -38,7 +39,8 @@ _OVERDUE = f"""
     UPDATE tasks SET touched = :now, state = 'new', offers = offers + (state = 'waiting') WHERE id IN (
         SELECT id FROM tasks WHERE state = 'new' AND touched < :now - :unsent
         OR state = 'running' AND touched < :now - :stale
-        OR state = 'waiting' AND max(due, touched) < :now - :overdue * (1 << min(offers, 20)) LIMIT :most
+        OR state = 'waiting' AND due < :now - :overdue AND max(due, touched) < :now - :overdue * (1 << min(offers, 20))
+        LIMIT :most
     ) RETURNING {_COLUMNS}
 """
 # What was offered to a server that does not greet, too.
@@ -106,6 +108,8 @@ class Store:
 
     def _hear(self, db: sqlite3.Connection, greeting: Greeting) -> int:
         run, lost = db.execute("SELECT run, lost FROM file").fetchone()
+        if greeting.run == run - 1:
+            return 0  # another process waited longer to tell it than its run lasted
         db.execute("UPDATE file SET run = ?, lost = ?", [greeting.run, greeting.lost])
         if greeting.lost == lost and greeting.run >= run:
             return 0

@@ -146,7 +146,8 @@ class TasksTest(ScriptedTest):
         late = store.add("note", "[]", None, time.time())
         store.sent(late, Greeting(8, 4, 0))  # which was lost before it was known to be accepted
         self.assertIn(late.id, [it.id for it in after(6).overdue(60)])
-        self.assertEqual([after(0).greeted(Greeting(*it, 0)) for it in ((9, 5), (10, 5), (12, 5))], [0, 0, 0])
+        heard = [(9, 5), (10, 5), (12, 5), (11, 5), (11, 4), (12, 5)]  # of which two come late
+        self.assertEqual([after(0).greeted(Greeting(*it, 0)) for it in heard], [0] * len(heard))
         self.assertEqual((store.greeted(Greeting(1, 0, 0)), {ids[it.id] for it in store.overdue(60)}),
                          (2, {"7", "9"}))  # another service
 
