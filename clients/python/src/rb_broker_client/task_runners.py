@@ -15,7 +15,7 @@ from typing import TYPE_CHECKING, Any, NamedTuple, Self
 
 from .answers import Job, Report
 from .durations import Duration, from_text
-from .task_store import Store, StoredTask, going_on
+from .task_store import Store, going_on
 from .waiting import Blocking, Looping, run
 
 if TYPE_CHECKING:
@@ -80,7 +80,9 @@ class Processes:
 
     @going_on()
     def _look_after(self, child: _Child) -> None:
-        hung = [] if child.process.exitcode is not None else self._hung(child)
+        app, has_ended = self._app, child.process.exitcode is not None
+        hung = [it for began, it in app._store.running(child.owner) if not has_ended and it.name in app._tasks
+                and app._store.now() - began > app._tasks[it.name].longest]
         if hung:
             child.process.kill()
             child.process.join()
@@ -88,19 +90,14 @@ class Processes:
             return
         self._children.remove(child)
         text = "it took too long, and was ended with its process"
-        for _, task in self._app._store.running(child.owner):
+        for _, task in app._store.running(child.owner):
             if hung and task not in hung:
-                self._app._store.release(task)
-                self._app._offer(task)
+                app._store.release(task)
+                app._offer(task)
                 continue
             fault = TimeoutError(text if hung else f"its process ended with status {child.process.exitcode}")
-            self._app._tell(self._app._middleware[::-1], "failed", task, fault)
-            self._app._fail(task, fault)
-
-    def _hung(self, child: _Child) -> list[StoredTask]:
-        now, tasks = self._app._store.now(), self._app._tasks
-        return [it for began, it in self._app._store.running(child.owner)
-                if it.name in tasks and now - began > tasks[it.name].timeout]
+            app._tell(app._middleware[::-1], "failed", task, fault)
+            app._fail(task, fault)
 
 
 class Testing:

@@ -73,6 +73,7 @@ class Task:
         self.timeout = math.inf if timeout is None else seconds(from_text(timeout))
         self.function, self.attempts, self.backoff, self._app = function, attempts, backoff, app
         self.is_async, self._signature = inspect.iscoroutinefunction(function), inspect.signature(function)
+        self.longest = self.timeout + STALE * self.is_async  # until its process is killed, if it can't be cancelled
         if inspect.isgeneratorfunction(function) or inspect.isasyncgenfunction(function):
             raise TypeError(f"a task is a function that runs to its end, not {function!r}")
         if "key" in self._signature.parameters:

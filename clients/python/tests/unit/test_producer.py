@@ -195,7 +195,6 @@ class ThreadsTest(ProducerCase):
         self.assertEqual(offer(producer, "c"), Offered(2, 5))
 
     def test_beside_one_that_has_given_up_another_goes_on_reading(self):
-        """Once the one that read for all has its own reply."""
         self.rests = lambda _: time.sleep(0.2)
         self.offer_beside([f"{OFFER} > goes_on: nothing; OFFER 5 b > nothing; OFFER 5 c > rests: OFFERED 0 5; > rests: "
                            "OFFERED 1 5, OFFERED 2 5"], InDoubtError, "^OFFER 5 b was accepted or not: ", behind="c")

@@ -256,6 +256,14 @@ class TasksTest(ScriptedTest):
             "TimeoutError: it took too long, and was ended with its process",
             "TimeoutError: its process ended with status 3"})
 
+    def test_a_coroutine_that_can_be_cancelled_is_not_ended_with_its_process(self):
+        child, store = unittest.mock.Mock(owner="one", process=unittest.mock.Mock(exitcode=None)), self.app._store
+        store.claim(self.app.task(name="waits", timeout=1)(asyncio.sleep).later(0, 60), 1, "one")
+        for seconds, is_killed in ((2, False), (20, True)):
+            self.moments(store)(seconds)
+            Processes(self.app, 1, 1)._look_after(child)
+            self.assertEqual(child.process.kill.called, is_killed)
+
     def test_a_process_ends_with_the_one_that_watches_it(self):
         """Whatever its tasks do."""
         pid = Path(f"{self.path}.pid")
