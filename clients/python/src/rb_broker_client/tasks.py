@@ -17,7 +17,7 @@ from datetime import datetime
 from functools import partial
 from typing import Any
 
-from .answers import BrokerError, Greeting, Job, Report
+from .answers import BrokerError, Greeting, Job, RefusedError, Report
 from .durations import Duration, from_text, seconds
 from .producer import Producer
 from .task_runners import Processes, Testing
@@ -194,11 +194,12 @@ class Tasks:
                 it.join()
 
     def _offer(self, task: StoredTask) -> bool:
+        # Gives whether it is worth while to offer others.
         try:
             greeting = self._send(f"{self._store.file}.{task.id}.{task.turn}", max(task.due - self._store.now(), 0))
-        except (BrokerError, OSError, ValueError) as fault:  # such as no broker, or a back-off that is infinite
+        except (BrokerError, OSError, ValueError) as fault:
             log.warning("task %s of %s is offered later, from the file: %s", task.id, task.name, fault)
-            return False
+            return isinstance(fault, ValueError) or type(fault) is RefusedError  # for a delay that no broker can hold
         self._store.sent(task, greeting)
         return True
 

@@ -1,7 +1,6 @@
 """Tasks in this process, at moments that the tests set, and what is in their file."""
 import asyncio
 import contextlib
-import math
 import os
 import signal
 import sqlite3
@@ -19,7 +18,7 @@ import pytest
 from scripted import ScriptedTest, fork, free_port, wait_for
 from test_command import run
 from worker_case import Awaitable
-from rb_broker_client import Greeting, Job, Report, waiting
+from rb_broker_client import Greeting, Job, RefusedError, Report, waiting
 from rb_broker_client.task_runners import Processes
 from rb_broker_client.tasks import Middleware, RetryLater, Tasks, exponential
 
@@ -304,11 +303,20 @@ class TasksTest(ScriptedTest):
                     unittest.mock.patch("rb_broker_client.tasks.STALE", 0.01), self.logged() as said:
                 keep()
             self.assertEqual([it.splitlines()[0] for it in said], [text] * 2)
-        self.assertFalse(self.app._offer(self.app._store.add("note", "[]", None, math.inf)))
         child = unittest.mock.Mock(process=unittest.mock.Mock(exitcode=None))
         with unittest.mock.patch.object(self.app._store, "running", side_effect=full), self.logged() as said:
             Processes(self.app, 1, 1)._look_after(child)
         self.assertEqual([it.splitlines()[0] for it in said], [text])
+
+    def test_a_task_that_no_broker_takes_holds_up_no_other(self):
+        for number in range(3):
+            self.note.later(0, number)
+        self.moments(self.app._store)(6)
+        faults = [RefusedError("ERR 3 range"), ValueError("of a back-off that is infinite"), None]
+        with unittest.mock.patch.object(self.app, "_send", side_effect=faults) as send:
+            threading.Timer(0.5, self.app._is_over.set).start()
+            self.app._keep_offered()
+        self.assertEqual(send.call_count, 3)
 
     def test_a_task_whose_end_could_not_be_written_is_run_again(self):
         store, id = self.app._store, self.note.later(0, 17)
