@@ -241,7 +241,7 @@ def _named(kind: Any, word: str) -> Any:
     except Exception as fault:  # whatever goes wrong in a module of the caller
         raise argparse.ArgumentTypeError(f"{word} can't be had: {type(fault).__name__}: {fault}") from None
     if not isinstance(found, kind):
-        raise argparse.ArgumentTypeError(f"{word} is not of the form MODULE:FUNCTION")
+        raise argparse.ArgumentTypeError(f"{word} is a {type(found).__name__}, which can't be used here")
     return found
 
 

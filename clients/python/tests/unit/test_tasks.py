@@ -338,4 +338,6 @@ class TasksTest(ScriptedTest):
         self.assertEqual(run("tasks", "dead", "test_tasks:app"), (0, told, ""))
         self.assertEqual(run("tasks", "again", "test_tasks:app", id)[:2], (0, "offered 1\n"))
         self.assertEqual(run("tasks", "dead", "test_tasks:app"), (0, "", ""))
-        self.assertEqual(run("tasks", "run", "test_tasks:run")[0], 2)
+        status, _, errors = run("tasks", "run", "test_tasks:run")
+        self.assertEqual(status, 2)
+        self.assertIn("test_tasks:run is a function, ", errors)
