@@ -57,8 +57,7 @@ def take_letters(path: str, use: Callable[[str], object]) -> int:
 def payload_of(line: bytes) -> str:
     """That of a letter. Raises `ValueError` for a line that is none."""
     try:
-        payload: str = json.loads(line)["payload"]
-        return payload
+        return str(json.loads(line)["payload"])
     except (ValueError, KeyError, TypeError):
         raise ValueError(f"this line is no dead letter: {line!r}") from None
 

@@ -194,12 +194,11 @@ class Tasks:
                 it.join()
 
     def _offer(self, task: StoredTask) -> bool:
-        # Gives whether it is worth while to offer others.
         try:
             greeting = self._send(f"{self._store.file}.{task.id}.{task.turn}", max(task.due - self._store.now(), 0))
         except (BrokerError, OSError, ValueError) as fault:
             log.warning("task %s of %s is offered later, from the file: %s", task.id, task.name, fault)
-            return isinstance(fault, ValueError) or type(fault) is RefusedError  # for a delay that no broker can hold
+            return isinstance(fault, ValueError) or type(fault) is RefusedError  # which is of this task alone
         self._store.sent(task, greeting)
         return True
 
@@ -271,13 +270,16 @@ class Tasks:
         return None
 
     def _fail(self, task: StoredTask, fault: BaseException) -> None:
-        function = self._tasks[task.name]
-        failures, error = task.failures + 1, "".join(traceback.format_exception(fault))
-        if failures >= function.attempts:
+        known, failures = self._tasks[task.name], task.failures + 1
+        error, is_last = "".join(traceback.format_exception(fault)), failures >= known.attempts
+        try:
+            delay = fault.delay if isinstance(fault, RetryLater) else 0 if is_last else float(known.backoff(failures))
+        except Exception as wrong:  # as it would each time, and the task would never die
+            is_last, error = True, error + "".join(traceback.format_exception(wrong))
+        if is_last:
             log.error("task %s of %s failed in its last attempt, %d\n%s", task.id, task.name, failures, error)
             self._store.bury(task, error)
             return
-        delay = fault.delay if isinstance(fault, RetryLater) else function.backoff(failures)
         log.warning("attempt %d of task %s of %s failed; the next is in %.1f seconds\n%s", failures, task.id, task.name,
                     delay, error)
         self._offer(self._store.retry(task, self._store.now() + delay, error))

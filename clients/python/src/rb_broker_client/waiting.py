@@ -30,8 +30,7 @@ def run(coroutine: Coroutine[Any, Any, Result]) -> Result:
     try:
         coroutine.send(None)
     except StopIteration as ended:
-        result: Result = ended.value
-        return result
+        return ended.value  # type: ignore[no-any-return]
     raise RuntimeError("a blocking client is to wait for an event loop")
 
 

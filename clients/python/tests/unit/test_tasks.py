@@ -164,16 +164,17 @@ class TasksTest(ScriptedTest):
         self.assertEqual((sorted(self.seen), dead.arguments), ([0, 5], "[[5], {}]"))
         self.assertRegex(dead.error, "TimeoutError\n$")
 
-    def test_a_function_that_leaves_its_work_to_nobody_or_ends_the_program_has_failed(self):
+    def test_what_leaves_its_work_to_nobody_or_exits_has_failed_and_a_back_off_that_raises_is_the_end(self):
         async def forgets():
             return Awaitable()
 
         with self.app.testing() as moments:
+            self.app.task(name="4", backoff=lambda failures: [][failures])(lambda: 1 / 0).later(0)
             for number, it in enumerate((Awaitable, forgets, lambda: (it for it in ()), lambda: sys.exit(3))):
                 self.app.task(name=str(number), attempts=1)(it).later(0)
             moments.pass_by(0)
             told = {it.name: it.error.splitlines()[-1].partition(":")[0] for it in self.app.dead()}
-        self.assertEqual(told, {"0": "TypeError", "1": "TypeError", "2": "TypeError", "3": "SystemExit"})
+        self.assertEqual(told, {**dict.fromkeys("012", "TypeError"), "3": "SystemExit", "4": "IndexError"})
 
     def test_middleware_is_told_of_each_attempt_and_changes_nothing(self):
         told = []
