@@ -6,7 +6,7 @@ import socket
 from collections import deque
 from typing import TYPE_CHECKING, cast
 
-from rb_broker_formats.requests import Kind, LineCutter, read_request, refused
+from rb_broker_formats.requests import Kind, LineCutter, kind_of_usual, read_request, refused
 
 from .protocol import MOST_HELD, SECOND, ErrorReply
 from .turns import FETCHES
@@ -39,14 +39,8 @@ NO_PLAN: list[bytes | None] = []
 
 CALL, WAIT, QUIT, AT = Kind.CALL, Kind.WAIT, Kind.QUIT, Kind.AT
 
-MORE_HELD = {b"ITEM": 1, b"DONE": -1, b"AGAI": -1, b"DEAD": -1}
-"""By the first bytes of a reply."""
-
-
-def more_held_by(reply: bytes) -> int:
-    """How many more jobs a session holds behind this reply."""
-    start = reply[:4]
-    return int(reply.partition(b"\n")[0].split(b" ")[1]) if start == b"DRAI" else MORE_HELD.get(start, 0)
+MORE_HELD = {b"ITEM": 1, b"DONE": -1, b"AGAI": -1, b"DEAD": -1, b"DRAI": 0}
+"""How many more jobs a session holds behind a reply, by its first bytes. DRAINED says by itself how many it gave."""
 
 
 class Session(asyncio.Protocol):
@@ -54,6 +48,7 @@ class Session(asyncio.Protocol):
 
     def __init__(self, gateway: Gateway) -> None:
         self._gateway = gateway
+        self._submit, self._who_wait = gateway.calls.submit, gateway.waits.order
         self._cutter = LineCutter()
         self._lines: deque[bytes | None] = deque()
         """None is a line that the end of input has cut off."""
@@ -94,16 +89,11 @@ class Session(asyncio.Protocol):
         self._go_on()
 
     def data_received(self, data: bytes) -> None:
-        if self._is_over or self._is_at_end:
+        if self._is_at_end or not self._is_busy and not self._cutter.rest and self._call_alone(data):
             return
-        lines = self._cutter.cut(data)
+        self._lines += self._cutter.cut(data)
         if not self._is_busy:
-            if len(lines) == 1 and not self._lines and self._call_alone(lines[0]):
-                return
-            self._lines += lines
             self._go_on()
-        else:
-            self._lines += lines
         if len(self._lines) > MOST_WAITING_LINES and not self._is_paused:
             self._is_paused = True
             self._transport.pause_reading()
@@ -166,7 +156,7 @@ class Session(asyncio.Protocol):
                 asyncio.get_running_loop().call_later(seconds, self._wait_ended, STOPPED)
             elif calls:
                 self._has_called = True
-                self._gateway.calls.submit(calls, self._answered)
+                self._submit(calls, self._answered)
             elif self._lines:  # other sessions come before more refusals of this one
                 asyncio.get_running_loop().call_soon(self._answered, [])
             else:
@@ -183,18 +173,19 @@ class Session(asyncio.Protocol):
         self._lines.clear()
         self._is_at_end = True
 
-    def _call_alone(self, line: bytes) -> bool:
-        """Carries out a line that nothing waits before, as most are, unless it needs more than a call."""
-        if self._is_retiring or self._is_full or not self._seat:
+    def _call_alone(self, data: bytes) -> bool:
+        """Carries out what came if it is one line that nothing waits before, as it is most often, and needs only a
+        call."""
+        if self._lines or self._is_retiring or self._is_full or not self._seat or data[-1:] != b"\n":
             return False
-        kind, text = read_request(line)
+        line = data[:-1]
+        kind = kind_of_usual(line)
         if kind is WAIT:
-            text = self._call_that_may_wait(text, True)
+            line = self._call_that_may_wait(line, True)
         elif kind is not CALL:
             return False
         self._is_busy = self._has_called = True
-        self._plan = NO_PLAN
-        self._gateway.calls.submit([self._seat + text], self._answered)
+        self._submit([self._seat + line], self._answered)
         return True
 
     def _calls_of_next(self) -> list[bytes]:
@@ -230,7 +221,7 @@ class Session(asyncio.Protocol):
     def _call_that_may_wait(self, request: bytes, is_first: bool) -> bytes:
         """The call of a TAKE or a POLLFOR. What calls before it let the session hold is not known yet."""
         self._wait_request = request
-        call = b"WAIT" if self._gateway.waits and request != NO_WAIT else request
+        call = b"WAIT" if self._who_wait and request != NO_WAIT else request
         return call.lower() if is_first and self._held < MOST_HELD else call
 
     def _answered(self, replies: list[bytes] | None) -> None:
@@ -239,31 +230,32 @@ class Session(asyncio.Protocol):
         if replies is None:
             self.close()
             return
-        later = self._send(replies)
-        if later:
-            self._begin_wait(later)
-        elif self._lines or self._is_at_end or self._is_paused or self._is_retiring:
-            self._go_on()
-
-    def _send(self, replies: list[bytes]) -> bytes | None:
-        """Sends the replies of a plan. Returns that of a call that has to wait."""
         later = None
         if self._wait_request:
             if replies[-1].startswith(LATER):
                 later = replies.pop()
             else:
                 self._wait_request = b""
+        self._send(replies)
+        if later:
+            self._begin_wait(later)
+        elif self._lines or self._is_at_end or self._is_paused or self._is_retiring:
+            self._go_on()
+
+    def _send(self, replies: list[bytes]) -> None:
+        """Sends the replies of a plan."""
         for reply in replies:
-            self._held += more_held_by(reply)
+            more = MORE_HELD.get(reply[:4])
+            if more is not None:
+                self._held += more or int(reply.partition(b"\n")[0].split(b" ")[1])
         if self._plan:
-            given = iter(replies)
-            replies = [next(given) if reply is None else reply for reply in self._plan] + list(given)
+            given, plan, self._plan = iter(replies), self._plan, NO_PLAN
+            replies = [next(given) if reply is None else reply for reply in plan] + list(given)
         if replies and not self._is_gone:
             self._transport.write(replies[0] if len(replies) == 1 else b"".join(replies))
-        return later
 
     def _begin_wait(self, later: bytes) -> None:
-        request, self._wait_request, self._plan = self._wait_request, b"", NO_PLAN
+        request, self._wait_request = self._wait_request, b""
         if self._is_at_end:
             self._wait_ended(STOPPED)
             return
@@ -296,7 +288,7 @@ class Session(asyncio.Protocol):
             self._ended([b"ENDED 0\n"])
 
     def _submit_end(self) -> None:
-        self._gateway.calls.submit([self._seat + b"END"], self._ended)
+        self._submit([self._seat + b"END"], self._ended)
 
     def _ended(self, replies: list[bytes] | None) -> None:
         if replies is None:  # a seat's end may be made twice

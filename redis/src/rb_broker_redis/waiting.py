@@ -26,30 +26,31 @@ class Waiting(Generic[Waiter]):
     """All moments are nanoseconds of the gateway's own clock."""
 
     def __init__(self) -> None:
-        self._order: dict[Waiter, None] = {}
+        self.order: dict[Waiter, None] = {}
+        """Who waits, first come first."""
         self._dues: dict[int, int] = {}
         """When the earliest known element of each queue expires, for those of which one is known."""
         self._tried_queue: int | None = None
         self._width = 1
 
     def __len__(self) -> int:
-        return len(self._order)
+        return len(self.order)
 
     @property
     def next_due(self) -> Due | None:
         """When to try again, and at which queue, unless an earlier element is heard of. None while nobody waits, while
         tries are under way, and where no element is known."""
-        if not self._order or not self._dues or self._tried_queue is not None:
+        if not self.order or not self._dues or self._tried_queue is not None:
             return None
         return min(Due(moment, queue) for queue, moment in self._dues.items())
 
     def add(self, waiter: Waiter) -> None:
         """Lets it wait behind all others."""
-        self._order[waiter] = None
+        self.order[waiter] = None
 
     def remove(self, waiter: Waiter) -> None:
         """It waits no more. A try for it may be under way, and is answered all the same."""
-        self._order.pop(waiter, None)
+        self.order.pop(waiter, None)
 
     def hear(self, moment: int, queue: int = 0) -> None:
         """An element of this queue expires at this moment, and may be the earliest."""
@@ -66,7 +67,7 @@ class Waiting(Generic[Waiter]):
             return []
         self._tried_queue = due.queue
         del self._dues[due.queue]
-        return [waiter for waiter, _ in zip(self._order, range(self._width))]
+        return [waiter for waiter, _ in zip(self.order, range(self._width))]
 
     @property
     def tried_queue(self) -> int:

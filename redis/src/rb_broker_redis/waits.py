@@ -73,9 +73,8 @@ class Waits:
         self._loop = asyncio.get_event_loop()
         self._timer: asyncio.TimerHandle | None = None
         self._timed_for: int | None = None
-
-    def __len__(self) -> int:
-        return len(self._waiting)
+        self.order = self._waiting.order
+        """Who waits, first come first: others that may have to wait come behind them."""
 
     def begin(self, seat: bytes, request: bytes, reply: bytes, answered: WaitAnswered) -> Wait:
         """A request, whose reply was LATER, waits."""

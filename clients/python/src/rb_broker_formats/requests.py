@@ -33,15 +33,12 @@ _FORMS = {
 }
 _NUMBER, _PAYLOAD = re.compile(NUMBER.encode()), re.compile(PAYLOAD.encode())
 
-# Most lines are well formed, and have a number of up to 19 digits, which can't pass 2^64 - 1. The groups are named
-# after kinds. A line that this pattern doesn't match may still be a request.
+# Most lines are a keyword alone, or well formed with a number of up to 19 digits, which can't pass 2^64 - 1. A line that
+# is neither may still be a request.
+_ALONE = {keyword: kind for keyword, (kind, count) in _FORMS.items() if not count}
 _USUAL = re.compile(
-    rb"(?:(?P<CALL>(?:OFFER|OFFERAT) (?:0|[1-9][0-9]{0,18}) [!-~]{1,64}"
-    rb"|(?:DONE|FAIL|REMOVE|DRAIN) (?:0|[1-9][0-9]{0,18})|POLL|PEEK|SIZE|CLEAR)"
-    rb"|(?P<WAIT>TAKE|POLLFOR (?:0|[1-9][0-9]{0,18})))\r?"
+    rb"OFFER(?:AT)? (?:0|[1-9][0-9]{0,18}) [!-~]{1,64}|(?:DONE|FAIL|REMOVE|DRAIN|(POLLFOR)) (?:0|[1-9][0-9]{0,18})"
 )
-_KINDS = [Kind[name] if name else Kind.ERROR for name in ("", *_USUAL.groupindex)]
-"""By the number of the group."""
 
 # No more of a line's beginning has to be kept to know that it is too long, even if its last byte is a CR that belongs
 # to its end.
@@ -63,12 +60,18 @@ class LineCutter:
         return lines
 
 
+def kind_of_usual(line: bytes) -> Kind | None:
+    """What is to be done about a line of a usual form, without its end: its text is the line. None for any other."""
+    kind = _ALONE.get(line)
+    if kind is None and (usual := _USUAL.fullmatch(line)):
+        kind = Kind.WAIT if usual.lastindex else Kind.CALL
+    return kind
+
+
 def read_request(line: bytes) -> Request:
     """Reads a line, which is given without its line feed. One CR at its end belongs to the end."""
-    usual = _USUAL.fullmatch(line)
-    if usual and (group := usual.lastindex):
-        return _KINDS[group], usual[group]
-    return _read_unusual(line[:-1] if line.endswith(b"\r") else line)
+    kind = kind_of_usual(line)
+    return (kind, line) if kind else _read_unusual(line[:-1] if line.endswith(b"\r") else line)
 
 
 def _read_unusual(line: bytes) -> Request:
