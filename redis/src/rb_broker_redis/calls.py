@@ -3,6 +3,7 @@ from __future__ import annotations
 
 import asyncio
 import logging
+import math
 import time
 from collections.abc import Callable
 
@@ -63,6 +64,8 @@ class Calls:
         self._gateway = 0
         self._loop = asyncio.get_event_loop()
         self._is_scheduled = False
+        self._enough = math.inf
+        """So many new calls go out at once; the others wait until more is answered."""
         self.gateway_is_unknown: Callable[[], None] = lambda: None
         self.saw_role: Callable[[Answer], None] | None = None
         """Gets what the Redis says of its replicas behind each wait for them, and may change how many are wanted."""
@@ -86,18 +89,20 @@ class Calls:
         self._link, self._is_leaving = link, False
         for batch in flying:
             batch.doubt()
-        self._schedule()
+        self._send_more()
 
     def leave(self) -> None:
         """Sends nothing more by this link, and closes it once what is under way is answered."""
         self._is_leaving = True
+        self._send_more()
         if self._link and not self._flying:
             self._link.close()
 
     def submit(self, calls: list[bytes], answered: Answered, sessions: int = 1) -> None:
         """Makes these calls, which are of so many sessions, one after the other."""
-        self._turns.add(Part(self._front, calls, answered, sessions))
-        if not self._is_scheduled and len(self._flying) < MOST_IN_FLIGHT:
+        turns = self._turns
+        turns.add(Part(self._front, calls, answered, sessions))
+        if turns.new_calls >= self._enough and not self._is_scheduled:
             self._schedule()
 
     def withhold(self, front: bytes) -> None:
@@ -112,31 +117,29 @@ class Calls:
         oldest = next(iter(self._flying), None)
         return oldest is not None and time.monotonic() - oldest.sent > self.patience
 
+    def _send_more(self) -> None:
+        """The link is another one, or more or less is under way on it: sends what may go out now."""
+        if self._link is None or self._is_leaving or len(self._flying) >= MOST_IN_FLIGHT:
+            self._enough = math.inf
+            return
+        last = next(reversed(self._flying), None)
+        self._enough = min(last.count, self._turns.most) if last else 1
+        self._schedule()
+
     def _schedule(self) -> None:
         if self._can_send() and not self._is_scheduled:
             self._is_scheduled = True
             self._loop.call_soon(self._flush)
 
     def _can_send(self) -> bool:
-        if self._link is None or self._is_leaving:
-            return False
-        last = next(reversed(self._flying), None)
-        return last is None or len(self._flying) < MOST_IN_FLIGHT and (bool(self._again) or self._turns.fill(last.count))
+        turns = self._turns
+        return self._enough < math.inf if self._again or turns.others else turns.new_calls >= self._enough
 
     def _flush(self) -> None:
         self._is_scheduled = False
         link = self._link
-        if not link or link.is_closed or not self._can_send():
-            return
-        if self._again:
-            batch = self._again.pop(0)
-        elif self._turns:
-            batch = self._turns.take(CALLS)
-        else:
-            return
-        self._send(link, batch)
-        if self._again or self._turns:
-            self._schedule()
+        if link and not link.is_closed and self._can_send():
+            self._send(link, self._again.pop(0) if self._again else self._turns.take(CALLS))
 
     def _send(self, link: Link, batch: Batch) -> None:
         self._flying[batch] = None
@@ -144,6 +147,7 @@ class Calls:
         calls = batch.calls()
         count = b"*%d\r\n" % (13 + len(calls))
         data = b"".join([count, self._heads[batch.function], batch.front, bulks(calls)])
+        self._send_more()
         if not self.replicas and not self.saw_role:
             link.send(data, lambda answer: self._answered(link, batch, answer))
             return
@@ -158,14 +162,14 @@ class Calls:
         if link is not self._link:
             return  # it was in doubt when the link was given up
         del self._flying[batch]
-        if self._again or self._turns:
-            self._schedule()
         if isinstance(answer, bytes):
             self._made(batch, answer.split(b"\0"))
-        elif answer is None:
-            batch.doubt()
         else:
-            self._refused(batch, answer)
+            self._send_more()
+            if answer is None:
+                batch.doubt()
+            else:
+                self._refused(batch, answer)
         if self._is_leaving:
             self.leave()
 
@@ -177,8 +181,7 @@ class Calls:
         whole = batch.take(replies)
         if len(whole) < len(batch.parts):
             self._turns.put_back(batch)
-        if self._turns:
-            self._schedule()
+        self._send_more()
         for part in whole:
             part.answered(part.replies)
 

@@ -28,18 +28,18 @@ def command(*words: bytes | str | int) -> bytes:
 
 def bulks(words: Iterable[bytes]) -> bytes:
     """The bytes of a command's words."""
-    return b"\r\n".join([piece for word in words for piece in (_FRONTS[len(word)], word)] + [b""])
+    pieces: list[bytes] = []
+    add = pieces.append
+    for word in words:
+        length = len(word)
+        add(_FRONTS[length] if length < len(_FRONTS) else b"$%d" % length)
+        add(word)
+    add(b"")
+    return b"\r\n".join(pieces)
 
 
-class _Fronts(dict[int, bytes]):
-    """What stands before a word, by its length: each is made once."""
-
-    def __missing__(self, length: int) -> bytes:
-        front = self[length] = b"$%d" % length
-        return front
-
-
-_FRONTS = _Fronts()
+_FRONTS = [b"$%d" % length for length in range(512)]
+"""What stands before a word, by its length, of those that are sent again and again."""
 
 
 def reader() -> Any:

@@ -77,29 +77,30 @@ class Part:
 class Batch:
     """Calls that go out together."""
 
-    __slots__ = ("parts", "count", "front", "function", "sent")
+    __slots__ = ("parts", "count", "are_single", "front", "function", "sent")
 
-    def __init__(self, parts: list[Part], count: int, function: bytes) -> None:
-        """Of these parts so many calls go out."""
-        self.parts, self.count, self.function, self.front = parts, count, function, parts[0].front
-        self.sent = 0.0
+    def __init__(self, parts: list[Part], count: int, function: bytes, are_single: bool = False) -> None:
+        """Of these parts so many calls go out. They are single if each part has no other call than one of these."""
+        self.parts, self.count, self.are_single = parts, count, are_single
+        self.function, self.front, self.sent = function, parts[0].front, 0.0
 
     def calls(self) -> list[bytes]:
         """All calls, in their order."""
-        return [call for part in self.parts
-                for call in (part.calls if part.count == len(part.calls) else part.under_way())]
+        if self.are_single:
+            return [part.calls[0] for part in self.parts]
+        return [call for part in self.parts for call in part.under_way()]
 
     def take(self, replies: list[bytes]) -> list[Part]:
         """Gives each part its replies. There may be fewer than calls: then the last ones were not made. Returns the parts
         that have all of theirs."""
-        if len(self.parts) == self.count == len(replies):  # one for each, as most are
+        if self.are_single and len(replies) == self.count:
             for part, reply in zip(self.parts, replies):
-                part.replies = [*part.replies, reply]
-            return [it for it in self.parts if len(it.replies) == len(it.calls)]
+                part.replies = [reply]
+            return self.parts
         start, whole = 0, []
         for part in self.parts:
             end = start + part.count
-            part.replies = part.replies + replies[start:end] if part.replies else replies[start:end]
+            part.replies = part.replies + replies[start:end]
             part.count = len(part.calls) - len(part.replies)
             if len(part.replies) == len(part.calls):
                 whole.append(part)
@@ -117,32 +118,29 @@ class Turns:
 
     def __init__(self) -> None:
         self._new: deque[Part] = deque()
-        self._others: deque[Part] = deque()
-        """Those of which calls have been made."""
-        self._most = 4 * LEAST
-        self._new_calls = 0
+        self.new_calls = 0
         """How many calls the new parts have."""
+        self.others: deque[Part] = deque()
+        """Those of which calls have been made."""
+        self.most = 4 * LEAST
+        """How many calls go out next, at most."""
 
     def __bool__(self) -> bool:
-        return bool(self._new or self._others)
+        return bool(self._new or self.others)
 
     def __iter__(self) -> Iterator[Part]:
         yield from self._new
-        yield from self._others
-
-    def fill(self, count: int) -> bool:
-        """Whether so many calls, or as many as a command carries, would go out next."""
-        return bool(self._others) or self._new_calls >= min(count, self._most)
+        yield from self.others
 
     def add(self, part: Part) -> None:
         """A part is new."""
         self._new.append(part)
-        self._new_calls += len(part.calls)
+        self.new_calls += part.count
 
     def take(self, function: bytes) -> Batch:
         """The calls that go out next, for this function. They are of one gateway's number. There must be some."""
-        new, others, room, turn = self._new, self._others, self._most, 0
-        if not others and self._new_calls <= room and new[0].front is new[-1].front:
+        new, others, room, turn = self._new, self.others, self.most, 0
+        if not others and self.new_calls <= room and new[0].front is new[-1].front:
             return self._all_new(function)
         front = (new or others)[0].front
         parts: list[Part] = []
@@ -154,7 +152,7 @@ class Turns:
                 break
             turn = turn + 1 if is_new else 0
             parts.append((new if is_new else others).popleft())
-            self._new_calls -= len(part.calls) if is_new else 0
+            self.new_calls -= len(part.calls) if is_new else 0
             left = len(part.calls) - len(part.replies)
             part.count = min(left, (FIRST_SHARE if is_new else SHARE) * part.sessions, room) if left > 1 else left
             room -= part.count
@@ -163,13 +161,13 @@ class Turns:
         for part, left in waiting:  # what others leave is shared in the same order
             more = min(left, room)
             part.count, room = part.count + more, room - more
-        return Batch(parts, self._most - room, function)
+        return Batch(parts, self.most - room, function)
 
     def _all_new(self, function: bytes) -> Batch:
         """The calls of all new parts: nobody has to wait for another turn."""
-        batch = Batch([*self._new], self._new_calls, function)
+        batch = Batch([*self._new], self.new_calls, function, len(self._new) == self.new_calls)
         self._new.clear()
-        self._new_calls = 0
+        self.new_calls = 0
         return batch
 
     def put_back(self, batch: Batch) -> None:
@@ -177,14 +175,14 @@ class Turns:
         left = [it for it in batch.parts if len(it.replies) < len(it.calls)]
         unserved = [it for it in left if not it.replies]
         self._new.extendleft(reversed(unserved))
-        self._new_calls += sum(len(it.calls) for it in unserved)
-        self._others.extend(it for it in left if it.replies)
+        self.new_calls += sum(len(it.calls) for it in unserved)
+        self.others.extend(it for it in left if it.replies)
 
     def adapt(self, sent: int, made: int, seconds: float) -> None:
         """So many of the calls of a command were made, in so many seconds."""
         if made < sent:
-            self._most = max(made, LEAST)
+            self.most = max(made, LEAST)
         elif seconds > SLOW:
-            self._most = max(self._most // 2, LEAST)
-        elif sent >= self._most:
-            self._most = min(2 * self._most, MOST)
+            self.most = max(self.most // 2, LEAST)
+        elif sent >= self.most:
+            self.most = min(2 * self.most, MOST)
