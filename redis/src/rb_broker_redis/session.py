@@ -225,7 +225,7 @@ class Session(asyncio.Protocol):
         return call.lower() if is_first and self._held < MOST_HELD else call
 
     def _answered(self, replies: list[bytes] | None) -> None:
-        """The calls that were under way are answered."""
+        """The calls that were under way are answered: sends the replies."""
         self._is_busy = False
         if replies is None:
             self.close()
@@ -236,14 +236,6 @@ class Session(asyncio.Protocol):
                 later = replies.pop()
             else:
                 self._wait_request = b""
-        self._send(replies)
-        if later:
-            self._begin_wait(later)
-        elif self._lines or self._is_at_end or self._is_paused or self._is_retiring:
-            self._go_on()
-
-    def _send(self, replies: list[bytes]) -> None:
-        """Sends the replies of a plan."""
         for reply in replies:
             more = MORE_HELD.get(reply[:4])
             if more is not None:
@@ -253,6 +245,10 @@ class Session(asyncio.Protocol):
             replies = [next(given) if reply is None else reply for reply in plan] + list(given)
         if replies and not self._is_gone:
             self._transport.write(replies[0] if len(replies) == 1 else b"".join(replies))
+        if later:
+            self._begin_wait(later)
+        elif self._lines or self._is_at_end or self._is_paused or self._is_retiring:
+            self._go_on()
 
     def _begin_wait(self, later: bytes) -> None:
         request, self._wait_request = self._wait_request, b""

@@ -53,8 +53,8 @@ class Part:
 
     def __init__(self, front: bytes, calls: list[bytes], answered: Answered, sessions: int) -> None:
         """`front` names the gateway whose sessions make the calls; `sessions` is how many these are."""
-        self.front, self.calls, self.answered, self.sessions = front, calls, answered, sessions
-        self.replies = NONE
+        self.front, self.calls, self.replies = front, calls, NONE
+        self.answered, self.sessions = answered, sessions
         self.count = len(calls)
         """How many calls are under way, or go out next."""
 
