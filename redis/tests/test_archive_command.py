@@ -6,8 +6,8 @@ import signal
 import threading
 from pathlib import Path
 
-from judging import replay_chains
-from nodes import PATIENCE, wait_until
+from judging import PROGRAM, replay_chains
+from nodes import ALWAYS, PATIENCE, Replicas, wait_until
 from rb_broker_redis.archive_folder import ArchiveFolder
 from rb_broker_formats.queue import read_queue
 from rb_broker_redis.queue import Queue
@@ -109,6 +109,30 @@ class TakeTest(ArchiveCommandTest):
         said, _ = process.communicate(timeout=PATIENCE)
         self.assertEqual(process.returncode, 0)
         self.assertIn("the Redis has lost events that were archived, from number 0: see ", said)
+
+
+class FailOverTest(ArchiveCommandTest):
+    def test_a_job_comes_back_whose_end_a_fail_over_has_lost(self) -> None:
+        """Its return is legal, behind the event that gave it in an earlier file."""
+        watched = self.till_end(Replicas(self.room / "nodes", 2, ALWAYS))
+        primary, (heir, _) = watched.primary, watched.replicas
+        queue = Queue(primary.client(), self.name)
+        queue.load_functions()
+        queue.call("rb_join", 60_000_000, "delay", f"{0:020}", 9, "")
+        queue.make([f"{SEAT} OFFER 0 a", f"{SEAT} POLL"])
+        wait_until(lambda: heir.ask("ZCARD", queue.held), "the replica does not follow")
+        heir.ask("REPLICAOF", "NO", "ONE")
+        queue.make([f"{SEAT} DONE 0"])
+        self.ran("archive", self.folder, "--redis", primary.url)
+        primary.kill()
+        Queue(heir.client(), self.name).make([f"{SEAT} END"])
+        self.ran("archive", self.folder, "--redis", heir.url)
+        first, second = self.files()
+        self.assertEqual(replay_chains(first, 0, 9), 2)
+        self.assertRaisesRegex(AssertionError, "unchained 0 no parent", replay_chains, second, 0, 9)
+        status, said, errors = self.ran_alone("judge", first, second, "--delay", 0, "--attempts", 9, "--program", PROGRAM)
+        self.assertEqual((status, errors), (0, ""))
+        self.assertRegex(said[0], '^events 0 to 2: .*"offered":2')
 
 
 class LargeTest(ArchiveCommandTest):

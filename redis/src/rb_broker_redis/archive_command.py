@@ -33,7 +33,8 @@ a cut, the best one is taken, and a line says that only `judge` takes the next f
 refuses a file within which --change-policy changed that: take the events out before, while no job is in hand.
 
 If the Redis itself comes back without events that are in a file already, that file is renamed to NAME-NUMBER.lost-1,
-and the history goes on with what the Redis has.
+and the history goes on with what the Redis has. If it, or a replica that takes over, has lost only that a job was done,
+the job comes back behind the file with the event that gave it: then too only `judge` takes the file with its return.
 
 Without --every it ends once the events that are there are taken. With --every it goes on until SIGTERM, and what goes
 wrong is said and tried again.
