@@ -28,7 +28,7 @@ from accounts import Attempts, attempts_in, early_in, sum_up, told_in
 from checking.testing import run_tool
 from crew import Crew, Producer, compiled_java
 from gateways import COMMAND, POLICY, Gateway
-from judging import faults_in, replay_chains
+from judging import PROGRAM, faults_in, replay_chains
 from nodes import ALWAYS, LONGEST, Cluster, Node, NotReady, Process, Replicas, Sentinels, wait_until
 from rb_broker_redis.archive_folder import ArchiveFolder
 from rb_broker_redis.shards import shard_names
@@ -176,8 +176,8 @@ class Day(RoomTest):
         self.assertEqual(self.slow, [])
         queues = self.histories()
         histories = [it for files in queues for it in files]
-        for it in histories:
-            replay_chains(it, 20_000_000, 1_000)
+        for files in queues:
+            self.replay(files)
         jobs: dict[str, Attempts] = {}
         for files in queues:
             self.assertEqual(run_tool("report", *files).returncode, 0)
@@ -205,6 +205,11 @@ class Day(RoomTest):
               f"doubt, of which {len(day.unseen)} without a note; {len(early)} early; {day.handled_again} handled again, "
               f"{day.late} answers too late; {len(histories)} histories accepted; faults of tools/verify: {faults}", flush=True)
         self.assertEqual(faults, {}, said)
+
+    def replay(self, files: Sequence[Path]) -> None:
+        """The program accepts each history, with its retries."""
+        for it in files:
+            replay_chains(it, 20_000_000, 1_000)
 
     def histories(self) -> list[list[Path]]:
         """The files of each queue."""
@@ -297,6 +302,13 @@ class SentinelTest(Day):
             redis.Redis(HOST, self.sentinels.ports[0]).execute_command("SENTINEL", "FAILOVER", self.sentinels.name)
             wait_until(lambda: self.sentinels.primary() is not before, "no replica takes over", 10)
         self.await_replicas()
+
+    def replay(self, files: Sequence[Path]) -> None:
+        """The program accepts all files as one history. One of them alone may lack what gave a job: a fail-over may lose
+        a DONE that was not answered, behind a file that was written meanwhile."""
+        words = [*COMMAND, "judge", *files, *POLICY, "--program", PROGRAM]
+        ran = subprocess.run([*map(str, words)], capture_output=True, text=True, timeout=PATIENCE, check=False)
+        self.assertEqual((ran.returncode, ran.stderr), (0, ""))
 
     def await_replicas(self) -> None:
         """The next primary is replaced only once both replicas have all that it has."""
