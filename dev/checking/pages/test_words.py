@@ -17,11 +17,14 @@ PAGES = sorted(path.relative_to(TOP).as_posix() for folder in FOLDERS for path i
 NOW = [name for name in PAGES if name not in ("CHANGELOG.md", "docs/DECISIONS.md")]  # which speak of what was, too
 PATH = re.compile(r"(?<![\w/~.-])(?:\.\./)*"
                   r"((?:examples|tools|dev|crates|clients|redis|docs|bench|packaging)/[\w./-]*\w)/?([*{\[]?)")
-COMMAND = re.compile(r"(?:^|[\s(])((?:tools|dev)/[a-z_]+)((?: [^|;&\n#)]+)?)")
+COMMAND = re.compile(r"(?:^|[\s(])((?:tools|dev|bench)/[a-z_]+(?:\.py)?|-m rb_broker_(?:client|redis)(?: [a-z]+)?)"
+                     r"((?: [^|;&\n#)]+)?)", re.M)
+NAME = re.compile(r"(?<!-)\b(?:[A-Za-z]+_\w+|[a-z]+[A-Z]\w*|(?:[A-Z][a-z]+){2,})\b")  # one that is no plain word
 # What a part of a page's command may be made of by whoever follows it.
-MADE = {"crates/rb_NAME", "dev/null"}
+MADE = {"crates/rb_NAME", "dev/null", "rb_NAME", "rb_NAME_tests", "TYPETimer"}
 # Names of the languages' own libraries.
-OTHERS = {"DelayQueue", "RuntimeError", "ValueError", "TypeError", "OSError", "SystemExit"}
+OTHERS = {"DelayQueue", "RuntimeError", "ValueError", "TypeError", "OSError", "SystemExit", "BigInt", "MissingCases",
+          "CLOCK_MONOTONIC"}
 
 
 def spoken(name: str) -> str:
@@ -40,18 +43,32 @@ def test_each_file_is_there(name: str) -> None:
 
 
 @cache
+def names_in_sources() -> set[str]:
+    """The words of all files that are no pages, and of their paths."""
+    files = subprocess.run(["git", "ls-files"], cwd=TOP, capture_output=True, text=True, check=True).stdout.splitlines()
+    texts = (Path(TOP, file).read_text("utf-8", "ignore") for file in files if not file.endswith((".md", ".png")))
+    return {*re.findall(r"\w+", "\n".join([*files, *texts]))}
+
+
+@pytest.mark.parametrize("name", NOW)
+def test_each_name_is_in_the_sources(name: str) -> None:
+    absent = {*NAME.findall("\n".join(code(page(name))))} - names_in_sources() - MADE - OTHERS
+    assert not absent
+
+
+@cache
 def options_of(tool: str) -> set[str]:
-    words = [sys.executable, "-B", f"{TOP}/{tool}", "--help"]
-    told = subprocess.run(words, capture_output=True, text=True, check=True).stdout
+    """Those of its --help. A module of Python's is named with its command."""
+    words = [sys.executable, "-B", *(tool.split() if tool.startswith("-m ") else [f"{TOP}/{tool}"]), "--help"]
+    environment = {**os.environ, "PYTHONPATH": f"{TOP}/redis/src:{TOP}/clients/python/src"}
+    told = subprocess.run(words, capture_output=True, text=True, check=True, env=environment).stdout
     return {*re.findall(r"--[a-z]+(?:-[a-z]+)*", told)}
 
 
 @pytest.mark.parametrize("name", NOW)
 def test_each_option_of_a_tool_is_there(name: str) -> None:
-    found = [(tool, option) for tool, words in COMMAND.findall(spoken(name))
-             for option in re.findall(r"(?<!\S)--[a-z]+(?:-[a-z]+)*", words)]
-    absent = [f"{tool} {option}" for tool, option in found
-              if Path(TOP, tool).is_file() and option not in options_of(tool)]
+    absent = [f"{tool} {option}" for tool, words in COMMAND.findall(spoken(name)) if not tool.endswith(".sh")
+              for option in re.findall(r"(?<!\S)--[a-z]+(?:-[a-z]+)*", words) if option not in options_of(tool)]
     assert not absent
 
 
