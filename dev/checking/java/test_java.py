@@ -8,12 +8,12 @@ import re
 import shlex
 import shutil
 import subprocess
-import textwrap
 from pathlib import Path
 from typing import Any
 
 import pytest
 
+from checking.pages.reading import blocks, section, tables
 from checking.parts import python_with_pytest
 from common.program import TOP
 from serving.server import Server
@@ -29,7 +29,8 @@ TESTS = [
     # what a queue at a server has beyond that
     "ServedTest", "TlsTest",
 ]
-DELIVERED = ["deliver letter-17, attempt 1", "deliver letter-17, attempt 2"]  # by the README's program
+INHERITED = "java.util.AbstractQueue java.util.AbstractCollection java.util.Collection java.lang.Iterable".split()
+METHOD = re.compile(r"\b(\w+)\(([^()]*)\)")
 REPOSITORY = "/usr/share/maven-repo"
 PLUGINS = [f"{REPOSITORY}/org/apache/maven/plugins/maven-{name}-plugin"
            for name in ("resources", "compiler", "surefire", "jar", "source", "javadoc")]
@@ -83,16 +84,32 @@ def test_javadoc(tmp_path: Path) -> None:
 
 def test_the_page(tmp_path: Path) -> None:
     """Does what the README's first part says, in an empty folder, beside a server with its options."""
-    blocks = re.findall(r"(?m)(?:^    .*\n(?:\n(?=    ))?)+", (CLIENT / "README.md").read_text("utf-8"))
-    serve, source, commands = map(textwrap.dedent, blocks[:3])
+    text = section("clients/java/README.md", "A worker in five minutes")
+    serve, source, commands = blocks(text)
+    first, attempt = re.search(r"it prints `(.*?)` .* `(attempt \d)`\.", text).groups()
+    delivered = [first, re.sub(r"attempt \d", attempt, first)]
     compiling, running = commands.replace("~/rb_broker", shlex.quote(TOP)).splitlines()
     with Server(shlex.split(serve)[4:]) as server:
         (tmp_path / "Worker.java").write_text(source.replace("7011", str(server.port)), "utf-8")
         run("sh", "-c", compiling, cwd=tmp_path)
         with subprocess.Popen(shlex.split(running), cwd=tmp_path, stdout=subprocess.PIPE, text=True) as worker:
-            told = [worker.stdout.readline().strip() for _ in DELIVERED]
+            told = [worker.stdout.readline().strip() for _ in delivered]
             worker.kill()
-    assert told == DELIVERED
+    assert told == delivered == [f"deliver letter-17, attempt {number}" for number in (1, 2)]
+
+
+def methods(text: str) -> set[tuple[str, int]]:
+    """The methods in a text, each with the number of its parameters."""
+    return {(name, len(words.split(",")) if words else 0) for name, words in METHOD.findall(text)}
+
+
+def test_the_methods_of_a_delay_queue() -> None:
+    """Each is in a table of the page that compares them, but for those of every object."""
+    told = re.sub(r"<[^<>]*>", "", run("javap", "-public", "java.util.concurrent.DelayQueue", *INHERITED))
+    headings = "The class's own methods", "Inherited methods, except those of every object"
+    rows = [row for heading in headings for row in tables(section("docs/DELAYQUEUE.md", heading))[0]]
+    there = methods(told.replace("java.util.concurrent.DelayQueue", "DelayQueue"))
+    assert methods("".join(row[0] for row in rows)) == there - {("equals", 1), ("hashCode", 0)}
 
 
 @pytest.mark.skipif(not MAY_BUILD, reason="there is no mvn, or not all of its plugins")
