@@ -177,6 +177,14 @@ TRIED = {
         "tools/service": "test_a_run_judged_from_outside", '{"session"': "test_the_record_of_the_page",
         "history 3": "test_a_history_of_the_page",
     },
+    "clients/python/README.md": {
+        "pip install": "clients/python/tests", "tools/service": "test_tasks_in_five_minutes",
+        "from rb_broker_client.tasks": "test_tasks_in_five_minutes", "export PYTHONPATH": "test_tasks_in_five_minutes",
+        "def deliver": "test_workers_of_the_python_page", "python3 -m rb_broker_client worker":
+        "test_workers_of_the_python_page", "python3 -m rb_broker_client dead": "test_each_option_of_a_tool_is_there",
+        "with Producer": "test_programs_of_the_python_page", "with Broker": "test_programs_of_the_python_page",
+        **dict.fromkeys(("worker = Worker", "Worker(", "async def", "tls = ssl"), "clients/python/tests"),
+    },
     "docs/EXTENDING.md": {"tools/conform": "test_the_cases_of_a_file"},
     "docs/TESTING.md": {"dev/test": "dev/test", "ls crates": "test_the_lists_of_tests", "file: ": "dev/attack"},
 }

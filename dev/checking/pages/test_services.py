@@ -10,20 +10,26 @@ from typing import Callable, Iterator
 
 import pytest
 
+import rb_broker_client
 from checking.pages.conftest import PATIENCE
 from checking.pages.reading import blocks, page, section
 from common.program import TOP
 from serving.server import free_port
 
-HISTORY = "docs/HISTORY.md"
+HISTORY, PYTHON = "docs/HISTORY.md", "clients/python/README.md"
 
 Begins = Callable[[str], contextlib.AbstractContextManager[subprocess.Popen[str]]]
 
 
 @pytest.fixture
-def begins(tmp_path: Path, program: str) -> Begins:
+def port() -> int:
+    """The port in the place of those that pages name."""
+    return free_port()
+
+
+@pytest.fixture
+def begins(tmp_path: Path, program: str, port: int) -> Begins:
     """Begins a line of the shell, in a folder with what a checkout has. At the end it gets Ctrl-C, and must end well."""
-    port = free_port()
     for name in ("tools", "clients"):
         os.symlink(f"{TOP}/{name}", tmp_path / name)
 
@@ -62,6 +68,47 @@ def test_five_minutes_as_a_service(begins: Begins, tmp_path: Path) -> None:
                 assert offering.wait(PATIENCE) == 0
             told = re.search("The worker prints `(.*?)`", text)[1]
             assert worker.stdout.readline() == f"{told}\n"
+
+
+def one_line(block: str) -> str:
+    """Settings and a command in one line, which `env` takes."""
+    return block.replace("export ", "").replace("\n", " ").strip()
+
+
+def test_tasks_in_five_minutes(begins: Begins, tmp_path: Path, port: int) -> None:
+    serve, module, work, offer = blocks(section(PYTHON, "Tasks in five minutes"))
+    (tmp_path / "reminders.py").write_text(module.replace("7011", str(port)), "utf-8")
+    with begins(serve.strip()) as service:
+        assert is_served(service)
+        with begins(one_line(work)) as worker:
+            with begins(one_line(offer)) as offering:
+                assert offering.wait(PATIENCE) == 0
+            assert worker.stdout.readline() == "remind 17 your order\n"
+
+
+def test_workers_of_the_python_page(begins: Begins, tmp_path: Path) -> None:
+    module, commands, *_ = blocks(section(PYTHON, "Workers, one function for each job"))
+    serve, _, tasks, _ = blocks(section(PYTHON, "Tasks in five minutes"))
+    setting, _ = tasks.split("\n", 1)
+    work, offer = (one_line(f"{setting}\n{line}") for line in commands.splitlines())
+    (tmp_path / "letters.py").write_text(module, "utf-8")
+    with begins(serve.strip()) as service:
+        assert is_served(service)
+        with begins(work) as worker:
+            with begins(offer) as offering:
+                assert offering.wait(PATIENCE) == 0
+            told = {worker.stdout.readline() for _ in range(2)}
+    assert told == {f"deliver letter-{number} attempt 1\n" for number in (17, 18)}
+
+
+def test_programs_of_the_python_page(begins: Begins, port: int) -> None:
+    programs = [block for block in blocks(page(PYTHON)) if block.startswith(("with Producer", "with Broker"))]
+    with begins("tools/service") as service:
+        assert is_served(service) and len(programs) == 2
+        for program in programs:
+            names = dict(vars(rb_broker_client))
+            exec(program.replace("7011", str(port)), names)
+    assert [answer.id > names["job"].id for answer in names["answers"]] == 3 * [True]
 
 
 def test_a_run_judged_from_outside(begins: Begins) -> None:
