@@ -3,9 +3,8 @@ import re
 from typing import Callable, Match, NamedTuple, Sequence
 
 from rb_broker_formats.element import NONE, Element
+from rb_broker_formats.protocol import MOST_HELD
 from verifying.history import ANY, History
-
-MOST_HELD = 64
 
 
 class Rules(NamedTuple):

@@ -9,9 +9,9 @@ from array import array
 from collections import Counter, deque
 
 from rb_broker_formats.acts import given_ids
-from verifying.account import MOST_HELD
-from verifying.calls import NEVER, Calls, Session
 from rb_broker_formats.element import NONE
+from rb_broker_formats.protocol import MOST_HELD
+from verifying.calls import NEVER, Calls, Session
 
 
 def follow_ends(calls: Calls) -> Counter[str]:
