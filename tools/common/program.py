@@ -9,7 +9,7 @@ TOP = os.path.dirname(os.path.dirname(os.path.dirname(os.path.realpath(__file__)
 PROGRAM = os.path.join(TOP, "crates", "rb_broker", "out", "rb_broker")
 
 # The program of an installed package, of which the tools are a part.
-INSTALLED = os.path.join(TOP, "..", "..", "bin", "rb_broker")
+INSTALLED = os.path.join(TOP, "..", "..", "lib", "rb_broker", "rb_broker")
 
 # The setting that names the program that tests run, if it is not this checkout's.
 TESTED = "RB_BROKER_PROGRAM"

@@ -1,12 +1,14 @@
 """What the package installs: the service, and beside it the tools, examples and pages that its pages tell of."""
+import filecmp
 import gzip
 import re
 from pathlib import Path
 
 import pytest
 
+from bundling.debian import version_of_repository
 from bundling.manuals import COMMANDS
-from bundling.tests.running import Told, run
+from bundling.tests.running import DONE, Told, run
 from bundling.tests.serving_below import FEW, serving, talk
 from common.program import TOP
 
@@ -24,6 +26,15 @@ def test_two_runs_of_a_service(root: Path, tmp_path: Path) -> None:
             replies = talk(service.port, *requests, "QUIT")
             assert re.fullmatch(form, replies), replies
             assert service.stop() == 0 and " left=2" in "\n".join(service.lines), service.lines
+
+
+def test_the_program(root: Path, program: str) -> None:
+    """It is packed byte for byte, and is begun by a script, which knows the version."""
+    assert filecmp.cmp(f"{root}/usr/lib/rb_broker/rb_broker", program, shallow=False)
+    command = f"{root}/usr/bin/rb_broker"
+    assert run(command, "script") == DONE
+    told = run("env", f"DPKG_ADMINDIR={root}/var/lib/dpkg", command, "--version")
+    assert told == Told(0, f"rb_broker {version_of_repository()[0]}\n", "")
 
 
 def test_tools_that_pages_name(root: Path) -> None:
