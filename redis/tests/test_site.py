@@ -19,8 +19,7 @@ from rb_broker_redis.site import Site
 from rb_broker_redis.watched import State
 from rb_broker_redis.watching.http import HttpServer
 from reporting.tests.support import PageTest
-from reporting.tests.test_sight import contrast, luminance
-from servicing.tests.test_browser import COLORS, HOSTILE, SCHEMES, TOO_WIDE, WIDTHS
+from servicing.tests.test_browser import HOSTILE
 from servicing.tests.test_metrics import PROMTOOL, promtool
 
 ALERTS = Path(__file__).parents[2] / "examples" / "alerts_redis.yml"
@@ -183,21 +182,10 @@ class BrowserTest(PageTest):
         self.browser.go(f"http://127.0.0.1:{server.server_address[1]}/")
 
     def test_every_width_and_scheme(self) -> None:
-        """As it is seen on a telephone and on a screen, light and dark, with the contrast of WCAG 2 at its level AA."""
         first = state(queues=(), seen_at=None, is_joined=False)
         for name, shown in (("usual", state()), ("first", first), ("troubled", troubled())):
             self.show(Shown(shown, may_change=True))
-            for width in WIDTHS:
-                self.browser.resize(width, 900)
-                for scheme in SCHEMES:
-                    self.browser.prefer(scheme)
-                    with self.subTest(state=name, width=width, scheme=scheme):
-                        self.assertEqual(self.browser.value("document.documentElement.scrollWidth"), width)
-                        self.assertEqual(self.browser.value(TOO_WIDE), [])
-                        body = self.browser.value("getComputedStyle(document.body).backgroundColor")
-                        self.assertEqual(luminance(body) < 0.1, scheme == "dark")
-                        for words, color, behind in self.browser.value(COLORS):
-                            self.assertGreaterEqual(contrast(color, behind), 4.5, words)
+            self.assert_is_seen_well(name)
         self.assertEqual(self.browser.complaints, [])
 
     def test_a_form_is_sent_and_texts_stay_text(self) -> None:

@@ -1,4 +1,5 @@
 """What several tests need: the figures of a text, the tool within this process or as a command, and a browser."""
+import math
 import re
 import subprocess
 import tempfile
@@ -12,6 +13,30 @@ from history_texts import read
 from reporting import tests
 from reporting.figures import Figures, figures_of
 from reporting.tests.browser import PATIENCE, Browser
+
+# The parts of the page that are wider than their room.
+TOO_WIDE = """[document.documentElement, ...document.querySelectorAll('.scrolled, section, p, td')]
+    .filter((it) => it.scrollWidth > it.clientWidth).map((it) => it.outerHTML.slice(0, 100))"""
+# The colors of words, and of what lies behind them.
+COLORS = """[...document.querySelectorAll('h1, h2, p, th, td, a')]
+    .filter((it) => it.textContent.trim() !== '').map((it) => {
+        const isClear = (node) => getComputedStyle(node).backgroundColor === 'rgba(0, 0, 0, 0)';
+        let behind = it;
+        while (isClear(behind)) { behind = behind.parentElement; }
+        return [it.outerHTML.slice(0, 80), getComputedStyle(it).color, getComputedStyle(behind).backgroundColor];
+    })"""
+
+
+def luminance(color: str) -> float:
+    """The relative luminance of a color such as rgb(27, 33, 40), as WCAG 2 defines it."""
+    parts = [int(part) / 255 for part in color[color.index("(") + 1:-1].split(",")[:3]]
+    red, green, blue = [part / 12.92 if part <= 0.04045 else math.pow((part + 0.055) / 1.055, 2.4) for part in parts]
+    return 0.2126 * red + 0.7152 * green + 0.0722 * blue
+
+
+def contrast(one: str, other: str) -> float:
+    low, high = sorted((luminance(one), luminance(other)))
+    return (high + 0.05) / (low + 0.05)
 
 
 def figures(text: str, last: int | None = None) -> Figures:
@@ -56,6 +81,22 @@ class PageTest(unittest.TestCase):
         while (told := self.browser.value(expression)) != expected and time.monotonic() < end:
             time.sleep(0.05)
         self.assertEqual(told, expected)
+
+
+    def assert_is_seen_well(self, name: str) -> None:
+        """On a telephone and on a screen, light and dark, nothing is wider than its room, and words have the contrast
+        of WCAG 2 at its level AA."""
+        for width in (420, 1200):
+            self.browser.resize(width, 900)
+            for scheme in ("light", "dark"):
+                self.browser.prefer(scheme)
+                with self.subTest(state=name, width=width, scheme=scheme):
+                    self.assertEqual(self.browser.value("document.documentElement.scrollWidth"), width)
+                    self.assertEqual(self.browser.value(TOO_WIDE), [])
+                    body = self.browser.value("getComputedStyle(document.body).backgroundColor")
+                    self.assertEqual(luminance(body) < 0.1, scheme == "dark")
+                    for words, color, behind in self.browser.value(COLORS):
+                        self.assertGreaterEqual(contrast(color, behind), 4.5, words)
 
 
 class ReportPageTest(PageTest):

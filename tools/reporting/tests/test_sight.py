@@ -1,8 +1,6 @@
 """The page as it is seen: at the widths of a telephone and of screens, light and dark."""
-import math
-
 from reporting.tests.large_histories import history
-from reporting.tests.support import ReportPageTest
+from reporting.tests.support import ReportPageTest, contrast, luminance
 from reporting.tests.test_plots import backlog
 from reporting.tests.test_series import RUNS
 
@@ -31,18 +29,6 @@ WORDS = """(() => {
 WORDS_OF_PAGE = [("h2", "color"), (".note", "color"), ("td a", "color"), ("svg text.x", "fill"), ("input", "color"),
                  (".reading", "color")]
 MARKS = [(mark, "stroke") for mark in (".line.standing", ".line.expired", ".line.median", ".cursor")]
-
-
-def luminance(color: str) -> float:
-    """The relative luminance of a color such as rgb(27, 33, 40), as WCAG 2 defines it."""
-    parts = [int(part) / 255 for part in color[color.index("(") + 1:-1].split(",")[:3]]
-    red, green, blue = [part / 12.92 if part <= 0.04045 else math.pow((part + 0.055) / 1.055, 2.4) for part in parts]
-    return 0.2126 * red + 0.7152 * green + 0.0722 * blue
-
-
-def contrast(one: str, other: str) -> float:
-    low, high = sorted((luminance(one), luminance(other)))
-    return (high + 0.05) / (low + 0.05)
 
 
 class SightTest(ReportPageTest):

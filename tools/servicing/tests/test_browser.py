@@ -3,14 +3,11 @@ import dataclasses
 from typing import Any
 
 from reporting.tests.support import PageTest
-from reporting.tests.test_sight import contrast, luminance
 from servicing.texts import attention, headline, since, tables
 from servicing.endpoints import answer_of
 from servicing.state import Alert, Board, Phase, Queue, Reason, State
 from servicing.tests.support import AT, HELD, connection, first_state, state, troubled_state
 from rb_broker_redis.watching.http import HttpServer
-
-WIDTHS, SCHEMES = (420, 1200), ("light", "dark")
 
 STATE, TITLE = "document.querySelector('#state').textContent", "document.title"
 # All that the page shows.
@@ -21,17 +18,6 @@ SEEN = """(() => {
         [...document.querySelectorAll('main table')].map((it) => [...it.tBodies[0].rows].map((row) =>
             texts(row.cells)))];
 })()"""
-# The parts of the page that are wider than their room.
-TOO_WIDE = """[document.documentElement, ...document.querySelectorAll('.scrolled, section, p, td')]
-    .filter((it) => it.scrollWidth > it.clientWidth).map((it) => it.outerHTML.slice(0, 100))"""
-# The colors of words, and of what lies behind them.
-COLORS = """[...document.querySelectorAll('h1, h2, p, th, td, a')]
-    .filter((it) => it.textContent.trim() !== '').map((it) => {
-        const isClear = (node) => getComputedStyle(node).backgroundColor === 'rgba(0, 0, 0, 0)';
-        let behind = it;
-        while (isClear(behind)) { behind = behind.parentElement; }
-        return [it.outerHTML.slice(0, 80), getComputedStyle(it).color, getComputedStyle(behind).backgroundColor];
-    })"""
 
 HOSTILE = "<img/src=x/onerror=document.title=1>"
 
@@ -109,17 +95,6 @@ class ServedTest(PageTest):
         self.browser.complaints.clear()
 
     def test_every_width_and_scheme(self) -> None:
-        """As it is seen on a telephone and on a screen, light and dark, with the contrast of WCAG 2 at its level AA."""
         for name, it in (("usual", state()), ("first", first_state()), ("troubled", troubled_state())):
             self.show(it)
-            for width in WIDTHS:
-                self.browser.resize(width, 900)
-                for scheme in SCHEMES:
-                    self.browser.prefer(scheme)
-                    with self.subTest(state=name, width=width, scheme=scheme):
-                        self.assertEqual(self.browser.value("document.documentElement.scrollWidth"), width)
-                        self.assertEqual(self.browser.value(TOO_WIDE), [])
-                        body = self.browser.value("getComputedStyle(document.body).backgroundColor")
-                        self.assertEqual(luminance(body) < 0.1, scheme == "dark")
-                        for words, color, behind in self.browser.value(COLORS):
-                            self.assertGreaterEqual(contrast(color, behind), 4.5, words)
+            self.assert_is_seen_well(name)
