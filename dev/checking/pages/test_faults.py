@@ -81,12 +81,13 @@ def test_the_events_of_a_service() -> None:
     assert events and not {event for event in events if f'"{event}"' not in of_service()}
 
 
-LINES = [line for row in tables(section(OPERATING, "When nothing is served"))[0] for line in code(row[1])]
+LINES = [(row[0], line) for row in tables(section(OPERATING, "When nothing is served"))[0] for line in code(row[1])]
 
 
-@pytest.mark.parametrize("line", LINES)
-def test_the_lines_of_a_service_that_ends(line: str) -> None:
+@pytest.mark.parametrize(("status", "line"), LINES)
+def test_the_lines_of_a_service_that_ends(status: str, line: str) -> None:
     """Each piece between what varies, `..`, is a text of the service, or a fault of the program."""
+    assert status in ("1", "2")
     texts = re.sub(r'"\s*\n\s*f?"', "", of_service() + source("crates/rb_ending/src/broker_fault.rt"))
     for piece in re.split(r"\.\.| N\b|: Address already in use|event=|: rb_broker: |\bthe service of process\b", line):
         piece = piece.strip(" ,()")
