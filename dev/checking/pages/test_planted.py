@@ -60,6 +60,24 @@ PLANTED = [
     ("docs/EXTENDING.md", "dev/cases crates/rb_cases/data/queues.rows", "dev/case crates/rb_cases/data/queues.rows",
      "test_each_file_is_there"),
     ("docs/EXTENDING.md", "rb_cases/data/scripts.case", "rb_cases/data/script.case", "test_each_file_is_there"),
+    ("docs/EXTENDING.md", "`reason_to_skip`", "`reason_to_pass`", "test_each_name_is_in_the_sources"),
+    ("docs/ARCHITECTURE.md", "`rb_pairing`", "`rb_pairs`", "test_each_name_is_in_the_sources"),
+    ("docs/DELAYQUEUE.md", "throws `RefusedException`", "throws `RefusalException`", "test_each_name_is_in_the_sources"),
+    ("docs/SCALING.md", "load run.txt --began 2026", "load run.txt --start 2026", "test_each_option_of_a_tool_is_there"),
+    (REDIS, "rb_broker_redis dead --queue jobs --drop", "rb_broker_redis dead --queue jobs --forget",
+     "test_each_option_of_a_tool_is_there"),
+    ("docs/PERFORMANCE.md", "bench/python_worker.py --far", "bench/python_worker.py --away",
+     "test_each_option_of_a_tool_is_there"),
+    (PYTHON, "reminders:app --threads 4", "reminders:app --workers 4", "test_tasks_in_five_minutes"),
+    (PYTHON, "letters:deliver --port 7011 --concurrency 8\n", "letters:deliver --port 7011 --concurrency 80\n",
+     "test_workers_of_the_python_page"),
+    (PYTHON, "delay=2.5)\n", "after=2.5)\n", "test_programs_of_the_python_page"),
+    (PYTHON, "`overdue=60`", "`overdue=90`", "test_a_number"),
+    (PROTOCOL, "turns last about 200 seconds", "turns last about 100 seconds", "test_a_number"),
+    (OPERATING, "They end at 2^40", "They end at 2^41", "test_a_number"),
+    ("README.md", "by `--every` (5m)", "by `--every` (6m)", "test_a_number"),
+    ("README.md", "93,922 with 16", "93,822 with 16", "test_the_measured_numbers_of_the_first_page"),
+    ("README.md", "with Linux 5.6", "with Linux 5.4", "test_what_a_service_needs"),
 ]
 LINKS = [
     (OPERATING, "(PROTOCOL.md#served-sessions)", "(PROTOCOL.md#served-session)"),
@@ -67,6 +85,8 @@ LINKS = [
     ("README.md", "(docs/PROVED.md#the-guarantee)", "(docs/PROVED.md#a-guarantee)"),
     (REDIS, "(#several-queues-as-one)", "(#many-queues-as-one)"),
     ("docs/SCALING.md", "(OPERATING.md#trying-a-load)", "(OPERATING.md#trying-some-load)"),
+    (OPERATING, "(service.png)", "(services.png)"),
+    ("CONTRIBUTING.md", "(docs/TESTING.md#wrong-bodies)", "(docs/TESTING.md#bad-bodies)"),
 ]
 
 

@@ -44,9 +44,10 @@ def test_each_file_is_there(name: str) -> None:
 
 @cache
 def names_in_sources() -> set[str]:
-    """The words of all files that are no pages, and of their paths."""
+    """The words of all files that are no pages, nor have what is planted in these, and of their paths."""
     files = subprocess.run(["git", "ls-files"], cwd=TOP, capture_output=True, text=True, check=True).stdout.splitlines()
-    texts = (Path(TOP, file).read_text("utf-8", "ignore") for file in files if not file.endswith((".md", ".png")))
+    texts = (Path(TOP, file).read_text("utf-8", "ignore") for file in files
+             if not file.endswith((".md", ".png", "test_planted.py")))
     return {*re.findall(r"\w+", "\n".join([*files, *texts]))}
 
 
