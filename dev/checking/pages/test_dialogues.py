@@ -185,6 +185,11 @@ TRIED = {
         "with Producer": "test_programs_of_the_python_page", "with Broker": "test_programs_of_the_python_page",
         **dict.fromkeys(("worker = Worker", "Worker(", "async def", "tls = ssl"), "clients/python/tests"),
     },
+    "redis/README.md": {
+        "clients --TCP": "a picture", "apt-get install": "dev/setup", "python3 -m": "test_each_option_of_a_tool_is_there",
+        **dict.fromkeys(("mkdir -p", "export PYTHONPATH", "cat > letters.py", "exec 3<>"), "redis/tests"),
+    },
+    "docs/SCALING.md": {"/usr/bin/python3 -m rb_broker_redis load": "redis/tests"},
     "docs/EXTENDING.md": {"tools/conform": "test_the_cases_of_a_file"},
     "docs/TESTING.md": {"dev/test": "dev/test", "ls crates": "test_the_lists_of_tests", "file: ": "dev/attack"},
 }
