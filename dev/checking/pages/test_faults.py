@@ -7,6 +7,7 @@ import pytest
 from checking.pages.conftest import Run
 from checking.pages.reading import code, page, section, tables
 from common.program import TOP
+from rb_broker_formats.acts import BY_KEYWORD
 
 PROTOCOL, HISTORY, OPERATING = (f"docs/{name}.md" for name in ("PROTOCOL", "HISTORY", "OPERATING"))
 ENDS = [(int(row[0]), "".join(code(row[1])[:1])) for row in tables(section(PROTOCOL, "How a run ends"))[0]]
@@ -26,11 +27,11 @@ def source(*names: str) -> str:
     return "\n".join(Path(TOP, name).read_text("utf-8") for name in names)
 
 
-def verdicts() -> set[str]:
-    """The reasons in the verdicts of the case files, which the gate compares with the program's."""
+def verdicts() -> set[tuple[str, str]]:
+    """The first words and the reasons in the verdicts of the case files, which the gate compares with the program's."""
     files = Path(TOP, "crates/rb_cases/data").glob("*.case")
     text = "\n".join(file.read_text("utf-8") for file in files)
-    return {*re.findall(r"^verdict \w+ \d+ (.*)$", text, re.M)}
+    return {*re.findall(r"^verdict (\w+) \d+ (.*)$", text, re.M)}
 
 
 def test_the_faults_of_a_run() -> None:
@@ -60,7 +61,13 @@ def test_the_reasons_of_replays() -> None:
     headings = "Why a history is not legal", "Why retries are not right"
     rows = [row for heading in headings for row in tables(section(HISTORY, heading))[0]]
     reasons = {reason for row in rows for reason in re.findall(r": `([a-z ]+)`|, `([a-z ]+)`", row[1])}
-    assert unreadable | {one or other for one, other in reasons} == verdicts()
+    assert unreadable | {one or other for one, other in reasons} == {reason for _, reason in verdicts()}
+    assert {*re.findall(r"^\| `(\w+) (?:LINE|INDEX) REASON`", page(HISTORY), re.M)} == {word for word, _ in verdicts()}
+
+
+def test_the_words_of_acts() -> None:
+    rows = tables(section(HISTORY, "The third version"))[1]
+    assert {word.partition(" ")[0] for row in rows for word in code(row[1]) if word != "MAX"} == {*BY_KEYWORD}
 
 
 def test_the_kinds_of_faults_of_verify() -> None:

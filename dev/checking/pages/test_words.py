@@ -57,6 +57,36 @@ def test_each_name_is_in_the_sources(name: str) -> None:
     assert not absent
 
 
+# Names that belong to another, as `Rests::new`, but for those that `dev/check docs` looks up.
+OWNED = [(name, owner, owned) for name in NOW if name not in ("docs/PROVED.md", "docs/HEADLINE.md")
+         for owner, owned in re.findall(r"(\w+)::(\w+)", "\n".join(code(page(name))))]
+
+
+@pytest.mark.parametrize(("name", "owner", "owned"), OWNED)
+def test_each_owned_name_is_declared(name: str, owner: str, owned: str) -> None:
+    """In a file that names the owner, or in the owner's crate."""
+    files = [file for file in Path(TOP, "crates").glob("*/src/**/*.rt") if owner in file.parts or
+             re.search(rf"\b{owner}\b", file.read_text("utf-8"))]
+    declared = rf"\b(?:fn|struct|enum|trait|type) {owned}\b|^ +{owned}\b *[,({{]"
+    assert any(re.search(declared, file.read_text("utf-8"), re.M) for file in files)
+
+
+# Words in code that are no names, each with the file of the sources that has it.
+TEXTS = [
+    ("docs/OPERATING.md", "with an element `(.*?)`", "tools/servicing/opening.py"),
+    ("docs/OPERATING.md", "is `rb_broker/PORT` in `(.*?)`", "tools/servicing/settings.py"),
+    ("docs/OPERATING.md", "or in `(XDG_.*?)`", "tools/servicing/settings.py"),
+    ("docs/OPERATING.md", "are in `RB_BROKER_OPTIONS` of `(.*?)` for all", "packaging/rb_broker@.service"),
+    ("docs/OPERATING.md", "and of `(.*?@)7011` for one", "packaging/rb_broker@.service"),
+    ("docs/OPERATING.md", "and `examples/` is in `(.*?)`", "tools/common/words.py"),
+]
+
+
+@pytest.mark.parametrize(("name", "told", "file"), TEXTS)
+def test_a_text(name: str, told: str, file: str) -> None:
+    assert re.search(told, page(name))[1] in Path(TOP, file).read_text("utf-8")
+
+
 @cache
 def options_of(tool: str) -> set[str]:
     """Those of its --help. A module of Python's is named with its command."""
@@ -71,6 +101,14 @@ def test_each_option_of_a_tool_is_there(name: str) -> None:
     absent = [f"{tool} {option}" for tool, words in COMMAND.findall(spoken(name)) if not tool.endswith(".sh")
               for option in re.findall(r"(?<!\S)--[a-z]+(?:-[a-z]+)*", words) if option not in options_of(tool)]
     assert not absent
+
+
+def test_the_actions_of_tasks() -> None:
+    told = {*re.findall(r"\btasks (\w+) reminders:app", spoken("clients/python/README.md"))}
+    words = [sys.executable, "-B", "-m", "rb_broker_client", "tasks", "--help"]
+    environment = {**os.environ, "PYTHONPATH": f"{TOP}/clients/python/src"}
+    said = subprocess.run(words, capture_output=True, text=True, check=True, env=environment).stdout
+    assert told == {*re.search(r"\{(.*?)\}", said)[1].split(",")}
 
 
 @pytest.mark.parametrize("name", NOW)
