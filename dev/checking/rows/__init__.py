@@ -1,6 +1,8 @@
 """rb_cases, its program and its tables of rows."""
+import difflib
 import os
 import shutil
+import subprocess
 import sys
 from pathlib import Path
 
@@ -23,6 +25,14 @@ def rb_cases(room: str) -> Path:
     shutil.move(built(str(CRATE), room), UNPROVED)
     os.utime(UNPROVED)
     return UNPROVED
+
+
+def differences_of(program: Path, crate: Path) -> tuple[list[str], str]:
+    """Runs all that a folder's `args` name. What differs from its `stdout`, as lines of a diff, and the last line."""
+    files, wanted = ((crate / name).read_text("utf-8").splitlines() for name in ("args", "stdout"))
+    ran = subprocess.run([program, *files], cwd=crate / "data", stdout=subprocess.PIPE, encoding="utf-8", check=False)
+    told = ran.stdout.splitlines()
+    return [*difflib.unified_diff(wanted, told, "stdout", "rb_cases", lineterm="", n=0)], told[-1]
 
 
 def tables_of(path: Path) -> list[list[str]]:

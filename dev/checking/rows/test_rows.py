@@ -11,7 +11,7 @@ from typing import Callable
 import pytest
 
 from checking.pages.reading import blocks, section
-from checking.rows import CRATE, rb_cases, tables_of
+from checking.rows import CRATE, differences_of, rb_cases, tables_of
 from common.program import TOP
 
 OTHER = " @"  # what is put behind an answer, which no answer ends with
@@ -75,6 +75,18 @@ def test_the_command_of_the_page() -> None:
     ran = cases(path)
     assert (command, ran.returncode, ran.stderr) == ("dev/cases", 0, "")
     assert re.search(r"^0 cases and \d+ tables, 0 not as they must be\n\Z", ran.stdout, re.M)
+
+
+def test_what_the_gate_wants_to_be_printed(tmp_path: Path) -> None:
+    """A case that stdout lacks, and the counts with it, are what differs."""
+    (tmp_path / "data").mkdir()
+    (tmp_path / "data/a.case").write_text("case one\n> SIZE\n< SIZE 0\nends input 0\n\ncase two\nends input 0\n")
+    (tmp_path / "args").write_text("a.case\n")
+    (tmp_path / "stdout").write_text("a.case: one: ok\n1 cases and 0 tables, 0 not as they must be\n")
+    told, counts = differences_of(rb_cases(str(tmp_path)), tmp_path)
+    assert counts == "2 cases and 0 tables, 0 not as they must be"
+    assert [line for line in told if line[:1] in "+-" and line[:3] not in ("+++", "---")] == [
+        "-1 cases and 0 tables, 0 not as they must be", "+a.case: two: ok", f"+{counts}"]
 
 
 @pytest.mark.parametrize(("name", "text", "told"), [
