@@ -1,9 +1,10 @@
-"""The package as a command, with the built program; and its worker as a process that is sent signals."""
+"""The package as a command, with the built program; and its worker as a process that is killed, or sent signals."""
 import signal
 import subprocess
 import time
 from pathlib import Path
 
+from history import History
 from server import PATIENCE, ServedTest
 
 HANDLERS = """
@@ -64,9 +65,9 @@ class CommandTest(ServedTest):
             self.assertIn("WARNING attempt 1 of job bad failed", errors)
             self.assert_ends(server, 6)
 
-    def start_slow(self):
+    def start_slow(self, sessions=2, *options):
         """A server, and a worker in the middle of a slow job."""
-        server = self.serve("--sessions", 2)
+        server = self.serve("--sessions", sessions, *options)
         self.assert_done(server, "offer", 0, "slow")
         worker = self.start(server)
         self.assertEqual(worker.stdout.readline(), "slow has begun\n")
@@ -85,6 +86,16 @@ class CommandTest(ServedTest):
         worker.send_signal(signal.SIGTERM)
         said, _ = worker.communicate(timeout=PATIENCE)
         self.assertEqual((worker.returncode, said), (-signal.SIGTERM, ""))
+
+    def test_a_worker_that_is_killed_with_a_job(self):
+        server, killed = self.start_slow(3, "--history", self.path("history"))
+        killed.kill()
+        worker = self.start(server)
+        self.assertEqual([worker.stdout.readline() for _ in range(2)], ["slow has begun\n", "slow 2\n"])
+        self.assert_stops(worker, "done 1, again 0, dead 0, lost 0, unheard 0\n")
+        self.assert_ends(server, 3, self.path("history"))
+        history = History(self.path("history"))
+        self.assertEqual((history.attempts(), history.given), ({"slow": [1, 2]}, [0, 1]))
 
     def test_it_says_when_a_server_is_gone_and_when_it_is_served_again(self):
         server = self.serve("--sessions", 9)

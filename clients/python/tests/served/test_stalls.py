@@ -1,4 +1,4 @@
-"""Handlers that hang, and servers that are busy."""
+"""Handlers that hang, and servers that are busy or let nothing wait."""
 import threading
 import time
 
@@ -63,7 +63,16 @@ class HangTest(ServedTest):
 
 
 class CrowdTest(ServedTest):
-    """A server that is busy."""
+    """A server that is busy, or gives waits up."""
+
+    def test_a_server_that_gives_each_wait_up(self):
+        server = self.serve("--turns", 0, "--sessions", 3)
+        crew = self.gather(server, 1, lambda job: True)
+        for payload in ("first", "second"):
+            self.offer(server, payload, delay=0.2)
+            self.wait_until(lambda: payload in crew.done())
+        self.assertEqual(crew.stop(), Report(done=2))
+        self.assert_ends(server, 3)
 
     def test_a_stop_while_the_server_is_busy_costs_no_attempt(self):
         server = self.serve("--sessions", 2, "--workers", 1, "--history", self.path("history"))

@@ -12,6 +12,13 @@ from rb_broker_client import AsyncBroker, AsyncProducer, AsyncWorker, Offered, R
 class CancelTest(ScriptedTest, unittest.IsolatedAsyncioTestCase):
     """Tasks that are cancelled."""
 
+    async def test_nothing_can_be_asked_while_the_reply_to_another_is_due(self):
+        async with AsyncBroker(self.play("TAKE > nothing").port, patience=PATIENCE) as broker:
+            with self.assertRaises(TimeoutError):
+                await asyncio.wait_for(broker.take(), 0.05)
+            with self.assertRaises(RuntimeError):
+                await broker.size()
+
     async def test_the_next_offer_begins_another_session(self):
         server = self.play("AT 0; OFFER 5 a > nothing", "AT 0; OFFER 5 b > OFFERED 1 5")
         async with AsyncProducer(server.port, patience=PATIENCE) as producer:

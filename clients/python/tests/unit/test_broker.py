@@ -62,8 +62,6 @@ class BrokerTest(BrokerCase):
         self.assertFalse(broker.is_lost() or broker.answers)
         broker.receive()
         self.assertEqual(broker.received(), [3])
-        broker.close()
-        self.assertTrue(broker.is_lost())
 
     def test_ports_at_which_no_server_can_be(self):
         for kind in (Broker, AsyncBroker, Producer, AsyncProducer, functools.partial(Worker, print)):
@@ -117,6 +115,13 @@ class BrokerTest(BrokerCase):
         connect = functools.partial(socket.create_connection, source_address=("127.0.0.1", port))
         with unittest.mock.patch("socket.create_connection", connect):
             self.assertRaises(ConnectionRefusedError, self.kind, port)
+
+    def test_a_lost_connection_is_known_once_its_end_has_come(self):
+        broker = self.connect("SIZE > SIZE 3")
+        self.assertEqual(broker.size(), 3)
+        self.assertFalse(broker.is_lost())
+        broker.close()
+        self.assertTrue(broker.is_lost())
 
 
 @for_both_kinds

@@ -1,9 +1,11 @@
 """The package as a command, over scripted servers."""
 import contextlib
 import io
+import json
 import shlex
 import unittest.mock
 
+import rb_broker_client
 from scripted import ScriptedTest, free_port, table
 from rb_broker_client.__main__ import _delay, main
 from rb_broker_client.durations import nanoseconds
@@ -85,6 +87,14 @@ class CommandTest(ScriptedTest):
                 self.assertEqual((status, said), (2, ""))
                 self.assertRegex(errors, r"(?m)^(rb_broker_client: |python3 -m rb_broker_client.*: error: )[^\n]+\n\Z")
 
+    def test_a_record(self):
+        server = self.play("AT 0; SIZE > SIZE 3; QUIT")
+        self.assertEqual(run("size", "--port", server.port, "--record", self.path)[0], 0)
+        with open(self.path, encoding="ascii") as file:
+            lines = [json.loads(it) for it in file]
+        self.assertEqual([(it["request"], it["reply"]) for it in lines],
+                         [("AT 0", ["ERR 1 syntax"]), ("SIZE", ["SIZE 3"]), ("QUIT", ["BYE"])])
+
     def test_help(self):
         commands = ("worker", "offer", "size", "peek", "drain", "remove", "clear", "dead")
         for words in (("--help",), *((it, "--help") for it in commands)):
@@ -93,3 +103,6 @@ class CommandTest(ScriptedTest):
             self.assertIn(f"usage: python3 -m rb_broker_client {'' if words[0] == '--help' else words[0]}", said)
             self.assertEqual(f"\nexample: python3 -m rb_broker_client {words[0]} " in said, words[0] in commands)
         self.assertTrue(all(f"\n    {it}" in run("--help")[1] for it in commands))
+
+    def test_the_version(self):
+        self.assertEqual(run("--version"), (0, f"rb_broker_client {rb_broker_client.__version__}\n", ""))

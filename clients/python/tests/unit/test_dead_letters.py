@@ -1,4 +1,4 @@
-"""Dead letters: kept in a file, shown, and offered again."""
+"""Dead letters: kept in a file or in a queue of their own, shown, and offered again."""
 import asyncio
 import fcntl
 import functools
@@ -9,10 +9,10 @@ from from_threads import for_both_kinds
 from scripted import PATIENCE, ScriptedTest, free_port
 from test_command import run
 from worker_case import LAST, WorkerCase
-from rb_broker_client import AsyncWorker, DeadLetters, Job, Report
+from rb_broker_client import AsyncWorker, DeadLetters, Job, Producer, Report
 from rb_broker_client.dead_letters import read_letters
 
-BAD = "WAIT > ITEM 2 1000 3 b; FAIL 2 > DEAD 2"
+BAD, KEEPS_B = "WAIT > ITEM 2 1000 3 b; FAIL 2 > DEAD 2", "AT 0; OFFER 0 b > OFFERED 0 5"
 
 
 class FileCase(ScriptedTest):
@@ -35,6 +35,11 @@ class KeptTest(FileCase, WorkerCase):
         (letter,) = self.letters()
         self.assertRegex(letter.pop("died"), r"^20\d\d-\d\d-\d\dT\d\d:\d\d:\d\d\.\d{3}\+00:00$")
         self.assertEqual(letter, {"payload": "b", "attempts": 3, "id": 2})
+
+    def test_a_queue_of_its_own(self):
+        with Producer(self.play(KEEPS_B).port, patience=PATIENCE) as producer:
+            options = {"on_dead": lambda job: producer.offer(job.payload)}
+            self.assert_reports(Report(dead=1), f"{BAD}; {LAST}", **options)
 
     def test_several_threads_have_one_file(self):
         keep = lambda number: self.keep(*[f"{number}-{it}" for it in range(50)])
