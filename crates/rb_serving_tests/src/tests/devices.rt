@@ -5,7 +5,7 @@ ghost use Rattle.std.specs.Prelude.{◌≡◌, ◌≤◌, ◌↔◌, ◌<◌, tr
 use rb_blocking::{Clock, Gate};
 use rb_ending::{BrokerFault, audit_line};
 use rb_options::ServerRunOptions;
-use rb_protocol::LimitedReader;
+use rb_protocol::{LimitedReader, WriterStatus};
 use rb_queue::{Audit, Opening};
 use rb_replay::check;
 use rb_retry::Policy;
