@@ -1,5 +1,5 @@
 -- How a line is put together from its words.
-use Rattle.std.proofs.Common.{◌≡◌, ℕ, ◌+◌, ◌<◌, List, [], ◌∷◌, ◌++◌, length, map, take, get_or, refl, sym, ap, ◌∙◌, append_assoc, append-nil}
+use Rattle.std.proofs.Common.{◌≡◌, ℕ, ◌+◌, ◌<◌, Bool, List, [], ◌∷◌, ◌++◌, codes, if◌then◌else◌, length, map, take, get_or, refl, sym, ap, ◌∙◌, append_assoc, append-nil}
 use Rattle.std.proofs.lemmas.List.{map_more}
 use Rattle.rb_protocol.specs.Line.{spaced}
 use Rattle.rb_history.specs.HistoryText.{line_text, lines_text}
@@ -56,3 +56,15 @@ all_lines header opening end keeps events =
     ap (λ t. lines_text events ++ t) (sym (append-nil (line_text end))) ∙ sym (lines_text-append events (end ∷ [])) in
     ap (λ t. line_text header ++ (line_text opening ++ t))
     (ap (λ t. lines_text keeps ++ t) last ∙ sym (lines_text-append keeps (events ++ (end ∷ []))))
+
+-- a front, and an element's words
+pub element_line : (front id expiry origin first attempt attempt' payload payload' : List ℕ) → attempt' ≡ attempt → payload' ≡ payload
+    → (front ++ tails (id ∷ expiry ∷ origin ∷ [])) ++ (tails (first ∷ attempt' ∷ []) ++ ((SPACE ∷ []) ++ payload'))
+    ≡ front ++ tails (id ∷ expiry ∷ origin ∷ first ∷ attempt ∷ payload ∷ [])
+element_line front id expiry origin first attempt attempt' payload payload' same_attempt same_payload =
+    simp (append_assoc, append-nil, same_attempt, same_payload)
+
+-- a front, and two words, the second of which was told apart
+pub remove_line : (found : Bool) (front id word : List ℕ) → word ≡ SPACE ∷ (if found then codes "yes" else codes "no")
+    → (front ++ tails (id ∷ [])) ++ word ≡ front ++ tails (id ∷ (if found then codes "yes" else codes "no") ∷ [])
+remove_line found front id word is = simp (append_assoc, append-nil, is)

@@ -1,9 +1,9 @@
 -- What becomes of an outlet when bytes are pushed, one piece behind the other.
-use Rattle.std.proofs.Common.{◌≡◌, ℕ, List, [], ◌++◌, Option, Result, Ok, Err, refl, sym, ap, subst, ◌∙◌, append_assoc, append-nil}
+use Rattle.std.proofs.Common.{◌≡◌, ℕ, List, [], ◌++◌, Option, Result, Ok, Err, sym, ap, subst, ◌∙◌, append_assoc, append-nil}
 use Rattle.std.specs.Prelude.{IsOk, IsErr}
 use Rattle.std.specs.Io.KnownBytes.{Appends, Keeps}
 use Rattle.std.specs.declared.io.Write as Write
-use Rattle.std.proofs.KnownBytes.{Appends-nil, Appends-trans}
+use Rattle.std.proofs.KnownBytes.{Appends-trans}
 use Rattle.rb_protocol.specs.Sending.{Sends}
 use Rattle.rb_protocol.proofs.Sending.{sends_all}
 use Rattle.rb_protocol.specs.Writes.{WritesOn}
@@ -27,6 +27,38 @@ shares_more (Err fault) got got' gathered after text bytes more share = record {
   passed = share.passed;
   rest = share.rest ++ bytes;
   parts = ap (λ t. t ++ bytes) share.parts ∙ append_assoc share.passed share.rest bytes;
+  came = share.came;
+  held = tt;
+}
+
+-- what was gathered was sent, or a first part of it
+pub shares_sent : (sent sent' : Result (Unit {0}) WriteFault) (got got' got'' : Option (List ℕ)) (gathered bytes after text : List ℕ)
+    → IsOk sent → bytes ≡ gathered → after ≡ [] → Sends sent' got' bytes got'' → IsShared sent got got' gathered text
+    → IsShared sent' got got'' after (text ++ [])
+shares_sent (Err fault) sent' got got' got'' gathered bytes after text fine same none sends share = absurd (cc)
+shares_sent (Ok done) (Ok done') got got' got'' gathered bytes after text fine same none sends share = record {
+  passed = share.passed ++ bytes;
+  rest = [];
+  parts = append-nil text ∙ share.parts ∙ ap (λ t. share.passed ++ t) (share.held ∙ sym same) ∙ sym (append-nil (share.passed ++ bytes));
+  came = Appends-trans got got' got'' share.passed bytes share.came sends;
+  held = sym none;
+}
+shares_sent (Ok done) (Err fault) got got' got'' gathered bytes after text fine same none (part, left, parts, came) share = record {
+  passed = share.passed ++ part;
+  rest = left;
+  parts = append-nil text ∙ share.parts ∙ ap (λ t. share.passed ++ t) (share.held ∙ sym same ∙ parts) ∙ sym (append_assoc share.passed part left);
+  came = Appends-trans got got' got'' share.passed part share.came came;
+  held = tt;
+}
+
+-- after a write that failed, what is gathered is lost
+pub shares_lost : (sent : Result (Unit {0}) WriteFault) (got got' : Option (List ℕ)) (gathered after text : List ℕ)
+    → IsErr sent → IsShared sent got got' gathered text → IsShared sent got got' after (text ++ [])
+shares_lost (Ok done) got got' gathered after text failed share = absurd (cc)
+shares_lost (Err fault) got got' gathered after text failed share = record {
+  passed = share.passed;
+  rest = share.rest;
+  parts = append-nil text ∙ share.parts;
   came = share.came;
   held = tt;
 }
@@ -69,4 +101,23 @@ module _ {W : Type 0} (writer : Write.Ghosts W) where
     holds = λ got text held. subst (λ (w : LimitedWriter W). IsShared new.sent got (writer.contents w.inner.now) new.gathered.items (text ++ bytes)) (sym same_writer)
         (subst (λ s. IsShared s got (writer.contents old.writer.inner.now) new.gathered.items (text ++ bytes)) (sym same_sent)
         (shares_more old.sent got (writer.contents old.writer.inner.now) old.gathered.items new.gathered.items text bytes more held));
+  }
+
+  -- what was gathered is handed on
+  pub grows_sent : (old new : Outlet W writer) (bytes : List ℕ) → IsOk old.sent → bytes ≡ old.gathered.items → new.gathered.items ≡ []
+      → Sends new.sent (writer.contents old.writer.inner.now) bytes (writer.contents new.writer.inner.now) → WritesOn old.writer new.writer
+      → Grows writer old [] new
+  grows_sent old new bytes fine same none sends on = record {
+    on = on;
+    holds = λ got text held. shares_sent old.sent new.sent got (writer.contents old.writer.inner.now) (writer.contents new.writer.inner.now)
+        old.gathered.items bytes new.gathered.items text fine same none sends held;
+  }
+
+  -- a write had failed, so nothing is written
+  pub grows_stopped : (old new : Outlet W writer) → IsErr old.sent → new.writer ≡ old.writer → new.sent ≡ old.sent → Grows writer old [] new
+  grows_stopped old new failed same_writer same_sent = record {
+    on = subst (λ (w : LimitedWriter W). WritesOn old.writer w) (sym same_writer) (writes_same old.writer);
+    holds = λ got text held. subst (λ (w : LimitedWriter W). IsShared new.sent got (writer.contents w.inner.now) new.gathered.items (text ++ [])) (sym same_writer)
+        (subst (λ s. IsShared s got (writer.contents old.writer.inner.now) new.gathered.items (text ++ [])) (sym same_sent)
+        (shares_lost old.sent got (writer.contents old.writer.inner.now) old.gathered.items new.gathered.items text failed held));
   }

@@ -1,0 +1,8 @@
+-- The words and a line feed were pushed in turn.
+use Rattle.std.proofs.Common.{append_assoc, append-nil}
+use Rattle.rb_history.proofs.Outlets.{grows_as, grows_then}
+use Rattle.rb_history.proofs.history_text.push_open.Goals as goal
+
+pub returns-clause-line : goal.returns-clause-line
+returns-clause-line g c = grows_as g.W.Write c.args.outlet.now _ _ c.push.new.self (simp (append_assoc, append-nil, c.as_slice.ensures))
+    (grows_then g.W.Write c.args.outlet.now c.push_numbers.new.outlet c.push.new.self _ _ c.push_numbers.ensures.words c.push.ensures)

@@ -1,0 +1,8 @@
+-- The word with its numbers and what was given were pushed in turn.
+use Rattle.std.proofs.Common.{append_assoc, append-nil}
+use Rattle.rb_history.proofs.Outlets.{grows_as, grows_then}
+use Rattle.rb_history.proofs.text.push_poll_for.Goals as goal
+
+pub returns-clause-words : goal.returns-clause-words
+returns-clause-words g c = grows_as g.W.Write c.args.outlet.now _ _ c.push_given.new.outlet (simp (append_assoc, append-nil))
+    (grows_then g.W.Write c.args.outlet.now c.push_numbers.new.outlet c.push_given.new.outlet _ _ c.push_numbers.ensures.words c.push_given.ensures.words)
