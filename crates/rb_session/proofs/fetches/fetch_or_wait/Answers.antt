@@ -3,6 +3,7 @@ use Rattle.std.proofs.Common.{sym, subst, List}
 use Rattle.rb_retry.specs.Jobs.{answer_with}
 use Rattle.rb_retry.specs.Made.{Made}
 use Rattle.rb_session.specs.Held.{AreGiven}
+use Rattle.rb_session.proofs.Gatherings.{stays}
 use Rattle.rb_session.proofs.GivenJobs.{call_new}
 use Rattle.rb_session.proofs.fetches.fetch_or_wait.Goals as goal
 
@@ -20,3 +21,21 @@ fetch_job-requires-clause-given g c =
     subst (λ (mades : List Made). AreGiven mades c.args.held.now)
     (sym (g.met.D.Desk.misses (g.D.Desk.state c.args.desk.now) (g.D.Desk.state c.try_fetch.new.desk)
     c.in-None.ensures.tried)) c.requires.given
+
+pub returns-then-free-eq0-clause-becomes : goal.returns-then-free-eq0-clause-becomes
+returns-then-free-eq0-clause-becomes g c = stays g.W.Write c.args.outlet.now
+
+pub returns-in-Some-clause-becomes : goal.returns-in-Some-clause-becomes
+returns-in-Some-clause-becomes g c = stays g.W.Write c.args.outlet.now
+
+pub returns-in_err-before_wait-in-None-clause-becomes : goal.returns-in_err-before_wait-in-None-clause-becomes
+returns-in_err-before_wait-in-None-clause-becomes g c = c.before_wait.ensures.becomes
+
+pub returns-in_err-before_wait-in-None-clause-kept : goal.returns-in_err-before_wait-in-None-clause-kept
+returns-in_err-before_wait-in-None-clause-kept g c = c.before_wait.ensures.kept
+
+pub returns-in_ok-before_wait-in-None-clause-becomes : goal.returns-in_ok-before_wait-in-None-clause-becomes
+returns-in_ok-before_wait-in-None-clause-becomes g c = c.before_wait.ensures.becomes
+
+pub returns-in_ok-before_wait-in-None-clause-kept : goal.returns-in_ok-before_wait-in-None-clause-kept
+returns-in_ok-before_wait-in-None-clause-kept g c = c.before_wait.ensures.kept
