@@ -2,7 +2,7 @@ ghost use Rattle.std.specs.Prelude.{◌≡◌, ℕ, List, false};
 ghost use Rattle.std.specs.Borrow.{Bor};
 ghost use Rattle.clap.specs.Words.{rule_of};
 ghost use Rattle.rb_arguments.specs.Arguments.{AreTimerNames, attempts_option, calls_option, chains_flag};
-ghost use Rattle.rb_arguments.specs.Arguments.{delay_option, file_argument, from_option, history_option};
+ghost use Rattle.rb_arguments.specs.Arguments.{delay_option, file_argument, from_option, history_option, named_option};
 ghost use Rattle.rb_arguments.specs.Arguments.{port_option, rate_option, sessions_option, timer_option};
 ghost use Rattle.rb_arguments.specs.Arguments.{attentive_flag, greeting_option, silent_option, socket_option};
 ghost use Rattle.rb_arguments.specs.Arguments.{turns_option, until_input_ends_flag, workers_option};
@@ -22,10 +22,7 @@ pub(crate) fn calls_option<'a>(alloc: Global) -> Arg<'a>
     ensures rule { rule_of result ≡ calls_option }
     ensures local { result.global ≡ false }
 {
-    Arg::new(alloc, "calls")
-        .long("calls")
-        .value_name("N")
-        .help("how many calls the run has room for")
+    named(alloc, "calls", "N", "how many calls the run has room for")
         .value_parser(ValueParser::Unsigned(1, MOST_CALLS))
         .default_value("10000")
 }
@@ -35,10 +32,7 @@ pub(crate) fn timer_option<'a>(alloc: Global) -> Arg<'a>
     ensures rule { (names : Bor (List (Bor (List ℕ)))) × AreTimerNames names × (rule_of result ≡ timer_option names) }
     ensures local { result.global ≡ false }
 {
-    Arg::new(alloc, "timer")
-        .long("timer")
-        .value_name("T")
-        .help("which timer the queue uses")
+    named(alloc, "timer", "T", "which timer the queue uses")
         .value_parser(TimerKind::NAMES.as_slice())
         .default_value("heap")
 }
@@ -48,12 +42,14 @@ pub(crate) fn delay_option<'a>(alloc: Global) -> Arg<'a>
     ensures rule { rule_of result ≡ delay_option }
     ensures local { result.global ≡ false }
 {
-    Arg::new(alloc, "delay")
-        .long("delay")
-        .value_name("N")
-        .help("nanoseconds from a failure until the job comes back, 1000000000 for a second")
-        .value_parser(ValueParser::Unsigned(0, GREATEST_MOMENT))
-        .default_value("1000")
+    named(
+        alloc,
+        "delay",
+        "N",
+        "nanoseconds from a failure until the job comes back, 1000000000 for a second",
+    )
+    .value_parser(ValueParser::Unsigned(0, GREATEST_MOMENT))
+    .default_value("1000")
 }
 
 /// `--rate N`, instead of a delay. clap is not told here that the two conflict: see `with_conflict`.
@@ -61,11 +57,13 @@ pub(crate) fn rate_option<'a>(alloc: Global) -> Arg<'a>
     ensures rule { rule_of result ≡ rate_option }
     ensures local { result.global ≡ false }
 {
-    Arg::new(alloc, "rate")
-        .long("rate")
-        .value_name("N")
-        .help("nanoseconds between two attempts of a job, instead of a delay")
-        .value_parser(ValueParser::Unsigned(0, GREATEST_MOMENT))
+    named(
+        alloc,
+        "rate",
+        "N",
+        "nanoseconds between two attempts of a job, instead of a delay",
+    )
+    .value_parser(ValueParser::Unsigned(0, GREATEST_MOMENT))
 }
 
 /// `--attempts N`
@@ -73,10 +71,7 @@ pub(crate) fn attempts_option<'a>(alloc: Global) -> Arg<'a>
     ensures rule { rule_of result ≡ attempts_option }
     ensures local { result.global ≡ false }
 {
-    Arg::new(alloc, "attempts")
-        .long("attempts")
-        .value_name("N")
-        .help("how many attempts a job has")
+    named(alloc, "attempts", "N", "how many attempts a job has")
         .value_parser(ValueParser::Unsigned(1, u64::from(GREATEST_ATTEMPT)))
         .default_value("3")
 }
@@ -86,10 +81,12 @@ pub(crate) fn history_option<'a>(alloc: Global) -> Arg<'a>
     ensures rule { rule_of result ≡ history_option }
     ensures local { result.global ≡ false }
 {
-    Arg::new(alloc, "history")
-        .long("history")
-        .value_name("FILE")
-        .help("the file to write the history of the run to")
+    named(
+        alloc,
+        "history",
+        "FILE",
+        "the file to write the history of the run to",
+    )
 }
 
 /// `--from FILE`
@@ -97,10 +94,12 @@ pub(crate) fn from_option<'a>(alloc: Global) -> Arg<'a>
     ensures rule { rule_of result ≡ from_option }
     ensures local { result.global ≡ false }
 {
-    Arg::new(alloc, "from")
-        .long("from")
-        .value_name("FILE")
-        .help("the file with the history that this run continues")
+    named(
+        alloc,
+        "from",
+        "FILE",
+        "the file with the history that this run continues",
+    )
 }
 
 /// `--port P`
@@ -108,10 +107,7 @@ pub(crate) fn port_option<'a>(alloc: Global) -> Arg<'a>
     ensures rule { rule_of result ≡ port_option }
     ensures local { result.global ≡ false }
 {
-    Arg::new(alloc, "port")
-        .long("port")
-        .value_name("P")
-        .help("the TCP port on 127.0.0.1 to listen on")
+    named(alloc, "port", "P", "the TCP port on 127.0.0.1 to listen on")
         .required(true)
         .value_parser(ValueParser::Unsigned(1, GREATEST_PORT))
 }
@@ -121,12 +117,14 @@ pub(crate) fn workers_option<'a>(alloc: Global) -> Arg<'a>
     ensures rule { rule_of result ≡ workers_option }
     ensures local { result.global ≡ false }
 {
-    Arg::new(alloc, "workers")
-        .long("workers")
-        .value_name("N")
-        .help("how many sessions are served at once")
-        .value_parser(ValueParser::Unsigned(1, MOST_WORKERS))
-        .default_value("4")
+    named(
+        alloc,
+        "workers",
+        "N",
+        "how many sessions are served at once",
+    )
+    .value_parser(ValueParser::Unsigned(1, MOST_WORKERS))
+    .default_value("4")
 }
 
 /// `--sessions N`
@@ -134,12 +132,14 @@ pub(crate) fn sessions_option<'a>(alloc: Global) -> Arg<'a>
     ensures rule { rule_of result ≡ sessions_option }
     ensures local { result.global ≡ false }
 {
-    Arg::new(alloc, "sessions")
-        .long("sessions")
-        .value_name("N")
-        .help("how many sessions to serve before the server ends")
-        .value_parser(ValueParser::Unsigned(1, MOST_SESSIONS))
-        .default_value("1")
+    named(
+        alloc,
+        "sessions",
+        "N",
+        "how many sessions to serve before the server ends",
+    )
+    .value_parser(ValueParser::Unsigned(1, MOST_SESSIONS))
+    .default_value("1")
 }
 
 /// `--turns N`
@@ -147,12 +147,14 @@ pub(crate) fn turns_option<'a>(alloc: Global) -> Arg<'a>
     ensures rule { rule_of result ≡ turns_option }
     ensures local { result.global ≡ false }
 {
-    Arg::new(alloc, "turns")
-        .long("turns")
-        .value_name("N")
-        .help("how many turns TAKE and POLLFOR wait before they answer STOPPED")
-        .value_parser(ValueParser::Unsigned(0, MOST_TURNS))
-        .default_value("10000")
+    named(
+        alloc,
+        "turns",
+        "N",
+        "how many turns TAKE and POLLFOR wait before they answer STOPPED",
+    )
+    .value_parser(ValueParser::Unsigned(0, MOST_TURNS))
+    .default_value("10000")
 }
 
 /// `--socket N`
@@ -160,11 +162,13 @@ pub(crate) fn socket_option<'a>(alloc: Global) -> Arg<'a>
     ensures rule { rule_of result ≡ socket_option }
     ensures local { result.global ≡ false }
 {
-    Arg::new(alloc, "socket")
-        .long("socket")
-        .value_name("N")
-        .help("the descriptor of a listener at that port, which the server is handed")
-        .value_parser(ValueParser::Unsigned(LEAST_SOCKET, GREATEST_SOCKET))
+    named(
+        alloc,
+        "socket",
+        "N",
+        "the descriptor of a listener at that port, which the server is handed",
+    )
+    .value_parser(ValueParser::Unsigned(LEAST_SOCKET, GREATEST_SOCKET))
 }
 
 /// `--until-input-ends`
@@ -183,10 +187,12 @@ pub(crate) fn greeting_option<'a>(alloc: Global) -> Arg<'a>
     ensures rule { rule_of result ≡ greeting_option }
     ensures local { result.global ≡ false }
 {
-    Arg::new(alloc, "greeting")
-        .long("greeting")
-        .value_name("LINE")
-        .help("the line that each client is sent first")
+    named(
+        alloc,
+        "greeting",
+        "LINE",
+        "the line that each client is sent first",
+    )
 }
 
 /// `--attentive`
@@ -205,11 +211,13 @@ pub(crate) fn silent_option<'a>(alloc: Global) -> Arg<'a>
     ensures rule { rule_of result ≡ silent_option }
     ensures local { result.global ≡ false }
 {
-    Arg::new(alloc, "silent")
-        .long("silent")
-        .value_name("N")
-        .help("nanoseconds of silence after which a session is ended")
-        .value_parser(ValueParser::Unsigned(1, GREATEST_MOMENT))
+    named(
+        alloc,
+        "silent",
+        "N",
+        "nanoseconds of silence after which a session is ended",
+    )
+    .value_parser(ValueParser::Unsigned(1, GREATEST_MOMENT))
 }
 
 /// `--chains`
@@ -232,4 +240,15 @@ pub(crate) fn file_argument<'a>(alloc: Global) -> Arg<'a>
         .value_name("FILE")
         .help("the file with the history")
         .required(true)
+}
+
+// `--NAME VALUE`, of any value.
+fn named<'a>(alloc: Global, name: &'static str, value: &'static str, help: &'static str) -> Arg<'a>
+    ensures rule { rule_of result ≡ named_option name.now }
+    ensures local { result.global ≡ false }
+{
+    Arg::new(alloc, name)
+        .long(name)
+        .value_name(value)
+        .help(help)
 }

@@ -1,7 +1,8 @@
 ghost use Rattle.std.specs.Prelude.{◌≡◌, ℕ, List, IfOk, IfErr, IfNone, IfSome, IsSome, IsTrue, Some, false, map};
 ghost use Rattle.std.specs.Borrow.{Bor};
-ghost use Rattle.clap.specs.Words.{Row, Text, app_of, kind_of, rule_of, subcommand_rows_of, with_rule};
-ghost use Rattle.clap.specs.declared.builder.command.Command.TheViews.{out-Command};
+ghost use Rattle.clap.specs.Words.{App, Row, Rule, Text, app_of, kind_of, rule_of, subcommand_rows_of};
+ghost use Rattle.clap.specs.Words.{with_rule, with_subcommand};
+ghost use Rattle.rb_arguments.specs.LocalCommand.{IsLocal};
 ghost use Rattle.clap.specs.declared.error.kind.ErrorKind.TheVariants.{OutOfMemory};
 ghost use Rattle.rb_arguments.specs.Arguments.{AreTimerNames};
 ghost use Rattle.rb_arguments.specs.CommandLine.{Asks, SubcommandAsks, names_both, program, replay_command};
@@ -22,6 +23,9 @@ use crate::words::Words;
 use clap::error::ErrorKind;
 use clap::{Arg, ArgMatches, Command, Error};
 use std::alloc::{AllocError, Global};
+
+/// A command, unless memory ran out while it was made: it is handed on as it is, and looked at once.
+type MadeCommand<'a> = Result<Command<'a>, AllocError>;
 
 // What is wrong with words that clap takes.
 const UNKNOWN: &str = "the command or a value of its options is not known";
@@ -89,9 +93,9 @@ fn refusal(alloc: Global, words: &[&str]) -> Result<Error, AllocError>
 // conflict. `read_words` reads words without that rule, since clap's contracts say which words a command takes
 // only if none of its options has a rule on another.
 fn fault_of(alloc: Global, words: &[&str]) -> Result<Error, AllocError> {
-    let script = with_conflict(script_command(alloc)?)?;
-    let replay = with_conflict(replay_command(alloc)?)?;
-    let serve = with_conflict(serve_command(alloc)?)?;
+    let script = with_conflict(script_command(alloc));
+    let replay = with_conflict(replay_command(alloc));
+    let serve = with_conflict(serve_command(alloc));
     let mut command = with_subcommands(alloc, script, replay, serve)?;
     match command.try_get_matches_from_mut(words) {
         Err(fault) => Ok(fault),
@@ -120,131 +124,125 @@ fn is_help(word: &str) -> bool
 
 // The command whose delay and rate conflict. An option that is changed moves behind all others, so the last
 // one is moved behind it again: help lists the options in this order.
-fn with_conflict<'a>(command: Command<'a>) -> Result<Command<'a>, AllocError> {
-    command
+fn with_conflict<'a>(command: MadeCommand<'a>) -> MadeCommand<'a> {
+    command?
         .mut_arg("rate", |rate| rate.conflicts_with("delay"))?
         .mut_arg("attempts", |attempts| Ok(attempts))
 }
 
 // The program's command, with its subcommands.
-fn program<'a>(alloc: Global) -> Result<Command<'a>, AllocError>
+fn program<'a>(alloc: Global) -> MadeCommand<'a>
     ensures { IfOk result (λ command. (scripted served : Bor (List (Bor (List ℕ)))) × AreTimerNames scripted
         × AreTimerNames served × (app_of command ≡ program scripted served)) }
 {
-    let script = script_command(alloc)?;
-    let replay = replay_command(alloc)?;
-    let serve = serve_command(alloc)?;
+    let script = script_command(alloc);
+    let replay = replay_command(alloc);
+    let serve = serve_command(alloc);
     with_subcommands(alloc, script, replay, serve)
 }
 
 // The program's command, with these subcommands.
 fn with_subcommands<'a>(
     alloc: Global,
-    script: Command<'a>,
-    replay: Command<'a>,
-    serve: Command<'a>,
-) -> Result<Command<'a>, AllocError>
-    ensures { (out-Command script.entry).has_globals ≡ false → (out-Command replay.entry).has_globals ≡ false
-        → (out-Command serve.entry).has_globals ≡ false → IfOk result (λ command. app_of command
-        ≡ with_commands (app_of script.entry).top (app_of replay.entry).top (app_of serve.entry).top) }
+    script: MadeCommand<'a>,
+    replay: MadeCommand<'a>,
+    serve: MadeCommand<'a>,
+) -> MadeCommand<'a>
+    ensures { (first second third : App) → IsLocal first script.entry → IsLocal second replay.entry
+        → IsLocal third serve.entry → IfOk result (λ command. app_of command
+        ≡ with_commands first.top second.top third.top) }
 {
-    let scripts = Command::new(alloc, "rb_broker")
+    let bare = Command::new(alloc, "rb_broker")
         .about("A broker for jobs that have to wait")
-        .subcommand_required(true)
-        .subcommand(script)?;
-    let replays = scripts.subcommand(replay)?;
-    replays.subcommand(serve)
+        .subcommand_required(true);
+    let scripts = with_subcommand(Ok(bare), script);
+    let replays = with_subcommand(scripts, replay);
+    with_subcommand(replays, serve)
 }
 
-fn script_command<'a>(alloc: Global) -> Result<Command<'a>, AllocError>
-    ensures app { IfOk result (λ command. (names : Bor (List (Bor (List ℕ)))) × AreTimerNames names
-        × (app_of command ≡ script_command names)) }
-    ensures local { IfOk result (λ command. (out-Command command).has_globals ≡ false) }
+// The command with one more subcommand.
+fn with_subcommand<'a>(command: MadeCommand<'a>, subcommand: MadeCommand<'a>) -> MadeCommand<'a>
+    ensures { (app sub : App) → IfOk command.entry (λ narrow. app_of narrow ≡ app) → IsLocal sub subcommand.entry
+        → IfOk result (λ wider. app_of wider ≡ with_subcommand app sub.top) }
+{
+    command?.subcommand(subcommand?)
+}
+
+fn script_command<'a>(alloc: Global) -> MadeCommand<'a>
+    ensures { (names : Bor (List (Bor (List ℕ)))) × AreTimerNames names × IsLocal (script_command names) result }
 {
     let plain = Command::new(alloc, "script").about(
         "Runs a script from standard input to standard output",
     );
-    let queue = with_queue(alloc, plain)?;
+    let queue = with_queue(alloc, Ok(plain));
     with_run(alloc, queue)
 }
 
-fn replay_command<'a>(alloc: Global) -> Result<Command<'a>, AllocError>
-    ensures app { IfOk result (λ command. app_of command ≡ replay_command) }
-    ensures local { IfOk result (λ command. (out-Command command).has_globals ≡ false) }
+fn replay_command<'a>(alloc: Global) -> MadeCommand<'a>
+    ensures { IsLocal replay_command result }
 {
     let plain = Command::new(alloc, "replay").about("Checks the history in a file");
-    let file = with_option(plain, file_argument(alloc))?;
-    let chains = with_option(file, chains_flag(alloc))?;
+    let file = with_option(Ok(plain), file_argument(alloc));
+    let chains = with_option(file, chains_flag(alloc));
     with_policy(alloc, chains)
 }
 
-fn serve_command<'a>(alloc: Global) -> Result<Command<'a>, AllocError>
-    ensures app { IfOk result (λ command. (names : Bor (List (Bor (List ℕ)))) × AreTimerNames names
-        × (app_of command ≡ serve_command names)) }
-    ensures local { IfOk result (λ command. (out-Command command).has_globals ≡ false) }
+fn serve_command<'a>(alloc: Global) -> MadeCommand<'a>
+    ensures { (names : Bor (List (Bor (List ℕ)))) × AreTimerNames names × IsLocal (serve_command names) result }
 {
     let plain = Command::new(alloc, "serve").about("Serves clients over TCP on 127.0.0.1");
-    let port = with_option(plain, port_option(alloc))?;
-    let queue = with_queue(alloc, port)?;
-    let workers = with_option(queue, workers_option(alloc))?;
-    let sessions = with_option(workers, sessions_option(alloc))?;
-    let turns = with_option(sessions, turns_option(alloc))?;
-    let manners = with_manners(alloc, turns)?;
+    let port = with_option(Ok(plain), port_option(alloc));
+    let queue = with_queue(alloc, port);
+    let workers = with_option(queue, workers_option(alloc));
+    let sessions = with_option(workers, sessions_option(alloc));
+    let turns = with_option(sessions, turns_option(alloc));
+    let manners = with_manners(alloc, turns);
     with_run(alloc, manners)
 }
 
 // The command with the options of a server that is attended, and of how it treats its clients.
-fn with_manners<'a>(alloc: Global, command: Command<'a>) -> Result<Command<'a>, AllocError>
-    ensures app { IfOk result (λ wider. app_of wider ≡ with_manners (app_of command.entry)) }
-    ensures local { (out-Command command.entry).has_globals ≡ false
-        → IfOk result (λ wider. (out-Command wider).has_globals ≡ false) }
+fn with_manners<'a>(alloc: Global, command: MadeCommand<'a>) -> MadeCommand<'a>
+    ensures { (app : App) → IsLocal app command.entry → IsLocal (with_manners app) result }
 {
-    let socket = with_option(command, socket_option(alloc))?;
-    let until = with_option(socket, until_input_ends_flag(alloc))?;
-    let greeting = with_option(until, greeting_option(alloc))?;
-    let attentive = with_option(greeting, attentive_flag(alloc))?;
+    let socket = with_option(command, socket_option(alloc));
+    let until = with_option(socket, until_input_ends_flag(alloc));
+    let greeting = with_option(until, greeting_option(alloc));
+    let attentive = with_option(greeting, attentive_flag(alloc));
     with_option(attentive, silent_option(alloc))
 }
 
 // The command with the options of a queue.
-fn with_queue<'a>(alloc: Global, command: Command<'a>) -> Result<Command<'a>, AllocError>
-    ensures app { IfOk result (λ wider. (names : Bor (List (Bor (List ℕ)))) × AreTimerNames names
-        × (app_of wider ≡ with_queue names (app_of command.entry))) }
-    ensures local { (out-Command command.entry).has_globals ≡ false
-        → IfOk result (λ wider. (out-Command wider).has_globals ≡ false) }
+fn with_queue<'a>(alloc: Global, command: MadeCommand<'a>) -> MadeCommand<'a>
+    ensures { (names : Bor (List (Bor (List ℕ)))) × AreTimerNames names
+        × ((app : App) → IsLocal app command.entry → IsLocal (with_queue names app) result) }
 {
-    let calls = with_option(command, calls_option(alloc))?;
+    let calls = with_option(command, calls_option(alloc));
     with_option(calls, timer_option(alloc))
 }
 
 // The command with the options of what a run leaves and continues, and with those of a policy.
-fn with_run<'a>(alloc: Global, command: Command<'a>) -> Result<Command<'a>, AllocError>
-    ensures app { IfOk result (λ wider. app_of wider ≡ with_run (app_of command.entry)) }
-    ensures local { (out-Command command.entry).has_globals ≡ false
-        → IfOk result (λ wider. (out-Command wider).has_globals ≡ false) }
+fn with_run<'a>(alloc: Global, command: MadeCommand<'a>) -> MadeCommand<'a>
+    ensures { (app : App) → IsLocal app command.entry → IsLocal (with_run app) result }
 {
-    let history = with_option(command, history_option(alloc))?;
-    let from = with_option(history, from_option(alloc))?;
+    let history = with_option(command, history_option(alloc));
+    let from = with_option(history, from_option(alloc));
     with_policy(alloc, from)
 }
 
 // The command with the options of a policy.
-fn with_policy<'a>(alloc: Global, command: Command<'a>) -> Result<Command<'a>, AllocError>
-    ensures app { IfOk result (λ wider. app_of wider ≡ with_policy (app_of command.entry)) }
-    ensures local { (out-Command command.entry).has_globals ≡ false
-        → IfOk result (λ wider. (out-Command wider).has_globals ≡ false) }
+fn with_policy<'a>(alloc: Global, command: MadeCommand<'a>) -> MadeCommand<'a>
+    ensures { (app : App) → IsLocal app command.entry → IsLocal (with_policy app) result }
 {
-    let delay = with_option(command, delay_option(alloc))?;
-    let rate = with_option(delay, rate_option(alloc))?;
+    let delay = with_option(command, delay_option(alloc));
+    let rate = with_option(delay, rate_option(alloc));
     with_option(rate, attempts_option(alloc))
 }
 
 // The command with one more option, which belongs to this command alone.
-fn with_option<'a>(command: Command<'a>, option: Arg<'a>) -> Result<Command<'a>, AllocError>
+fn with_option<'a>(command: MadeCommand<'a>, option: Arg<'a>) -> MadeCommand<'a>
     requires local { option.global ≡ false }
-    ensures app { IfOk result (λ wider. app_of wider ≡ with_rule (app_of command.entry) (rule_of option.entry)) }
-    ensures local { (out-Command command.entry).has_globals ≡ false
-        → IfOk result (λ wider. (out-Command wider).has_globals ≡ false) }
+    ensures { (app : App) (rule : Rule) → rule_of option.entry ≡ rule → IsLocal app command.entry
+        → IsLocal (with_rule app rule) result }
 {
-    command.arg(option)
+    command?.arg(option)
 }

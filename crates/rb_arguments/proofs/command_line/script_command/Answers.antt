@@ -1,13 +1,12 @@
 -- The options of a queue come first, and then those of a run.
-use Rattle.std.proofs.Common.{◌≡◌, ◌∙◌, ap, codes}
-use Rattle.std.proofs.lemmas.Result.{IfOk-weaker}
+use Rattle.std.proofs.Common.{◌≡◌, codes, false, rules}
 use Rattle.clap.specs.Words.{app_of, new_app}
-use Rattle.rb_arguments.specs.CommandLine.{with_queue, with_run}
+use Rattle.clap.specs.declared.builder.command.Command.TheViews.{out-Command}
 use Rattle.rb_arguments.proofs.command_line.script_command.Goals as goal
 
-pub returns-clause-app : goal.returns-clause-app
-returns-clause-app c =
+pub returns : goal.returns
+returns c =
     let begun : app_of c.about-plain.result ≡ new_app (codes "script") = rw c.about-plain.ensures c.new.ensures.app in
-    let (names, names_are, queue_is) = c.in_ok-queue.ensures.app in
-    let queue = queue_is ∙ ap (with_queue names) begun in
-    IfOk-weaker c.with_run.result _ _ (λ command wider. (names, names_are, wider ∙ ap with_run queue)) c.with_run.ensures.app
+    let local : (out-Command c.about-plain.result).has_globals ≡ false = search rules in
+    let (names, names_are, queue) = c.with_queue-queue.ensures in
+    (names, names_are, c.with_run.ensures _ (queue _ (begun, local)))
