@@ -90,7 +90,6 @@ pub(crate) fn serve_all<
 }
 
 // Starts this many workers, one after the other, lets them serve, waits for each, and folds its pass into this one.
-#[tactic(auto, using(crate::proofs::FoldedWorkers::folds_none, crate::proofs::FoldedWorkers::folds_one_more))]
 fn start_all<
     's,
     E,
