@@ -22,7 +22,7 @@ import sys
 from collections.abc import Callable, Iterable, Iterator
 from contextlib import contextmanager
 from functools import partial
-from typing import Any
+from typing import Any, TypeVar
 
 from rb_broker_formats.protocol import MOST_HELD
 
@@ -33,6 +33,7 @@ from .dead_letters import payload_of, read_letters, take_letters
 from .durations import from_text, seconds
 from .producer import Producer
 from .request import Request
+from .servers import LOOPBACK, are_addresses, read_addresses
 from .tasks import Tasks
 from .waiting import run
 from .worker import AsyncWorker, Worker
@@ -40,6 +41,7 @@ from .worker import AsyncWorker, Worker
 NAME, SCRIPT = "rb_broker_client", "rb-broker"  # the module, and the command that pip installs
 FORM = argparse.RawDescriptionHelpFormatter
 Asked = argparse.Namespace
+Read = TypeVar("Read")
 
 
 def main(words: list[str] | None = None) -> int:
@@ -52,7 +54,8 @@ def main(words: list[str] | None = None) -> int:
     except KeyboardInterrupt:
         status, text = 1, "it was broken off"
     except (BrokerError, OSError, ArithmeticError) as fault:
-        status, text = 1, f"{asked.host}:{asked.port}: {fault}" if asked.port else str(fault)
+        place = asked.port if isinstance(asked.port, str) else f"{asked.host}:{asked.port}"
+        status, text = 1, f"{place}: {fault}" if asked.port else str(fault)
     except ValueError as fault:  # a payload that is none, a host that is none
         status, text = 2, str(fault)
     print(f"{NAME}: {text}", file=sys.stderr)
@@ -60,8 +63,9 @@ def main(words: list[str] | None = None) -> int:
 
 
 def _add_words_of_each(add: Callable[..., Any], is_port_needed: bool) -> None:
-    add("--port", type=_whole(1, 65_535), required=is_port_needed, metavar="P", help="the server's port")
-    add("--host", default="127.0.0.1", metavar="H", help="where it is (default: 127.0.0.1)")
+    add("--port", type=_port, required=is_port_needed, metavar="P",
+        help="the server's port, or HOST:PORT,HOST:PORT,.. of gateways of one queue, of which one is used at a time")
+    add("--host", default=LOOPBACK, metavar="H", help=f"where it is (default: {LOOPBACK})")
     add("--patience", type=_seconds, default=5.0, metavar="SECONDS",
         help="how long a server is looked for, and a reply waited for (default: 5)")
     add("--record", type=argparse.FileType("a"), metavar="FILE", help="adds each request and its reply to this file")
@@ -224,9 +228,20 @@ def _whole(least: int, most: int) -> Callable[[str], int]:
     return read
 
 
+def _port(word: str) -> int | str:
+    if not are_addresses(word):
+        return _whole(1, 65_535)(word)
+    _told(read_addresses, word)
+    return word
+
+
 def _delay(word: str) -> float:
+    return _told(from_text, word)
+
+
+def _told(read: Callable[[str], Read], word: str) -> Read:
     try:
-        return from_text(word)
+        return read(word)
     except ValueError as fault:
         raise argparse.ArgumentTypeError(str(fault)) from None
 

@@ -24,6 +24,7 @@ from .answers import (
 )
 from .durations import Duration, seconds
 from .request import Answer, Request
+from .servers import LOOPBACK, Address, Servers
 from .waiting import Blocking, Kind, Looping, Words, blocking, run
 
 log = logging.getLogger(__name__)
@@ -35,27 +36,19 @@ if hasattr(os, "register_at_fork"):
                         after_in_child=_RECORDING.release)
 
 
-def checked_port(port: int) -> int:
-    """A port at which a server can be. Raises `ValueError`, or `TypeError` for what is no whole number."""
-    if not isinstance(port, int):
-        raise TypeError(f"a port is a whole number, not {port!r}")
-    if not 1 <= port <= 65_535:
-        raise ValueError(f"a port is from 1 to 65535, not {port}")
-    return port
-
-
 class Session:
     """What `Broker` and `AsyncBroker` have in common."""
 
     _kind: ClassVar[Kind]
     _socket: socket.socket  # once it is connected
 
-    def __init__(self, port: int, host: str = "127.0.0.1", patience: Duration | None = None, *,
+    def __init__(self, port: int | str, host: str = LOOPBACK, patience: Duration | None = None, *,
                  tls: ssl.SSLContext | None = None, record: TextIO | None = None) -> None:
-        """A reply that does not come within `patience` raises `TimeoutError`. With `tls` the connection is encrypted.
+        """`port` may be `"gateway-1:7011,gateway-2:7011"`: the session is at the first that accepts it. A reply that does
+        not come within `patience` raises `TimeoutError`. With `tls` the connection is encrypted.
         To `record`, a text file, a line is added for each request once it has its answer, or at the end: when it was
         sent, when its reply had come (null if that never came), its line, and the reply's lines."""
-        self._port, self._host, self._tls = checked_port(port), host, tls
+        self._servers, self._tls = Servers(port, host), tls
         self.patience = None if patience is None else seconds(patience)
         self._fault: Exception | None = RuntimeError("the broker is not connected")
         self._record, self._name = record, uuid.uuid4().hex
@@ -148,15 +141,23 @@ class Session:
             self._fault = None
 
     def _connected(self) -> socket.socket:
-        made = socket.create_connection((self._host, self._port), timeout=self.patience)
+        while True:
+            try:
+                return self._connected_to(self._servers.current)
+            except OSError:
+                if self._servers.move_on():
+                    raise  # of the last one
+
+    def _connected_to(self, address: Address) -> socket.socket:
+        made = socket.create_connection((address.host, address.port), timeout=self.patience)
         if made.getsockname() == made.getpeername():
             # Nobody listens, and the system gave this side the very port that it looks for: it found itself. To stay
             # connected would keep the port from the next server.
             made.close()
-            raise ConnectionRefusedError(f"nobody listens at {self._host}:{self._port}")
+            raise ConnectionRefusedError(f"nobody listens at {address.name}")
         made.setsockopt(socket.IPPROTO_TCP, socket.TCP_NODELAY, 1)
         if self._tls is not None:
-            made = self._tls.wrap_socket(made, server_hostname=self._host)
+            made = self._tls.wrap_socket(made, server_hostname=address.host)
         made.setblocking(False)
         return made
 

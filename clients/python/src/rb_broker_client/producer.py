@@ -13,11 +13,12 @@ from typing import Any, ClassVar, Self, TextIO
 from weakref import WeakSet
 
 from .answers import EndedError, FullError, Greeting, InDoubtError, LostRun, NotOfferedError, Offered, OutOfMemoryError
-from .broker import AsyncBroker, Broker, Session, checked_port
+from .broker import AsyncBroker, Broker, Session
 from .durations import FOR_EVER, Duration, Pauses, nanoseconds, seconds
 from .pipeline import LeftError, Pipeline
 from .request import Request
 from .run import Run
+from .servers import LOOPBACK, Servers
 from .waiting import blocking
 
 log = logging.getLogger(__name__)
@@ -30,15 +31,19 @@ class BaseProducer:
 
     _session_of: ClassVar[type[Session]]
 
-    def __init__(self, port: int, host: str = "127.0.0.1", *, may_double: bool = False, patience: Duration = 30.0,
+    def __init__(self, port: int | str, host: str = LOOPBACK, *, may_double: bool = False, patience: Duration = 30.0,
                  on_lost_run: Callable[[LostRun], object] | None = None, tls: ssl.SSLContext | None = None,
                  pauses: Pauses | None = None, record: TextIO | None = None) -> None:
-        """Connects to nothing yet. An offer takes no longer than `patience`, whatever it waits for. `on_lost_run` is
-        called, in a thread of its own, when the server has lost a run. `tls` and `record` are those of a `Broker`."""
-        self._session_at = partial(self._session_of, checked_port(port), host, tls=tls, record=record)
+        """Connects to nothing yet. `port` may be `"gateway-1:7011,gateway-2:7011"`, gateways of one queue: where one is
+        lost, the next session is at the next. An offer takes no longer than `patience`, whatever it waits for.
+        `on_lost_run` is called, in a thread of its own, when the server has lost a run. `tls` and `record` are those of
+        a `Broker`."""
+        self._servers = Servers(port, host)
+        self._session_at: Callable[[float], Session] = partial(
+            self._servers.session, self._session_of, tls=tls, record=record)
         self._may_double, self._patience, self._is_direct = may_double, seconds(patience), tls is None
         self._pauses = pauses or Pauses(longest=2.0)
-        self._run, self._kind = Run(log, f"{host}:{port}", on_lost_run), self._session_of._kind
+        self._run, self._kind = Run(log, self._servers.current.name, on_lost_run), self._session_of._kind
         self._is_closed = False
         self._turn: Any = self._kind.lock()
         self._pipeline: Pipeline | None = None  # changed in turn alone
@@ -120,14 +125,28 @@ class BaseProducer:
                 if self._is_closed:
                     raise RuntimeError("the producer is closed")
                 if self._pipeline is pipeline:  # nobody has begun the next one meanwhile
-                    await self._begin_pipeline(deadline)
+                    await self._go_on(deadline)
             except OSError as fault:
                 raise NotOfferedError(f"{request} was not accepted: {fault}") from fault
             finally:
                 self._turn.release()
         return pipeline
 
+    async def _go_on(self, deadline: float) -> None:
+        # At the next server, if one has served, and at once at each further one. They share the time that is left.
+        if self._pipeline is not None:
+            self._servers.leave()
+        for left in range(len(self._servers), 0, -1):
+            now = time.monotonic()
+            try:
+                return await self._begin_pipeline(now + max(deadline - now, LEAST) / left)
+            except OSError:
+                self._servers.move_on()
+                if left == 1:
+                    raise
+
     async def _begin_pipeline(self, deadline: float) -> None:
+        self._run.place = self._servers.current.name
         session = self._session_at(max(deadline - time.monotonic(), LEAST))
         with ExitStack() as undo:
             undo.callback(session.close)
@@ -141,6 +160,7 @@ class BaseProducer:
                                    f"{time.monotonic() - began:.1f} seconds") from None
             undo.pop_all()
         self._pipeline = Pipeline(session)
+        self._servers.served()
         self._run.served(session.greeting)
 
     def _begin_anew(self) -> None:

@@ -20,6 +20,7 @@ from typing import Any
 from .answers import BrokerError, Greeting, Job, RefusedError, Report
 from .durations import Duration, from_text, seconds
 from .producer import Producer
+from .servers import LOOPBACK
 from .task_runners import Processes, Testing
 from .task_store import STALE, Store, StoredTask, going_on
 from .waiting import Blocking, Kind, Looping, blocking
@@ -107,10 +108,10 @@ class Tasks:
     done. What the broker or a worker loses is offered again. That no task is lost rests on this file and on SQLite, and
     on no proof. One can be run twice: if its worker is killed after its work, or stands still for ten seconds."""
 
-    def __init__(self, path: str | os.PathLike[str], port: int, host: str = "127.0.0.1", *, patience: Duration = 5.0,
+    def __init__(self, path: str | os.PathLike[str], port: int | str, host: str = LOOPBACK, *, patience: Duration = 5.0,
                  overdue: Duration = 60.0, tls: ssl.SSLContext | None = None) -> None:
-        """`patience` is how long an offer looks for the broker; a worker offers later what was not. A task that is
-        `overdue` by so much is offered again, since the broker may have lost it."""
+        """`port` may be addresses, as a worker's. `patience` is how long an offer looks for the broker; a worker offers
+        later what was not. A task that is `overdue` by so much is offered again, since the broker may have lost it."""
         self._store, self._overdue = Store(path), seconds(overdue)
         self._producer = Producer(port, host, patience=patience, may_double=True, tls=tls)
         self._place: Any = {"port": port, "host": host, "tls": tls}

@@ -25,10 +25,13 @@ class Work:
     `given` and `dead` say what came of it: jobs to be run, and jobs that failed in their last attempt. The caller takes
     them out. `ended` is called with each job whose handler has ended."""
 
-    def __init__(self, wait: float, report: Report, pauses: Pauses, run: Run, attempts: float = math.inf) -> None:
-        """A wait for a job lasts so many seconds while none runs. Each job has so many attempts."""
-        self._attempts, self._is_lost = attempts, False
+    def __init__(self, wait: float, report: Report, pauses: Pauses, run: Run, attempts: float = math.inf,
+                 may_move: bool = False) -> None:
+        """A wait for a job lasts so many seconds while none runs. Each job has so many attempts. A worker that
+        `may_move` has another server to go to."""
+        self._attempts, self._is_lost, self._may_move = attempts, False, may_move
         self._wait, self._report, self._pauses, self._run = wait, report, pauses, run
+        self.place = run.place  # of the server that serves it
         self.greeting: Greeting | None = None  # known once it is served
         self._waits: list[Request[Any]] = [Request.poll_for(it) for it in (wait, wait / BESIDE)]  # one beside jobs
         self.is_served = False
@@ -43,6 +46,7 @@ class Work:
         self._next_try = 0.0  # no job is fetched, and no failure told again, before this moment
         self._looked = 0.0  # when it was asked for the last time what is to be sent
         self.is_used_up = False  # whether nothing more comes of this session, or of this run
+        self.has_fetched = False  # whether a fetch was answered by jobs, or by none
         self._is_leaving = self.is_left = False  # whether the server was told that it is left, and has read so
         self.given: list[Job] = []
         self.dead: list[Job] = []
@@ -116,6 +120,10 @@ class Work:
     def _fetch(self, free: int, running: int) -> list[Asked]:
         # As many as can be started. Where a drain found so many the next one follows, even if others are on their way.
         # Where it did not, one job is waited for; and where a wait has found one, others may be due, which come first.
+        # A gateway that is to end gives a wait up, but by a drain the session ends, and its jobs with it. So where
+        # another gateway can go on, nothing else than a wait is asked beside jobs.
+        if self._may_move and (self.held or self.fetching):
+            return [] if self.fetching else [self._await_job(running > 0)]
         if self._more_are_due and (free > 1 or running or self.fetching):
             return [self._drain(free)]
         if self.fetching:
@@ -147,6 +155,7 @@ class Work:
             self._not_fetched(answer, asked)
             return
         self._pauses.reset()
+        self.has_fetched = True
         for job in jobs:
             self._run.given(job.id)
             self.held[job.id] = job
@@ -155,6 +164,8 @@ class Work:
     def _not_fetched(self, refused: BrokerError, asked: float) -> None:
         if isinstance(refused, StoppedError) and self.greeting is not None and self._asked:
             pass  # the server looks what was sent behind a wait
+        elif isinstance(refused, StoppedError) and self._may_move and self.greeting is None and self.held:
+            self.is_used_up = True  # a gateway that is to end lets these jobs be told, and another one gives more
         elif isinstance(refused, (StoppedError, OutOfMemoryError)):
             if asked < self._next_try:
                 return  # one that was asked before it was refused, too
@@ -164,7 +175,7 @@ class Work:
                 self._pauses.reset()
         elif isinstance(refused, FullError):  # the server can end only when its clients have left
             if not self.is_used_up:
-                log.warning("left the session at %s: %s", self._run.place, refused)
+                log.warning("left the session at %s: %s", self.place, refused)
             self.is_used_up = True
         else:
             raise refused

@@ -17,10 +17,11 @@ from typing import Any, ClassVar, Generic, TextIO, TypeVar
 from rb_broker_formats.protocol import MOST_HELD
 
 from .answers import Job, LostRun, Report
-from .broker import AsyncBroker, Broker, Session, checked_port
+from .broker import AsyncBroker, Broker, Session
 from .dead_letters import DeadLetters
 from .durations import FOR_EVER, Duration, Pauses, seconds
 from .run import Run
+from .servers import LOOPBACK, Servers
 from .waiting import LoopTurns, ThreadTurns, blocking
 from .work import Work
 
@@ -32,6 +33,9 @@ SOON = 0.01  # seconds after which what the connection did not take is tried aga
 Function = Callable[[Job], object]
 Handler = TypeVar("Handler", bound=Function)  # as callers give it: one that returns nothing, or is to be awaited
 OnDead = TypeVar("OnDead", bound=Function)
+
+
+_Visit = tuple[Work, Session]
 
 
 @dataclass(eq=False)
@@ -60,7 +64,7 @@ class BaseWorker(Generic[Handler, OnDead]):
     _session_of: ClassVar[type[Session]]
     _turns_of: ClassVar[Any]
 
-    def __init__(self, handler: Handler, port: int, host: str = "127.0.0.1", *, concurrency: int = 1,
+    def __init__(self, handler: Handler, port: int | str, host: str = LOOPBACK, *, concurrency: int = 1,
                  wait: Duration = 1.0, patience: Duration = 10.0, timeout: Duration | None = None,
                  on_dead: OnDead | None = None, attempts: int | None = None,
                  on_lost_run: Callable[[LostRun], object] | None = None, tls: ssl.SSLContext | None = None,
@@ -70,6 +74,10 @@ class BaseWorker(Generic[Handler, OnDead]):
         server reads nothing behind a wait: the end of a job is told so much later at most. A reply that is `patience`
         late is taken for a lost session. A job whose handler takes longer than `timeout` fails; its place is free once
         the handler returns.
+
+        `port` may be `"gateway-1:7011,gateway-2:7011"`, gateways of one queue, whose `--wait` is no shorter. When one
+        ends or gives a wait up, the worker fetches at the next one at once, and pauses only after a round in which none
+        served. Jobs in hand are told where they were fetched. Beside them jobs are fetched one by one.
 
         `on_dead` is called with each job that failed and won't come back: the server said so, or its run is full; and
         with `attempts`, those of the server, also if the last one ended with a lost session, of which no reply tells.
@@ -82,14 +90,17 @@ class BaseWorker(Generic[Handler, OnDead]):
             self._check(it)
         if isinstance(on_dead, DeadLetters) and self._session_of._kind.is_async:
             self._on_dead = on_dead.keep
-        self._session_at = partial(self._session_of, checked_port(port), host, tls=tls, record=record)
+        self._servers = Servers(port, host)
+        self._session_at: Callable[[float], Session] = partial(
+            self._servers.session, self._session_of, tls=tls, record=record)
         self._wait, self._patience = seconds(wait), seconds(patience)
         self._timeout = math.inf if timeout is None else seconds(timeout)
         self._attempts = math.inf if attempts is None else attempts
-        self._pauses, self._run_known = pauses or Pauses(), Run(log, f"{host}:{port}", on_lost_run)
+        self._pauses, self._run_known = pauses or Pauses(), Run(log, self._servers.current.name, on_lost_run)
         self._turns = self._turns_of(concurrency > 1 or timeout is not None)
         self._has_run = self._is_stopping = self._is_connecting = False
-        self._visit: tuple[Work, Session] | None = None
+        self._visit: _Visit | None = None  # the one that fetches
+        self._parting: list[_Visit] = []  # those that fetch no more, while another one does
         self._next_visit = 0.0  # when the next may begin
         self._calls: set[_Call] = set()  # that run
         self._ends: deque[tuple[_Call, bool | None]] = deque()  # whether the job is done, or None if it ends the worker
@@ -123,7 +134,8 @@ class BaseWorker(Generic[Handler, OnDead]):
             await self._turns.run(self._turn)
         finally:
             is_over.set()
-            self._end()
+            for visit in self._visits():
+                self._end(visit)
             await self._turns.close()
         return self.report
 
@@ -138,50 +150,67 @@ class BaseWorker(Generic[Handler, OnDead]):
 
     def _turn(self) -> float | None:
         self._settle()
-        if self._visit is not None:
-            work, session = self._visit
-            try:
-                self._receive(work, session)
-                if not self._turns.has_started:
-                    self._attend(work, session)
-            except OSError as fault:
-                if work.greeting is None or work.held or not isinstance(fault, ConnectionError):
-                    self._run_known.away("the session at %s was lost: %s", fault)
-                self._end(self._pauses.next())
-        if not (self._visit or self._is_stopping or self._is_connecting or len(self._calls) >= self._concurrency
-                or time.monotonic() < self._next_visit):
+        for visit in self._visits():
+            self._go_on(visit)
+        if self._may_connect() and time.monotonic() >= self._next_visit:
             self._is_connecting = True
             self._turns.begin(self._connect())
             self._settle()  # what it raised, if it has ended
-        is_over = self._is_stopping and not (self._visit or self._is_connecting)
+        is_over = self._is_stopping and not (self._visits() or self._is_connecting)
         return None if is_over and all(it.is_told for it in self._calls) else self._pause()
+
+    def _may_connect(self) -> bool:
+        return not (self._visit or self._is_stopping or self._is_connecting or len(self._calls) >= self._concurrency)
+
+    def _visits(self) -> list[_Visit]:
+        return [*self._parting, self._visit] if self._visit else [*self._parting]
+
+    def _go_on(self, visit: _Visit) -> None:
+        work, session = visit
+        try:
+            self._receive(work, session)
+            if not self._turns.has_started:
+                self._attend(visit)
+        except OSError as fault:
+            text = "the session at %s was lost: %s"
+            if visit is not self._visit:
+                if work.held:
+                    log.warning(text, work.place, fault)
+            elif work.greeting is None or work.held or not isinstance(fault, ConnectionError):
+                self._run_known.away(text, fault)
+            self._end(visit, is_lost=True)
 
     async def _connect(self) -> None:
         try:
+            self._run_known.place = self._servers.current.name
             session = self._session_at(self._patience)
             with ExitStack() as undo:
                 undo.callback(session.close)
                 await session._connect()
-                work = Work(self._wait, self.report, self._pauses, self._run_known, self._attempts)
+                work = Work(self._wait, self.report, self._pauses, self._run_known, self._attempts,
+                            self._servers.are_several)
                 session.post(*work.ask(0, 0, False))
                 undo.pop_all()
             self._turns.watch(session)
             self._visit = work, session
         except OSError as fault:
             self._run_known.away("no server at %s: %s", fault)
-            self._next_visit = time.monotonic() + self._pauses.next()
+            self._move_on()
         except Exception as fault:  # as of a host that is none
             self._break_off(fault)
         self._is_connecting = False
         self._turns.ended()
 
+    def _move_on(self) -> None:
+        pause = self._pauses.next() if self._servers.move_on() else 0
+        self._next_visit = max(self._next_visit, time.monotonic() + pause)
+
     def _pause(self) -> float:
         now = time.monotonic()
         pause = min([FOR_EVER, *(it.late - now for it in self._calls)])
-        if self._next_visit > now:
+        if self._next_visit > now or self._may_connect():
             pause = min(self._next_visit - now, pause)
-        if self._visit is not None:
-            work, session = self._visit
+        for work, session in self._visits():
             pause = min(self._late(work, session) - now, work.pause(), SOON if session.unsent else pause)
         return max(pause, 0)
 
@@ -208,22 +237,37 @@ class BaseWorker(Generic[Handler, OnDead]):
             for job in dead:
                 self._start(self._on_dead, job, None)
 
-    def _attend(self, work: Work, session: Session) -> None:
+    def _attend(self, visit: _Visit) -> None:
+        work, session = visit
         running = len(self._calls)
-        questions = work.ask(self._concurrency - running - work.fetching, running, self._is_stopping)
+        free = self._concurrency - running - sum(it.fetching for it, _ in self._visits())
+        questions = work.ask(free, running, self._is_stopping)
         if questions or session.unsent:
             session.post(*questions)
         if work.is_left or self._is_stopping and not work.is_served:
-            self._end(self._pauses.next() if work.is_used_up else 0)
+            self._end(visit, is_lost=work.is_used_up)
+        elif work.is_used_up and visit is self._visit and self._servers.are_several:
+            self._parting.append(visit)
+            self._leave(work)
 
-    def _end(self, pause: float = 0) -> None:
-        visit, self._visit = self._visit, None
-        if visit is not None:
-            work, session = visit
-            work.lost()
-            self._bury(work)
-            session.close()
-            self._next_visit = max(self._next_visit, time.monotonic() + pause)
+    def _leave(self, work: Work) -> None:
+        # Another session is to fetch.
+        self._visit = None
+        if work.has_fetched:
+            self._servers.served()
+        self._move_on()
+
+    def _end(self, visit: _Visit, is_lost: bool = False) -> None:
+        work, session = visit
+        work.lost()
+        self._bury(work)
+        session.close()
+        if visit is not self._visit:
+            self._parting.remove(visit)
+        elif is_lost:
+            self._leave(work)
+        else:
+            self._visit = None
 
     def _start(self, function: Function, job: Job, work: Work | None) -> None:
         now = time.monotonic()
@@ -262,7 +306,7 @@ class BaseWorker(Generic[Handler, OnDead]):
             if call.work is not None and not call.is_told:
                 call.work.ended(call.job, is_done)
                 self._bury(call.work)
-        if self._fault is not None and not (self._calls or self._visit and self._visit[0].held):
+        if self._fault is not None and not (self._calls or any(work.held for work, _ in self._visits())):
             raise self._fault
         for it in [*self._calls] if self._timeout < math.inf else ():
             if it.work and it.late <= time.monotonic():

@@ -1,0 +1,94 @@
+"""Where a server is, or several that serve one queue, such as the gateways of a queue in a Redis."""
+
+import re
+from collections.abc import Callable
+from typing import Any, NamedTuple
+
+LOOPBACK = "127.0.0.1"
+
+_ADDRESS = re.compile(r"(?:\[([^][,\s]+)\]|([^][:,\s]+)):([0-9]{1,5})")
+
+
+class Address(NamedTuple):
+    """A host and a port, and what a log or an error calls them."""
+
+    host: str
+    port: int
+    name: str
+
+
+def checked_port(port: object) -> int:
+    """A port at which a server can be. Raises `ValueError`, or `TypeError` for what is no whole number."""
+    if not isinstance(port, int):
+        raise TypeError(f"a port is a whole number, not {port!r}")
+    if not 1 <= port <= 65_535:
+        raise ValueError(f"a port is from 1 to 65535, not {port}")
+    return port
+
+
+def are_addresses(word: str) -> bool:
+    """Whether a word is meant to be addresses, and no port."""
+    return ":" in word or "," in word
+
+
+def read_addresses(text: str) -> list[Address]:
+    """Those of `HOST:PORT,HOST:PORT`. Raises `ValueError`, with the part that is wrong. So is one that stands twice,
+    which is rather meant to be another than to be tried twice."""
+    addresses: list[Address] = []
+    for part in text.split(","):
+        found = _ADDRESS.fullmatch(part)
+        if found is None or not 1 <= int(found[3]) <= 65_535:
+            raise ValueError(f"{part!r} is no address, such as gateway-1:7011 or [::1]:7011")
+        address = Address(found[1] or found[2], int(found[3]), part)
+        if any(it[:2] == address[:2] for it in addresses):
+            raise ValueError(f"the address {part} stands twice")
+        addresses.append(address)
+    return addresses
+
+
+class Servers:
+    """The addresses of a client, of which one is used at a time: that which served last, until it serves no more. Then
+    it is the next one's turn, and after the last one the first's."""
+
+    def __init__(self, port: int | str, host: str = LOOPBACK) -> None:
+        """`port` may be the text of one address or several."""
+        if not (isinstance(port, str) and are_addresses(port)):
+            self._all = [Address(host, checked_port(port), f"{host}:{port}")]
+        elif host == LOOPBACK:
+            self._all = read_addresses(port)
+        else:
+            raise ValueError(f"the addresses {port} name their hosts, so {host} can't be one")
+        self._index = self._failed = 0
+        self._has_served = False
+
+    def __len__(self) -> int:
+        return len(self._all)
+
+    @property
+    def current(self) -> Address:
+        """The one that serves, or is tried next."""
+        return self._all[self._index]
+
+    @property
+    def are_several(self) -> bool:
+        """Whether there is another one to go to."""
+        return len(self._all) > 1
+
+    def served(self) -> None:
+        """The current one has served: the others are tried at once when it does no more."""
+        self._failed, self._has_served = 0, True
+
+    def leave(self) -> None:
+        """A session has ended: moves on, if the current one has served."""
+        if self._has_served:
+            self.move_on()
+
+    def move_on(self) -> bool:
+        """The current one does not serve, or no more. Gives whether none has since `served`, so that a pause is due."""
+        self._index = (self._index + 1) % len(self._all)
+        self._failed, self._has_served = (self._failed + 1) % len(self._all), False
+        return self._failed == 0
+
+    def session(self, kind: Callable[..., Any], patience: float, **options: Any) -> Any:
+        """A session of this kind at the current one."""
+        return kind(self.current.port, self.current.host, patience, **options)
