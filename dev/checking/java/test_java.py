@@ -23,7 +23,7 @@ JARS = ("/usr/share/java/junit4.jar", "/usr/share/java/hamcrest.jar")
 RELEASE, VERSION = "17", "2.0.0"
 TESTS = [
     # jobs by themselves, and servers that are lost, full, silent or wrong as scripts of the protocol
-    "JobTest", "ScriptedTest", "LostRunTest",
+    "JobTest", "ScriptedTest", "LostRunTest", "AddressesTest",
     # one suite of what the JDK's pages say, over its own DelayQueue and over a queue at a server
     "DelayQueueTest", "SharedQueueTest",
     # what a queue at a server has beyond that

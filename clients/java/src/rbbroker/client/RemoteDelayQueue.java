@@ -63,9 +63,9 @@ public final class RemoteDelayQueue extends AbstractQueue<Job> implements Blocki
 
     /** How a queue deals with its server, and what makes it. */
     public static final class Builder {
-        private final int port;
         private final Acknowledge acknowledge;
-        private String host = "127.0.0.1";
+        private List<Address> addresses;
+        private boolean hasHosts;
         private SSLSocketFactory tls;
         private int waiters = 4;
         private Duration longestWait = Duration.ofMillis(250);
@@ -80,11 +80,24 @@ public final class RemoteDelayQueue extends AbstractQueue<Job> implements Blocki
          * @param acknowledge when the server is told that a job is finished
          */
         public Builder(int port, Acknowledge acknowledge) {
-            if (port < 1 || port > 65_535) {
-                throw new IllegalArgumentException("a port is 1 to 65535, not " + port);
-            }
-            this.port = port;
+            addresses = List.of(Address.at("127.0.0.1", port));
             this.acknowledge = Objects.requireNonNull(acknowledge);
+        }
+
+        /**
+         * Begins with several servers that have one queue, such as gateways on a Redis. One of them is used until it
+         * serves no more, and then the next one at once, with a pause only after a round in which none served. If one
+         * gives a wait up while jobs are held there, they are answered there, and jobs are taken at the next one: so
+         * {@link #longestWait} is to be no longer than the gateways' {@code --wait}.
+         *
+         * @param addresses {@code gateway-1:7011,gateway-2:7011}: no {@link #host} is named besides
+         * @param acknowledge when the server is told that a job is finished
+         * @throws IllegalArgumentException if a part of it is no address, or stands twice
+         */
+        public Builder(String addresses, Acknowledge acknowledge) {
+            this.addresses = Address.read(addresses);
+            this.acknowledge = Objects.requireNonNull(acknowledge);
+            hasHosts = true;
         }
 
         /**
@@ -94,7 +107,10 @@ public final class RemoteDelayQueue extends AbstractQueue<Job> implements Blocki
          * @return this builder
          */
         public Builder host(String name) {
-            host = Objects.requireNonNull(name);
+            if (hasHosts) {
+                throw new IllegalArgumentException("the addresses name their hosts, so " + name + " can't be one");
+            }
+            addresses = List.of(Address.at(Objects.requireNonNull(name), addresses.get(0).port()));
             return this;
         }
 
@@ -171,7 +187,7 @@ public final class RemoteDelayQueue extends AbstractQueue<Job> implements Blocki
 
         /** {@return a queue, which does not connect yet} */
         public RemoteDelayQueue build() {
-            return new RemoteDelayQueue(new Options(host, port, tls, acknowledge, waiters, nanos(longestWait),
+            return new RemoteDelayQueue(new Options(addresses, tls, acknowledge, waiters, nanos(longestWait),
                 nanos(patience), nanos(overdue)), onLostRun);
         }
 
@@ -226,7 +242,7 @@ public final class RemoteDelayQueue extends AbstractQueue<Job> implements Blocki
     /** Takes the job that expired first, or returns {@code null} if none has expired, though some may be there. */
     @Override
     public Job poll() {
-        return unlessClosed(make(Use.TAKE, session -> taken(session, session.ask(Request.POLL))));
+        return unlessClosed(make(Use.TAKE, session -> taken(session, session.poll())));
     }
 
     /**
@@ -243,7 +259,7 @@ public final class RemoteDelayQueue extends AbstractQueue<Job> implements Blocki
             }
             long asked = System.nanoTime();
             Job job = make(() -> lendToWait(deadline), Use.WAIT,
-                session -> taken(session, session.ask(Request.pollFor(waitUntil(deadline)))));
+                session -> taken(session, session.pollFor(waitUntil(deadline))));
             long left = waitUntil(deadline);
             if (job != null || left == 0) {
                 return unlessClosed(job);
@@ -376,9 +392,10 @@ public final class RemoteDelayQueue extends AbstractQueue<Job> implements Blocki
      * null if it is lent none.
      */
     private <T> T make(Supplier<Session> lender, Use use, Function<Session, T> exchange) {
-        Tries tries = new Tries(use, options.patience());
+        Tries tries = new Tries(use, options);
         while (true) {
             Greeting unheard = null; // of a server that was asked, and has answered nothing
+            boolean movesOn = false; // to another server, if there is one
             try {
                 Session session = lender.get();
                 if (session == null) {
@@ -389,11 +406,12 @@ public final class RemoteDelayQueue extends AbstractQueue<Job> implements Blocki
                     return exchange.apply(session);
                 } finally {
                     unheard = session.answered == answered ? session.contact.greeting : null;
+                    movesOn = session.isClosed || session.isUsedUp;
                     pool.giveBack(session);
                 }
             } catch (BrokerException fault) {
                 if (use != Use.CHANGE || !(fault.getCause() instanceof EOFException) || !isContinued(unheard)) {
-                    tries.pauseAfter(fault);
+                    tries.pauseAfter(fault, movesOn);
                 }
             }
         }
@@ -407,7 +425,7 @@ public final class RemoteDelayQueue extends AbstractQueue<Job> implements Blocki
         if (unheard == null || options.tls() != null) {
             return false;
         }
-        Tries tries = new Tries(Use.LOOK, options.patience());
+        Tries tries = new Tries(Use.LOOK, options);
         try {
             while (true) {
                 Greeting now = make(Use.LOOK, session -> session.contact.greeting);
@@ -415,7 +433,8 @@ public final class RemoteDelayQueue extends AbstractQueue<Job> implements Blocki
                     return now != null && now.follows(unheard);
                 }
                 // A run that ends lets clients in for some more milliseconds.
-                tries.pauseAfter(new ServerLostException("run " + now.run() + " goes on", false, new EOFException()));
+                tries.pauseAfter(new ServerLostException("run " + now.run() + " goes on", false, new EOFException()),
+                    false);
             }
         } catch (BrokerException gone) {
             return false;
@@ -471,7 +490,7 @@ public final class RemoteDelayQueue extends AbstractQueue<Job> implements Blocki
 
     /** Adds the jobs of one drain. Those that the collection has are acknowledged, if that is due; others come back. */
     private int drain(Session session, Collection<? super Job> jobs, int asked) {
-        List<Element> elements = session.ask(Request.drain(asked));
+        List<Element> elements = session.drain(asked);
         if (elements.isEmpty() && session.held.size() >= Session.MOST_HELD) {
             throw new RefusedException(Reason.TOO_MANY_HELD);
         }

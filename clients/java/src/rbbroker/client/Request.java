@@ -44,6 +44,8 @@ record Request<T>(String line, long longestWait, Pattern form, Reader<T> reader)
             number(matched(REFUSED, receiveLine(rest)), 1);
             return new Greeting(number(first, 1), number(first, 2), number(first, 3));
         });
+    /** What a wait gives that the server gave up. */
+    static final Element STOPPED = new Element(0, 0, 0, "");
     /** Takes a job that has expired, or returns null. */
     static final Request<Element> POLL = of("POLL", form("ITEM @|NONE"), Request::element);
     /** Shows the head, or returns null. */
@@ -73,9 +75,10 @@ record Request<T>(String line, long longestWait, Pattern form, Reader<T> reader)
         return of("OFFERAT " + Long.toUnsignedString(expiry) + " " + payload, OFFERED, it -> offered(it, payload));
     }
 
-    /** Takes a job, and waits for one up to {@code timeout} nanoseconds. Returns null if the server gives up before. */
+    /** Takes a job, and waits for one up to {@code timeout} nanoseconds. Returns null, or {@link #STOPPED}. */
     static Request<Element> pollFor(long timeout) {
-        return new Request<>("POLLFOR " + timeout, timeout, AWAITED, (first, rest) -> element(first));
+        return new Request<>("POLLFOR " + timeout, timeout, AWAITED,
+            (first, rest) -> first.group().equals("STOPPED") ? STOPPED : element(first));
     }
 
     /** Takes up to {@code most} jobs that have expired, and no more than the session may hold. */

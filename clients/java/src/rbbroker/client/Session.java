@@ -1,6 +1,7 @@
 package rbbroker.client;
 
 import java.io.BufferedInputStream;
+import java.io.EOFException;
 import java.io.IOException;
 import java.io.InputStream;
 import java.net.InetAddress;
@@ -8,6 +9,7 @@ import java.net.InetSocketAddress;
 import java.net.Socket;
 import java.net.SocketTimeoutException;
 import java.nio.charset.StandardCharsets;
+import java.util.ArrayList;
 import java.util.List;
 import java.util.Set;
 import java.util.concurrent.ConcurrentHashMap;
@@ -16,6 +18,7 @@ import java.util.stream.Collectors;
 import javax.net.ssl.SSLParameters;
 import javax.net.ssl.SSLSocket;
 import rbbroker.client.RefusedException.Reason;
+import rbbroker.client.Request.Element;
 
 /**
  * A session with the server, from its connection to its end. The thread that the pool has lent it to may use it.
@@ -54,10 +57,13 @@ final class Session {
     volatile Contact contact;
     /** How many times it was asked and answered. */
     volatile long answered;
-    /** Whether its run is full, so that it is to be left as soon as it holds no job. */
+    /** Whether its run is full or its gateway is to end, so that it is to be left as soon as it holds no job. */
     volatile boolean isUsedUp;
     /** Whether it has ended. If not, it may be lost all the same. */
     volatile boolean isClosed;
+
+    /** Where its server is. */
+    final Address address;
 
     private final Options options;
     private final ChannelSocket channel = new ChannelSocket();
@@ -65,17 +71,21 @@ final class Session {
     private Socket socket = channel;
     private InputStream input = channel.getInputStream();
 
-    Session(Options options) {
+    Session(Options options, Address address) {
         this.options = options;
+        this.address = address;
     }
 
-    /** Connects, and waits until the session is served, or is no longer wanted. Before that nothing is asked. */
+    /**
+     * Connects, and waits until the session is served, or is no longer wanted. Before that nothing is asked. Several
+     * servers share the patience.
+     */
     void open(Runs runs, BooleanSupplier isWanted) {
-        channel.limitWaits(System.nanoTime() + options.patience(),
+        channel.limitWaits(System.nanoTime() + options.patience() / options.addresses().size(),
             isInterrupted -> !(isInterrupted && use == Use.WAIT) && isWanted.getAsBoolean());
         String late = "it does not accept the connection";
         try {
-            channel.connect(new InetSocketAddress(InetAddress.getByName(options.host()), options.port()));
+            channel.connect(new InetSocketAddress(InetAddress.getByName(address.host()), address.port()));
             if (options.tls() != null) {
                 encrypt();
             }
@@ -83,7 +93,7 @@ final class Session {
             send(Request.GREETING.line() + "\n");
             contact = runs.begin(Request.GREETING.receive(input));
         } catch (IOException fault) {
-            throw new ServerLostException("no server at " + options.address(), false,
+            throw new ServerLostException("no server at " + address.name(), false,
                 fault instanceof SocketTimeoutException ? new SocketTimeoutException(late) : fault);
         } finally {
             if (!isServed()) {
@@ -93,7 +103,7 @@ final class Session {
     }
 
     private void encrypt() throws IOException {
-        var tls = (SSLSocket) options.tls().createSocket(channel, options.host(), options.port(), true);
+        var tls = (SSLSocket) options.tls().createSocket(channel, address.host(), address.port(), true);
         socket = tls;
         SSLParameters parameters = tls.getSSLParameters();
         parameters.setEndpointIdentificationAlgorithm("HTTPS"); // the other side must be whom this one looks for
@@ -136,7 +146,7 @@ final class Session {
             answered++;
         } catch (IOException fault) {
             close(); // which line answers which request is no longer known
-            String what = "no answer of the server at " + options.address() + " to " + text.strip();
+            String what = "no answer of the server at " + address.name() + " to " + text.strip();
             throw new ServerLostException(what, use != Use.LOOK, fault);
         }
         if (refusal != null) {
@@ -144,6 +154,55 @@ final class Session {
             throw refusal;
         }
         return answer;
+    }
+
+    /**
+     * Takes a job that has expired, or returns null. A gateway that is to end gives a wait up, but by a {@code POLL}
+     * the session ends, and its jobs with it. So where another gateway can go on, nothing else than a wait is asked
+     * beside jobs.
+     */
+    Element poll() {
+        return isToWait() ? pollFor(0) : ask(Request.POLL);
+    }
+
+    /** Takes a job, and waits for one up to a time. Returns null if there is none. */
+    Element pollFor(long nanos) {
+        Element element = ask(Request.pollFor(nanos));
+        if (element != Request.STOPPED) {
+            return element;
+        }
+        if (isToWait()) {
+            isUsedUp = true;
+            throw new ServerLostException("the server at " + address.name() + " gave a wait up", false,
+                new EOFException("another one is to give jobs"));
+        }
+        return null;
+    }
+
+    /** Takes up to so many jobs that have expired, as {@link #poll} does. */
+    List<Element> drain(int most) {
+        if (!isToWait()) {
+            return ask(Request.drain(most));
+        }
+        List<Element> elements = new ArrayList<>();
+        try {
+            while (elements.size() < Math.min(most, MOST_HELD - held.size())) {
+                Element element = pollFor(0);
+                if (element == null) {
+                    break;
+                }
+                elements.add(element);
+            }
+        } catch (ServerLostException fault) {
+            if (isClosed || elements.isEmpty()) {
+                throw fault;
+            }
+        }
+        return elements;
+    }
+
+    private boolean isToWait() {
+        return options.areSeveral() && contact.greeting == null && !held.isEmpty();
     }
 
     /** Ends it in good order, as far as that can be had. The jobs that it holds fail. */

@@ -20,6 +20,9 @@ import rbbroker.client.Session.Use;
  *
  * <p>Where a server does not serve a further session in the time of a wait, the others have to do for a while. The
  * server ends a session when it is to be left, or it is left as soon as it holds no job if the run is full.
+ *
+ * <p>Of several servers one is used at a time. When it serves no more, further sessions are at the next one. Those
+ * whose gateway is to end part: they are lent to answer the jobs that they hold, and for nothing else.
  */
 final class SessionPool {
     /** After so long a thread looks again, as a session may take jobs again, or a server serve another. */
@@ -31,6 +34,8 @@ final class SessionPool {
     private final Runs runs;
     /** Those that are served, and those that are being opened, which are lent. */
     private final List<Session> sessions = new ArrayList<>();
+    /** Which server is used, of several. */
+    private int current;
     /** Threads that wait for a session for a call that does not wait at the server. They come before those that do. */
     private int calling;
     /** Until when the others have to do, since the server did not serve a further session. */
@@ -50,10 +55,11 @@ final class SessionPool {
     /** Lends a session for a use, or gives null if none can be had for so long, or if an interrupt ends a wait. */
     Session lend(Use use, long nanos) {
         long deadline = System.nanoTime() + nanos;
+        int others = options.addresses().size() - 1; // which are tried at once
         Session session;
         do {
             session = find(use, deadline);
-        } while (session != null && !session.isServed() && !open(session));
+        } while (session != null && !session.isServed() && !open(session, others-- > 0));
         return session;
     }
 
@@ -89,6 +95,9 @@ final class SessionPool {
         }
         synchronized (this) {
             session.use = null;
+            if (session.isClosed || session.isUsedUp) {
+                moveOnFrom(session);
+            }
             if (isLost) {
                 forgetIfLost(session);
             } else if (session.isClosed) {
@@ -193,33 +202,49 @@ final class SessionPool {
             .or(() -> free.stream().min(Comparator.comparingInt(it -> it.held.size()))).orElse(null);
     }
 
-    private static boolean isFree(Session session) {
-        return session.use == null && session.answering == 0;
+    private boolean isFree(Session session) {
+        return session.use == null && session.answering == 0 && !parts(session);
+    }
+
+    /** Whether it is to answer its jobs, while another server gives more. */
+    private boolean parts(Session session) {
+        return session.isUsedUp && options.areSeveral();
+    }
+
+    /** Leaves the server of a session for the next one, unless another session of it has done so. */
+    private void moveOnFrom(Session session) {
+        List<Address> addresses = options.addresses();
+        if (addresses.get(current) == session.address) {
+            current = (current + 1) % addresses.size();
+        }
     }
 
     /** A further session, or null if there is no place. */
     private Session another() {
         crowdedUntil = hasServed() ? crowdedUntil : System.nanoTime();
         boolean isCrowded = System.nanoTime() - crowdedUntil < 0;
-        if (sessions.size() > options.waiters() || isCrowded) {
+        if (sessions.stream().filter(it -> !parts(it)).count() > options.waiters() || isCrowded) {
             return null;
         }
-        var session = new Session(options);
+        var session = new Session(options, options.addresses().get(current));
         sessions.add(session);
         return session;
     }
 
     private boolean hasServed() {
-        return sessions.stream().anyMatch(Session::isServed);
+        return sessions.stream().anyMatch(it -> it.isServed() && !parts(it));
     }
 
-    /** Opens a session. Gives whether it is served: if not, others are, or the queue was closed meanwhile. */
-    private boolean open(Session session) {
+    /**
+     * Opens a session. Gives whether it is served: if not, others are, or the next server is to be tried, or the queue
+     * was closed meanwhile.
+     */
+    private boolean open(Session session, boolean isAnotherLeft) {
         long begun = System.nanoTime();
         try {
             session.open(runs, () -> isWanted(begun));
         } catch (ServerLostException fault) {
-            if (!isInterrupted(session.use) && !(fault.mayPass && makesDo())) {
+            if (!isInterrupted(session.use) && !(fault.mayPass && (isAnotherLeft || makesDo()))) {
                 throw fault;
             }
         } finally {
@@ -249,6 +274,7 @@ final class SessionPool {
     private synchronized void endOpening(Session session) {
         if (!session.isServed()) {
             sessions.remove(session);
+            moveOnFrom(session);
             if (!hasServed()) {
                 runs.forgetClock();
             }
@@ -263,6 +289,7 @@ final class SessionPool {
     private boolean forgetIfLost(Session session) {
         if (session.isLost()) {
             sessions.remove(session);
+            moveOnFrom(session);
             runs.forgetClock();
             notifyAll();
         }
