@@ -11,15 +11,15 @@ from nodes import Process
 
 FOLDER = Path(__file__).resolve().parent
 JAVA = FOLDER.parents[1] / "clients" / "java"
-JAVA_WORKER = JAVA / "tests" / "rbbroker" / "client" / "HostileWorker.java"
+JAVA_WORKERS = [JAVA / f"tests/rbbroker/client/{it}.java" for it in ("HostileWorker", "ParallelWorker")]
 
 
 def compiled_java(room: Path) -> Path | None:
-    """The classes of the worker in Java, if there is a compiler."""
+    """The classes of the workers in Java, if there is a compiler."""
     if shutil.which("javac") is None:
         return None
     sources = [str(it) for it in (JAVA / "src" / "rbbroker").rglob("*.java")]
-    subprocess.run(["javac", "-d", str(room), *sources, str(JAVA_WORKER)], check=True, timeout=300)
+    subprocess.run(["javac", "-d", str(room), *sources, *map(str, JAVA_WORKERS)], check=True, timeout=300)
     return room
 
 
