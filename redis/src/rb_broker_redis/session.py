@@ -196,12 +196,14 @@ class Session(asyncio.Protocol):
             line = lines.popleft()
             kind, text = read_request(line) if line is not None else TRUNCATED
             if is_retiring and text.startswith(FETCHES):
+                if kind is not WAIT:
+                    # To end the session would cost its jobs an attempt, and no job is hidden by a reply that denies it.
+                    plan.append(ErrorReply.MEMORY)
+                    continue
                 if plan:
                     lines.appendleft(line)
-                elif kind is WAIT:
-                    self._wait_request = text
                 else:
-                    self._come_to_rest()
+                    self._wait_request = text
                 break
             if kind is CALL:
                 calls.append(seat + text)
