@@ -76,7 +76,7 @@ TOLD: list[tuple[str, str, Callable[[], Any]]] = [
     (PYTHON, r"`overdue=(\d+)`", lambda: default(Tasks, "overdue")),
     (PYTHON, r"that double from ([\d.]+) to", lambda: default(Pauses, "first")),
     (PYTHON, r"that double from [\d.]+ to (\d+) seconds", lambda: default(Pauses, "longest")),
-    (PYTHON, r"at the same time, (\d+) at most", lambda: MOST_HELD),
+    (PYTHON, r"N jobs, (\d+) at most, run at once", lambda: MOST_HELD),
     (PYTHON, r"a fifth of `wait` later, ([\d.]+) seconds by default", lambda: default(Worker, "wait") / 5),
     (JAVA, r"makes ([\d,]+) of a run's", lambda: 3_600_000 // in_source(
         "clients/java/src/rbbroker/client/RemoteDelayQueue.java", r"longestWait = Duration\.ofMillis\((\d+)\)")),

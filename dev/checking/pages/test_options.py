@@ -152,7 +152,7 @@ def test_the_settings_in_java() -> None:
     for name in ("waiters", "longestWait", "patience"):
         kind, number = re.search(rf"private \w+ {name} = (?:([\w.]+)\()?(\d+)\)?;", source).groups()
         assert rows[name] == (f"{number} {JAVA[kind]}" if kind else number), name
-    assert f'private String host = "{rows["host"]}";' in source
+    assert f'Address.at("{rows["host"]}", port)' in source
 
 
 def test_the_patience_of_producers_in_python() -> None:
