@@ -9,11 +9,12 @@ import random
 import signal
 import socket
 import subprocess
+import threading
 import time
 from collections import deque
 from collections.abc import Callable, Sequence
 from pathlib import Path
-from typing import Any
+from typing import IO, Any
 
 import redis
 
@@ -59,6 +60,12 @@ def wait_until(is_so: Callable[[], object], what: str, patience: float = PATIENC
     raise NotReady(what)
 
 
+def write_all(file: IO[bytes], text: bytes) -> None:
+    """Writes this, unless the reader ends before, and ends the file. It may have ended already, as its process was."""
+    with contextlib.suppress(BrokenPipeError, ValueError), file:
+        file.write(text)
+
+
 class Process:
     """A process that can be killed and started again."""
 
@@ -77,11 +84,9 @@ class Process:
                                              env=environment)
 
     def give(self, text: str) -> None:
-        """Gives it this on standard input, which ends."""
+        """Gives it this on standard input, which ends, and waits for none of it to be read."""
         assert self._process and self._process.stdin
-        with contextlib.suppress(BrokenPipeError):
-            self._process.stdin.write(text.encode())
-            self._process.stdin.close()
+        threading.Thread(target=write_all, args=(self._process.stdin, text.encode()), daemon=True).start()
 
     def end(self, number: int = signal.SIGTERM) -> int:
         """Ends it by a signal, and gives its status. One that has ended already stays so."""
