@@ -27,6 +27,7 @@ from servicing.tests.process import Service
 
 JOBS = int(os.environ.get("RB_BROKER_JOBS", 1_000))
 LONGEST = 120 + JOBS / 10  # seconds until all jobs are offered, or done
+LIFE = 900  # seconds after which a server is replaced, as it has sessions for about twice that
 HELD = 4  # jobs that a worker has at most
 POLICY = ("--delay", 2_000_000, "--attempts", 1_000)
 AT_SERVICE = ("--every", "5s", "--stop-within", "10s", "--delay", "2ms", "--attempts", 1_000, "--keep", "1d")
@@ -131,12 +132,23 @@ class HostileDayTest(ServedTest):
 
     def change_servers(self):
         """One server is replaced by the next, which soon runs full and is replaced too."""
-        self.wait_until(lambda: len(self.offered) >= JOBS // 3, LONGEST)
+        self.serve_until(lambda: len(self.offered) >= JOBS // 3)
         self.end()
         self.serve_next(JOBS // 2)
         self.wait_until(lambda: self.size() is None, LONGEST)
         self.end()
         self.serve_next(1_000_000)
+        self.serve_until(lambda: len(self.offered) + len(self.doubted) >= JOBS and self.is_empty())
+
+    def serve_until(self, is_so):
+        """Replaces each server that has served for LIFE, until it is so."""
+        while True:
+            end = time.monotonic() + LIFE
+            self.wait_until(lambda: time.monotonic() > end or is_so(), LONGEST)
+            if time.monotonic() <= end:
+                return
+            self.end()
+            self.serve_next(1_000_000)
 
     def record(self, kind):
         self.records.append(f"{self.room}/{kind}-{len(self.records)}.jsonl")
