@@ -117,6 +117,12 @@ silent_option = record (named_option (codes "silent")) {
   parser = Some (Unsigned 1 GREATEST_MOMENT);
 }
 
+-- `--since N`: from 0 to 2^64 - 1 nanoseconds
+abbrev pub since_option : Rule
+since_option = record (named_option (codes "since")) {
+  parser = Some (Unsigned 0 GREATEST_MOMENT);
+}
+
 -- `--chains`
 abbrev pub chains_flag : Rule
 chains_flag = record (new_rule (codes "chains")) {

@@ -16,7 +16,7 @@ use Rattle.rb_retry.specs.declared.policy.Policy.{Policy}
 use Rattle.rb_arguments.specs.Arguments.{AreTimerNames, attempts_option, calls_option, chains_flag, delay_option}
 use Rattle.rb_arguments.specs.Arguments.{file_argument, from_option, history_option, port_option, rate_option}
 use Rattle.rb_arguments.specs.Arguments.{sessions_option, timer_option, turns_option, workers_option}
-use Rattle.rb_arguments.specs.Arguments.{attentive_flag, greeting_option, silent_option, socket_option}
+use Rattle.rb_arguments.specs.Arguments.{attentive_flag, greeting_option, silent_option, since_option, socket_option}
 use Rattle.rb_arguments.specs.Arguments.{until_input_ends_flag}
 use Rattle.rb_options.specs.TimerKind.{timer_name}
 use Rattle.rb_options.specs.declared.script_options.ScriptOptions.{ScriptOptions}
@@ -44,8 +44,8 @@ with_server app = with_rule (with_rule (with_rule app workers_option) sessions_o
 -- a command with the options of a server that is attended, and of how it treats its clients
 abbrev pub with_manners : App → App
 with_manners app =
-    with_rule (with_rule (with_rule (with_rule (with_rule app socket_option) until_input_ends_flag)
-    greeting_option) attentive_flag) silent_option
+    with_rule (with_rule (with_rule (with_rule (with_rule (with_rule app socket_option) until_input_ends_flag)
+    greeting_option) attentive_flag) silent_option) since_option
 
 -- `script` with its options
 abbrev pub script_command : Bor (List (Bor Text)) → App
@@ -138,6 +138,7 @@ pub record GivesServeOptions (rows : List Row) (options : ServeOptions) : Type 0
   pub until_input_ends : GivesFlag (codes "until-input-ends") rows options.until_input_ends
   pub attentive : GivesFlag (codes "attentive") rows options.attentive
   pub silent : number_in (one_of (codes "silent") rows) ≡ options.silent
+  pub since : number_in (one_of (codes "since") rows) ≡ options.since
   pub run : GivesServerRun rows options.run
 
 -- the values name the file that a run's history is written to, and the one that it continues

@@ -58,6 +58,7 @@ pub record AreServerValues (rows : List Row) : Type 0 where
   pub turns : HasNumberWithin 0 MOST_TURNS (one_of (codes "turns") rows)
   pub socket : MayHaveNumberWithin LEAST_SOCKET GREATEST_SOCKET (codes "socket") rows
   pub silent : MayHaveNumberWithin 1 GREATEST_MOMENT (codes "silent") rows
+  pub since : MayHaveNumberWithin 0 GREATEST_MOMENT (codes "since") rows
   pub greeting : IfSome (first_of (codes "greeting") rows) IsGreeting
   pub run : AreServerRunValues rows
 

@@ -4,7 +4,7 @@ ghost use Rattle.clap.specs.Words.{rule_of};
 ghost use Rattle.rb_arguments.specs.Arguments.{AreTimerNames, attempts_option, calls_option, chains_flag};
 ghost use Rattle.rb_arguments.specs.Arguments.{delay_option, file_argument, from_option, history_option, named_option};
 ghost use Rattle.rb_arguments.specs.Arguments.{port_option, rate_option, sessions_option, timer_option};
-ghost use Rattle.rb_arguments.specs.Arguments.{attentive_flag, greeting_option, silent_option, socket_option};
+ghost use Rattle.rb_arguments.specs.Arguments.{attentive_flag, greeting_option, silent_option, since_option, socket_option};
 ghost use Rattle.rb_arguments.specs.Arguments.{turns_option, until_input_ends_flag, workers_option};
 
 use clap::builder::ValueParser;
@@ -218,6 +218,20 @@ pub(crate) fn silent_option<'a>(alloc: Global) -> Arg<'a>
         "nanoseconds of silence after which a session is ended",
     )
     .value_parser(ValueParser::Unsigned(1, GREATEST_MOMENT))
+}
+
+/// `--since N`
+pub(crate) fn since_option<'a>(alloc: Global) -> Arg<'a>
+    ensures rule { rule_of result ≡ since_option }
+    ensures local { result.global ≡ false }
+{
+    named(
+        alloc,
+        "since",
+        "N",
+        "nanoseconds after the machine's start at which the moment is the opening's",
+    )
+    .value_parser(ValueParser::Unsigned(0, GREATEST_MOMENT))
 }
 
 /// `--chains`

@@ -15,7 +15,7 @@ ghost use Rattle.rb_arguments.specs.RightWords.{AreWrongWords, AskForHelp, IsHel
 use crate::arguments::{
     attempts_option, attentive_flag, calls_option, chains_flag, delay_option, file_argument,
     from_option, greeting_option, history_option, port_option, rate_option, sessions_option,
-    silent_option, socket_option, timer_option, turns_option, until_input_ends_flag,
+    silent_option, since_option, socket_option, timer_option, turns_option, until_input_ends_flag,
     workers_option,
 };
 use crate::given_words::asked_by;
@@ -208,7 +208,8 @@ fn with_manners<'a>(alloc: Global, command: MadeCommand<'a>) -> MadeCommand<'a>
     let until = with_option(socket, until_input_ends_flag(alloc));
     let greeting = with_option(until, greeting_option(alloc));
     let attentive = with_option(greeting, attentive_flag(alloc));
-    with_option(attentive, silent_option(alloc))
+    let silent = with_option(attentive, silent_option(alloc));
+    with_option(silent, since_option(alloc))
 }
 
 // The command with the options of a queue.

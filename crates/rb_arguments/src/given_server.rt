@@ -67,6 +67,7 @@ fn serve_options(given: &ArgMatches<'_>) -> Option<ServeOptions>
     let turns = number_within(given, "turns", 0, MOST_TURNS)?;
     let socket = socket(given)?;
     let silent = silent(given)?;
+    let since = since(given)?;
     let run = run_options(given)?;
     Some(ServeOptions {
         port,
@@ -74,6 +75,7 @@ fn serve_options(given: &ArgMatches<'_>) -> Option<ServeOptions>
         until_input_ends: is_set(given, "until-input-ends"),
         attentive: is_set(given, "attentive"),
         silent,
+        since,
         timer,
         sessions,
         turns,
@@ -104,6 +106,18 @@ fn silent(given: &ArgMatches<'_>) -> Option<Option<u64>>
         return Some(None);
     }
     Some(Some(number_within(given, "silent", 1, GREATEST_MOMENT)?))
+}
+
+// At how many nanoseconds after the machine's start the moment is the opening's, if that is said. `None` if their number
+// is out of its range.
+fn since(given: &ArgMatches<'_>) -> Option<Option<u64>>
+    ensures given { IfSome result (λ since. number_in (one_of (codes "since") (given_rows given.now)) ≡ since) }
+    ensures taken { MayHaveNumberWithin 0 GREATEST_MOMENT (codes "since") (given_rows given.now) → IsSome result }
+{
+    if !has_value(given, "since") {
+        return Some(None);
+    }
+    Some(Some(number_within(given, "since", 0, GREATEST_MOMENT)?))
 }
 
 // The options of the server's run.

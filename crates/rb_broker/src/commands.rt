@@ -2,10 +2,11 @@ use crate::files::{check_output, text_of};
 use crate::greeting::greeting_line;
 use crate::history_file::HistoryFile;
 use crate::listener::{address_of, handed_listener};
+use crate::run_clock::RunClock;
 use rb_blocking::MachineClock;
 use rb_ending::BrokerFault;
 use rb_history::HistoryRoom;
-use rb_options::{ReplayOptions, ScriptOptions, ServeOptions, ServerRunOptions};
+use rb_options::{ReplayOptions, ScriptOptions, ServeOptions};
 use rb_protocol::{LimitedReader, LimitedWriter, WriterStatus};
 use rb_queue::Opening;
 use rb_runs::{ReadyScript, opening_in, over_timer, run_replay};
@@ -114,10 +115,9 @@ pub fn serve<R: Threads + Wait + time::Clock + Sync>(
         |_| BrokerFault::Listen,
     )?;
     print_listening(alloc, &mut rt.stdout(), options.port)?;
-    let run = &options.run;
     over_timer!(
         options.timer,
-        serve_over::<_, R>(rt, handle, &door, run, opening, history)
+        serve_over::<_, R>(rt, handle, &door, options, opening, history)
     )
 }
 
@@ -126,13 +126,13 @@ fn serve_over<T: Timer + Send, R: Threads + Wait + time::Clock + Sync>(
     rt: &HostRuntime,
     handle: &R,
     door: &TcpDoor<'_, CountedListener>,
-    run: &ServerRunOptions,
+    options: &ServeOptions,
     opening: Opening,
     history: HistoryFile,
 ) -> Result<(), BrokerFault> {
-    let alloc = rt.alloc();
+    let (alloc, run) = (rt.alloc(), &options.run);
     let text = HistoryRoom::new(alloc)?;
-    let clock = ServeClock::new(opening.last_at, MachineClock::new(handle));
+    let clock = ServeClock::new(opening.last_at, RunClock::new(handle, options.since));
     let queue = ServedQueue::<T>::open(alloc, run, opening)?;
     let (_, _, ended) = serve_run(
         handle,

@@ -12,6 +12,7 @@ mod files;
 mod greeting;
 mod history_file;
 mod listener;
+mod run_clock;
 
 ghost use Rattle.std.specs.Process.{exit_status};
 ghost use Rattle.clap.specs.Words.{kind_of};

@@ -16,7 +16,7 @@
 //! | `refused KIND STATUS` or `shown KIND STATUS`: clap's kind of error, and the exit status |
 //!
 //! A POLICY is `delay N attempts N` or `rate N attempts N`. MANNERS are ` socket N`, ` until-input-ends`,
-//! ` attentive`, ` silent N` and ` greeting "LINE"`. FILES are ` history "FILE"` and ` from "FILE"`, each only
+//! ` attentive`, ` silent N`, ` since N` and ` greeting "LINE"`. FILES are ` history "FILE"` and ` from "FILE"`, each only
 //! if it was given, as those are. There is no set-up.
 
 use crate::finding::Finding;
@@ -156,8 +156,11 @@ fn tell_manners(options: &ServeOptions, came: &mut Told) -> Result<(), Flaw> {
     if options.attentive {
         came.word("attentive")?;
     }
-    match options.silent {
-        Some(silent) => came.named("silent", silent),
+    if let Some(silent) = options.silent {
+        came.named("silent", silent)?;
+    }
+    match options.since {
+        Some(since) => came.named("since", since),
         None => Ok(()),
     }
 }

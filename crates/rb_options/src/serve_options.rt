@@ -35,6 +35,9 @@ pub struct ServeOptions {
     pub attentive: bool,
     /// After how many nanoseconds of silence a session is ended, if it is, 1 to 2^64 - 1.
     pub silent: Option<u64>,
+    /// At how many nanoseconds after the machine's start the moment is the opening's. If it is not said, that is when
+    /// the server starts.
+    pub since: Option<u64>,
     /// Which timer the queue uses.
     pub timer: TimerKind,
     /// How many sessions are served before the server ends, 1 to 10,000.

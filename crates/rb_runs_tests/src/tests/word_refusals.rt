@@ -111,7 +111,7 @@ const REPLAY: [&'static str; 6] = [
     "--attempts=9",
 ];
 
-const SERVE: [&'static str; 17] = [
+const SERVE: [&'static str; 18] = [
     "rb_broker",
     "serve",
     "--port=7011",
@@ -124,6 +124,7 @@ const SERVE: [&'static str; 17] = [
     "--greeting=hello",
     "--attentive",
     "--silent=13",
+    "--since=14",
     "--calls=7",
     "--from=a b",
     "--history=run.txt",
@@ -155,6 +156,7 @@ fn a_refused_allocation_is_answered(rt: HostRuntime) {
         until_input_ends: true,
         attentive: true,
         silent: Some(13),
+        since: Some(14),
         timer: TimerKind::Pairing,
         sessions: 5,
         turns: 11,
