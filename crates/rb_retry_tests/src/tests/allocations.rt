@@ -38,38 +38,47 @@ fn each_of_the_calls(rt: HostRuntime) {
     expect_answers(&rt, rt.alloc(), ROUNDS);
 }
 
-// Makes the calls, in groups, and asserts that all were answered as they have to be. All things are
-// made before the first call. Each round of a group counts the right answers.
+// Makes the calls, in groups, and asserts that all were answered as they have to be. The things of a group are made
+// before its first call. Each round of a group counts the right answers.
 fn expect_answers<R: Wait + Abort + time::Clock>(rt: &R, alloc: Global, rounds: u64) {
+    expect_same(rt, policies(rounds), rounds.saturating_mul(3));
+    let at_desks = rounds.saturating_mul(11).saturating_add(rounds.min(1));
+    expect_same(rt, at_kept(rt, alloc, rounds), at_desks);
+    expect_same(rt, at_shared(rt, alloc, rounds), at_desks);
+    let through_passes = through_passes(rt, alloc, rounds);
+    expect_same(rt, through_passes, rounds.saturating_mul(10));
+    let waited = waited(rt, alloc, rounds);
+    expect_same(rt, waited, rounds.saturating_mul(4));
+    let stopped = stopped(rt, alloc, rounds);
+    expect_same(rt, stopped, rounds.saturating_mul(3));
+    let (shared, pass) = opened(rt, alloc, 10);
+    expect_same(rt, closed(rt, shared, pass, rounds), rounds.min(1));
+}
+
+fn at_kept<R: Abort>(rt: &R, alloc: Global, rounds: u64) -> u64 {
     let (mut kept, mut tally) = kept::<ListTimer>(rt, alloc, 10_000);
     offer_all(rt, &mut KeptDesk::new(&mut kept, &mut tally));
-    let (desks, mut desk_pass) = opened_with_elements(rt, alloc);
-    let (passes, mut first_pass) = opened_with_elements(rt, alloc);
-    let (waits, mut wait_pass) = opened_with_elements(rt, alloc);
-    let (stops, mut stop_pass) = opened(rt, alloc, 10);
-    let (closings, closing_pass) = opened(rt, alloc, 10);
-    let at_desks = rounds.saturating_mul(11).saturating_add(rounds.min(1));
-    expect_same(rt, policies(rounds), rounds.saturating_mul(3));
-    expect_same(rt, kept_desks(rt, &mut kept, &mut tally, rounds), at_desks);
-    expect_same(
-        rt,
-        shared_desks(rt, &desks, &mut desk_pass, rounds),
-        at_desks,
-    );
-    let through_passes = pass_rounds(rt, &passes, &mut first_pass, rounds);
-    expect_same(rt, through_passes, rounds.saturating_mul(10));
-    let waited = wait_rounds(rt, &waits, &mut wait_pass, rounds);
-    expect_same(rt, waited, rounds.saturating_mul(4));
-    expect_same(
-        rt,
-        stop_rounds(rt, &stops, &mut stop_pass, rounds),
-        rounds.saturating_mul(3),
-    );
-    expect_same(
-        rt,
-        closed(rt, closings, closing_pass, rounds),
-        rounds.min(1),
-    );
+    kept_desks(rt, &mut kept, &mut tally, rounds)
+}
+
+fn at_shared<R: Wait + Abort + time::Clock>(rt: &R, alloc: Global, rounds: u64) -> u64 {
+    let (shared, mut pass) = opened_with_elements(rt, alloc);
+    shared_desks(rt, &shared, &mut pass, rounds)
+}
+
+fn through_passes<R: Wait + Abort + time::Clock>(rt: &R, alloc: Global, rounds: u64) -> u64 {
+    let (shared, mut pass) = opened_with_elements(rt, alloc);
+    pass_rounds(rt, &shared, &mut pass, rounds)
+}
+
+fn waited<R: Wait + Abort + time::Clock>(rt: &R, alloc: Global, rounds: u64) -> u64 {
+    let (shared, mut pass) = opened_with_elements(rt, alloc);
+    wait_rounds(rt, &shared, &mut pass, rounds)
+}
+
+fn stopped<R: Wait + Abort + time::Clock>(rt: &R, alloc: Global, rounds: u64) -> u64 {
+    let (shared, mut pass) = opened(rt, alloc, 10);
+    stop_rounds(rt, &shared, &mut pass, rounds)
 }
 
 // Opens a shared queue, offers the elements, and returns the queue with its first pass.
@@ -256,7 +265,7 @@ fn pass_round<R: Wait + Abort>(rt: &R, shared: &ListShared, pass: &mut ListPass,
     ensures { pass.new.table ≡ pass.old.table }
 {
     let Ok(mut other) = shared.split(rt, pass) else {
-        return 0;
+        rt.abort()
     };
     let (start, timeout) = (0, 5);
     let last = ELEMENTS.saturating_sub(1).saturating_sub(round);
@@ -360,11 +369,11 @@ fn closed<R: Wait + Abort>(rt: &R, shared: ListShared, mut pass: ListPass, round
         return 0;
     }
     let Ok(mut other) = shared.split(rt, &mut pass) else {
-        return 0;
+        rt.abort()
     };
     let answered = shared.call(rt, &mut other, 0, Ask::Size).is_ok();
     let Err((shared, mut pass, CloseFault::NotAll(..))) = shared.close(rt, pass) else {
-        return 0;
+        rt.abort()
     };
     shared.fold(&mut pass, other);
     count(&[answered && shared.close(rt, pass).is_ok()])

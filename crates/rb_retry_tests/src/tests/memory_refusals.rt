@@ -192,26 +192,55 @@ fn does<D: Desk>(
     ensures name { D.name (D.state desk.new) ≡ D.name (D.state desk.old) }
 {
     match row.deed {
-        Deed::Offer => {
-            let reply = desk.call(row.moment, first_offer(rt, element(rt, row.id).expiry))?;
-            expect_same(rt, reply, Reply::Offered(element(rt, row.id)));
-        }
-        Deed::Poll => {
-            let job = poll(desk, row.moment)?.expect(rt, "a job");
-            expect_element(rt, job.element(), row.id);
-            keep(rt, job, jobs);
-        }
-        Deed::Fail => fails(rt, desk, row, jobs)?,
-        Deed::Drain => {
-            let reply = desk.call(row.moment, Ask::Drain(30))?;
-            expect_drained(rt, &reply, row);
-        }
-        Deed::Fetch => {
-            assert!(rt; jobs.len() <= 1 && jobs.capacity() >= 60);
-            drain(desk, row.moment, 50, jobs)?;
-            expect_jobs(rt, jobs, row);
-        }
+        Deed::Offer => offers(rt, desk, row),
+        Deed::Poll => polls(rt, desk, row, jobs),
+        Deed::Fail => fails(rt, desk, row, jobs),
+        Deed::Drain => drains(rt, desk, row),
+        Deed::Fetch => fetches(rt, desk, row, jobs),
     }
+}
+
+fn offers<D: Desk>(rt: &impl Abort, desk: &mut D, row: Row) -> Result<(), DeskFault>
+    ensures name { D.name (D.state desk.new) ≡ D.name (D.state desk.old) }
+{
+    let reply = desk.call(row.moment, first_offer(rt, element(rt, row.id).expiry))?;
+    expect_same(rt, reply, Reply::Offered(element(rt, row.id)));
+    Ok(())
+}
+
+fn polls<D: Desk>(
+    rt: &impl Abort,
+    desk: &mut D,
+    row: Row,
+    jobs: &mut Vec<Job>,
+) -> Result<(), DeskFault>
+    ensures name { D.name (D.state desk.new) ≡ D.name (D.state desk.old) }
+{
+    let job = poll(desk, row.moment)?.expect(rt, "a job");
+    expect_element(rt, job.element(), row.id);
+    keep(rt, job, jobs);
+    Ok(())
+}
+
+fn drains<D: Desk>(rt: &impl Abort, desk: &mut D, row: Row) -> Result<(), DeskFault>
+    ensures name { D.name (D.state desk.new) ≡ D.name (D.state desk.old) }
+{
+    let reply = desk.call(row.moment, Ask::Drain(30))?;
+    expect_drained(rt, &reply, row);
+    Ok(())
+}
+
+fn fetches<D: Desk>(
+    rt: &impl Abort,
+    desk: &mut D,
+    row: Row,
+    jobs: &mut Vec<Job>,
+) -> Result<(), DeskFault>
+    ensures name { D.name (D.state desk.new) ≡ D.name (D.state desk.old) }
+{
+    assert!(rt; jobs.len() <= 1 && jobs.capacity() >= 60);
+    drain(desk, row.moment, 50, jobs)?;
+    expect_jobs(rt, jobs, row);
     Ok(())
 }
 
