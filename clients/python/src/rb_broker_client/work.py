@@ -22,14 +22,14 @@ Asked = tuple[Request[Any], Callable[[Any], None]]  # a request, and what takes 
 
 class Work:
     """One session of a worker. In turns, `ask` says what is to be sent, `answered` takes each answer, in order, and
-    `given` and `dead` say what came of it: jobs to be run, and jobs that failed in their last attempt. The caller takes
-    them out. `ended` is called with each job whose handler has ended."""
+    `given` has the jobs that are to be run then, which the caller takes out. `ended` is called with each job whose
+    handler has ended."""
 
-    def __init__(self, wait: float, report: Report, pauses: Pauses, run: Run, attempts: float = math.inf,
-                 may_move: bool = False) -> None:
-        """A wait for a job lasts so many seconds while none runs. Each job has so many attempts. A worker that
-        `may_move` has another server to go to."""
-        self._attempts, self._is_lost, self._may_move = attempts, False, may_move
+    def __init__(self, wait: float, report: Report, pauses: Pauses, run: Run, bury: Callable[[Job], object],
+                 attempts: float = math.inf, may_move: bool = False) -> None:
+        """A wait for a job lasts so many seconds while none runs. `bury` is called with each job that failed in its
+        last attempt, and each has so many. A worker that `may_move` has another server to go to."""
+        self._bury, self._attempts, self._is_lost, self._may_move = bury, attempts, False, may_move
         self._wait, self._report, self._pauses, self._run = wait, report, pauses, run
         self.place = run.place  # of the server that serves it
         self.greeting: Greeting | None = None  # known once it is served
@@ -49,7 +49,6 @@ class Work:
         self.has_fetched = False  # whether a fetch was answered by jobs, or by none
         self._is_leaving = self.is_left = False  # whether the server was told that it is left, and has read so
         self.given: list[Job] = []
-        self.dead: list[Job] = []
 
     def ask(self, free: int, running: int, is_stopping: bool) -> list[Request[Any]]:
         """What is to be sent now. `free` is how many more jobs can be started at once, and `running` how many run. A
@@ -96,8 +95,8 @@ class Work:
         # The end of the session has failed these, or will, of which no reply tells.
         for job in failed:
             if job.attempt >= self._attempts:
-                self.dead.append(job)
                 log.error("job %s failed in its last attempt, %d, and its session was lost", job.payload, job.attempt)
+                self._bury(job)
 
     def pause(self) -> float:
         """Within how many seconds something is to be done, though nothing happens, that was not at the last `ask`."""
@@ -209,12 +208,12 @@ class Work:
         elif isinstance(answer, FullError):
             self._report.lost += 1
             self.is_used_up = True
-            self.dead.append(job)
             log.error("job %s is lost: it failed in a full run", job.payload)
+            self._bury(job)
         else:
             self._report.dead += 1
-            self.dead.append(job)
             log.error("job %s failed in its last attempt, %d", job.payload, job.attempt)
+            self._bury(job)
 
 
 def _demand(answer: Any) -> None:

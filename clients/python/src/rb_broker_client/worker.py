@@ -34,7 +34,6 @@ Function = Callable[[Job], object]
 Handler = TypeVar("Handler", bound=Function)  # as callers give it: one that returns nothing, or is to be awaited
 OnDead = TypeVar("OnDead", bound=Function)
 
-
 _Visit = tuple[Work, Session]
 
 
@@ -100,7 +99,7 @@ class BaseWorker(Generic[Handler, OnDead]):
         self._turns = self._turns_of(concurrency > 1 or timeout is not None)
         self._has_run = self._is_stopping = self._is_connecting = False
         self._visit: _Visit | None = None  # the one that fetches
-        self._parting: list[_Visit] = []  # those that fetch no more, while another one does
+        self._visits: tuple[_Visit, ...] = ()  # with those that fetch no more, while another one does
         self._next_visit = 0.0  # when the next may begin
         self._calls: set[_Call] = set()  # that run
         self._ends: deque[tuple[_Call, bool | None]] = deque()  # whether the job is done, or None if it ends the worker
@@ -134,7 +133,7 @@ class BaseWorker(Generic[Handler, OnDead]):
             await self._turns.run(self._turn)
         finally:
             is_over.set()
-            for visit in self._visits():
+            for visit in self._visits:
                 self._end(visit)
             await self._turns.close()
         return self.report
@@ -150,20 +149,17 @@ class BaseWorker(Generic[Handler, OnDead]):
 
     def _turn(self) -> float | None:
         self._settle()
-        for visit in self._visits():
+        for visit in self._visits:
             self._go_on(visit)
         if self._may_connect() and time.monotonic() >= self._next_visit:
             self._is_connecting = True
             self._turns.begin(self._connect())
             self._settle()  # what it raised, if it has ended
-        is_over = self._is_stopping and not (self._visits() or self._is_connecting)
+        is_over = self._is_stopping and not (self._visits or self._is_connecting)
         return None if is_over and all(it.is_told for it in self._calls) else self._pause()
 
     def _may_connect(self) -> bool:
         return not (self._visit or self._is_stopping or self._is_connecting or len(self._calls) >= self._concurrency)
-
-    def _visits(self) -> list[_Visit]:
-        return [*self._parting, self._visit] if self._visit else [*self._parting]
 
     def _go_on(self, visit: _Visit) -> None:
         work, session = visit
@@ -187,12 +183,13 @@ class BaseWorker(Generic[Handler, OnDead]):
             with ExitStack() as undo:
                 undo.callback(session.close)
                 await session._connect()
-                work = Work(self._wait, self.report, self._pauses, self._run_known, self._attempts,
+                work = Work(self._wait, self.report, self._pauses, self._run_known, self._bury, self._attempts,
                             self._servers.are_several)
                 session.post(*work.ask(0, 0, False))
                 undo.pop_all()
             self._turns.watch(session)
             self._visit = work, session
+            self._visits += (self._visit,)
         except OSError as fault:
             self._run_known.away("no server at %s: %s", fault)
             self._move_on()
@@ -210,7 +207,7 @@ class BaseWorker(Generic[Handler, OnDead]):
         pause = min([FOR_EVER, *(it.late - now for it in self._calls)])
         if self._next_visit > now or self._may_connect():
             pause = min(self._next_visit - now, pause)
-        for work, session in self._visits():
+        for work, session in self._visits:
             pause = min(self._late(work, session) - now, work.pause(), SOON if session.unsent else pause)
         return max(pause, 0)
 
@@ -228,26 +225,22 @@ class BaseWorker(Generic[Handler, OnDead]):
         for job in work.given:
             self._start(self._handler, job, work)
         work.given = []
-        self._bury(work)
         self._settle()
 
-    def _bury(self, work: Work) -> None:
-        dead, work.dead = work.dead, []
+    def _bury(self, job: Job) -> None:
         if self._on_dead is not None:
-            for job in dead:
-                self._start(self._on_dead, job, None)
+            self._start(self._on_dead, job, None)
 
     def _attend(self, visit: _Visit) -> None:
         work, session = visit
         running = len(self._calls)
-        free = self._concurrency - running - sum(it.fetching for it, _ in self._visits())
+        free = self._concurrency - running - sum(it.fetching for it, _ in self._visits)
         questions = work.ask(free, running, self._is_stopping)
         if questions or session.unsent:
             session.post(*questions)
         if work.is_left or self._is_stopping and not work.is_served:
             self._end(visit, is_lost=work.is_used_up)
         elif work.is_used_up and visit is self._visit and self._servers.are_several:
-            self._parting.append(visit)
             self._leave(work)
 
     def _leave(self, work: Work) -> None:
@@ -260,13 +253,11 @@ class BaseWorker(Generic[Handler, OnDead]):
     def _end(self, visit: _Visit, is_lost: bool = False) -> None:
         work, session = visit
         work.lost()
-        self._bury(work)
         session.close()
-        if visit is not self._visit:
-            self._parting.remove(visit)
-        elif is_lost:
+        self._visits = tuple(it for it in self._visits if it is not visit)
+        if visit is self._visit and is_lost:
             self._leave(work)
-        else:
+        elif visit is self._visit:
             self._visit = None
 
     def _start(self, function: Function, job: Job, work: Work | None) -> None:
@@ -305,8 +296,7 @@ class BaseWorker(Generic[Handler, OnDead]):
             self._calls.discard(call)
             if call.work is not None and not call.is_told:
                 call.work.ended(call.job, is_done)
-                self._bury(call.work)
-        if self._fault is not None and not (self._calls or any(work.held for work, _ in self._visits())):
+        if self._fault is not None and not (self._calls or any(work.held for work, _ in self._visits)):
             raise self._fault
         for it in [*self._calls] if self._timeout < math.inf else ():
             if it.work and it.late <= time.monotonic():
@@ -314,7 +304,6 @@ class BaseWorker(Generic[Handler, OnDead]):
                           it.job.payload, it.job.attempt, self._timeout)
                 it.is_told, it.late = True, math.inf
                 it.work.ended(it.job, False)
-                self._bury(it.work)
                 if it.cancel:
                     it.cancel()
 

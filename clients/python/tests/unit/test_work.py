@@ -33,7 +33,8 @@ class WorkTest(unittest.TestCase):
         """Begins a session, which is served at once."""
         known = Run(logging.getLogger("rb_broker_client.worker"), "a place")
         self.report, self.concurrency, self.running, self.is_stopping = Report(), concurrency, 0, True
-        self.work = Work(1.0, self.report, Pauses(first, longest), known, attempts)
+        self.dead = []
+        self.work = Work(1.0, self.report, Pauses(first, longest), known, self.dead.append, attempts)
         self.work.greeting = Greeting(run, 0, 0) if run else None
         self.due, self.jobs = deque(), {}
         self.asks("AT 0")
@@ -67,7 +68,7 @@ class WorkTest(unittest.TestCase):
         self.work.given.clear()
 
     def buries(self, payloads):
-        self.assertEqual(self.work.dead, [self.jobs[it] for it in payloads.split()])
+        self.assertEqual(self.dead, [self.jobs[it] for it in payloads.split()])
 
     def runs(self, count):
         self.running = int(count)
