@@ -9,7 +9,6 @@ import threading
 import time
 from collections import deque
 from collections.abc import Awaitable, Callable
-from contextlib import ExitStack
 from dataclasses import dataclass
 from functools import partial
 from typing import Any, ClassVar, Generic, TextIO, TypeVar
@@ -149,12 +148,12 @@ class BaseWorker(Generic[Handler, OnDead]):
 
     def _turn(self) -> float | None:
         self._settle()
-        for visit in self._visits:
-            self._go_on(visit)
         if self._may_connect() and time.monotonic() >= self._next_visit:
             self._is_connecting = True
             self._turns.begin(self._connect())
             self._settle()  # what it raised, if it has ended
+        for visit in self._visits:
+            self._go_on(visit)
         is_over = self._is_stopping and not (self._visits or self._is_connecting)
         return None if is_over and all(it.is_told for it in self._calls) else self._pause()
 
@@ -180,15 +179,10 @@ class BaseWorker(Generic[Handler, OnDead]):
         try:
             self._run_known.place = self._servers.current.name
             session = self._session_at(self._patience)
-            with ExitStack() as undo:
-                undo.callback(session.close)
-                await session._connect()
-                work = Work(self._wait, self.report, self._pauses, self._run_known, self._bury, self._attempts,
-                            self._servers.are_several)
-                session.post(*work.ask(0, 0, False))
-                undo.pop_all()
+            await session._connect()
             self._turns.watch(session)
-            self._visit = work, session
+            self._visit = Work(self._wait, self.report, self._pauses, self._run_known, self._bury, self._attempts,
+                               self._servers.are_several), session
             self._visits += (self._visit,)
         except OSError as fault:
             self._run_known.away("no server at %s: %s", fault)
@@ -224,7 +218,7 @@ class BaseWorker(Generic[Handler, OnDead]):
             raise TimeoutError(f"the server did not answer within {self._patience} seconds")
         for job in work.given:
             self._start(self._handler, job, work)
-        work.given = []
+        work.given.clear()
         self._settle()
 
     def _bury(self, job: Job) -> None:
