@@ -11,7 +11,7 @@ import time
 import uuid
 from collections import deque
 from collections.abc import Callable, Coroutine, Iterable
-from contextlib import ExitStack
+from contextlib import AbstractContextManager, ExitStack
 from functools import wraps
 from operator import length_hint
 from selectors import EVENT_READ, EVENT_WRITE
@@ -306,7 +306,7 @@ class AsyncBroker(Session):
         self.close()
 
 
-class Broker(Session):
+class Broker(Session, AbstractContextManager["Broker"]):
     """One session with `rb_broker serve`, from the connection to its end. One thread or task at a time may use it.
 
     There is a method for each request, which gives its reply as a value. A refusal is raised as a kind of
@@ -330,9 +330,6 @@ class Broker(Session):
     ask_all = blocking(Session._ask_all)
     quit = blocking(Session._quit)
     await_service = blocking(Session._await_service)
-
-    def __enter__(self) -> Self:
-        return self
 
     def __exit__(self, *fault: object) -> None:
         self.close()

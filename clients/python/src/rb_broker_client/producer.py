@@ -6,10 +6,9 @@ import os
 import ssl
 import time
 from collections.abc import Callable
-from contextlib import ExitStack
+from contextlib import AbstractAsyncContextManager, AbstractContextManager, ExitStack
 from dataclasses import replace
-from functools import partial
-from typing import Any, ClassVar, Self, TextIO
+from typing import Any, ClassVar, TextIO
 from weakref import WeakSet
 
 from .answers import EndedError, FullError, Greeting, InDoubtError, LostRun, NotOfferedError, Offered, OutOfMemoryError
@@ -38,9 +37,7 @@ class BaseProducer:
         lost, the next session is at the next. An offer takes no longer than `patience`, whatever it waits for.
         `on_lost_run` is called, in a thread of its own, when the server has lost a run. `tls` and `record` are those of
         a `Broker`."""
-        self._servers = Servers(port, host)
-        self._session_at: Callable[[float], Session] = partial(
-            self._servers.session, self._session_of, tls=tls, record=record)
+        self._servers = Servers(port, host, tls=tls, record=record)
         self._may_double, self._patience, self._is_direct = may_double, seconds(patience), tls is None
         self._pauses = pauses or Pauses(longest=2.0)
         self._run, self._kind = Run(log, self._servers.current.name, on_lost_run), self._session_of._kind
@@ -147,7 +144,7 @@ class BaseProducer:
 
     async def _begin_pipeline(self, deadline: float) -> None:
         self._run.place = self._servers.current.name
-        session = self._session_at(max(deadline - time.monotonic(), LEAST))
+        session = self._servers.session(self._session_of, max(deadline - time.monotonic(), LEAST))
         with ExitStack() as undo:
             undo.callback(session.close)
             await session._connect()
@@ -176,20 +173,17 @@ if hasattr(os, "register_at_fork"):
     os.register_at_fork(after_in_child=lambda: [*map(BaseProducer._begin_anew, _PRODUCERS)])
 
 
-class AsyncProducer(BaseProducer):
+class AsyncProducer(BaseProducer, AbstractAsyncContextManager["AsyncProducer"]):
     """A `Producer` for asyncio, which tasks of one event loop may share."""
 
     _session_of = AsyncBroker
     offer, close = BaseProducer._offer, BaseProducer._close
 
-    async def __aenter__(self) -> Self:
-        return self
-
     async def __aexit__(self, *fault: object) -> None:
         await self.close()
 
 
-class Producer(BaseProducer):
+class Producer(BaseProducer, AbstractContextManager["Producer"]):
     """Offers jobs, and connects again when its connection is lost. Threads may share it: their offers go out as they
     come, over one session, which an offer begins if there is none. An offer that was surely not accepted is tried
     again, for up to `patience`. If the connection is lost before the reply nobody can tell. Then it raises
@@ -197,9 +191,6 @@ class Producer(BaseProducer):
 
     _session_of = Broker
     offer, close = blocking(BaseProducer._offer), blocking(BaseProducer._close)
-
-    def __enter__(self) -> Self:
-        return self
 
     def __exit__(self, *fault: object) -> None:
         self.close()

@@ -50,15 +50,15 @@ class Servers:
     """The addresses of a client, of which one is used at a time: that which served last, until it serves no more. Then
     it is the next one's turn, and after the last one the first's."""
 
-    def __init__(self, port: int | str, host: str = LOOPBACK) -> None:
-        """`port` may be the text of one address or several."""
+    def __init__(self, port: int | str, host: str = LOOPBACK, **options: Any) -> None:
+        """`port` may be the text of one address or several. Each session has these options."""
         if not (isinstance(port, str) and are_addresses(port)):
             self._all = [Address(host, checked_port(port), f"{host}:{port}")]
         elif host == LOOPBACK:
             self._all = read_addresses(port)
         else:
             raise ValueError(f"the addresses {port} name their hosts, so {host} can't be one")
-        self._index = self._failed = 0
+        self._options, self._index, self._failed = options, 0, 0
         self._has_served = False
 
     def __len__(self) -> int:
@@ -89,6 +89,6 @@ class Servers:
         self._failed, self._has_served = (self._failed + 1) % len(self._all), False
         return self._failed == 0
 
-    def session(self, kind: Callable[..., Any], patience: float, **options: Any) -> Any:
+    def session(self, kind: Callable[..., Any], patience: float) -> Any:
         """A session of this kind at the current one."""
-        return kind(self.current.port, self.current.host, patience, **options)
+        return kind(self.current.port, self.current.host, patience, **self._options)

@@ -10,7 +10,6 @@ import time
 from collections import deque
 from collections.abc import Awaitable, Callable
 from dataclasses import dataclass
-from functools import partial
 from typing import Any, ClassVar, Generic, TextIO, TypeVar
 
 from rb_broker_formats.protocol import MOST_HELD
@@ -88,9 +87,7 @@ class BaseWorker(Generic[Handler, OnDead]):
             self._check(it)
         if isinstance(on_dead, DeadLetters) and self._session_of._kind.is_async:
             self._on_dead = on_dead.keep
-        self._servers = Servers(port, host)
-        self._session_at: Callable[[float], Session] = partial(
-            self._servers.session, self._session_of, tls=tls, record=record)
+        self._servers = Servers(port, host, tls=tls, record=record)
         self._wait, self._patience = seconds(wait), seconds(patience)
         self._timeout = math.inf if timeout is None else seconds(timeout)
         self._attempts = math.inf if attempts is None else attempts
@@ -147,11 +144,10 @@ class BaseWorker(Generic[Handler, OnDead]):
                                 "the handler" if it.work else "on_dead", it.job.payload, it.job.attempt, LONG)
 
     def _turn(self) -> float | None:
-        self._settle()
         if self._may_connect() and time.monotonic() >= self._next_visit:
             self._is_connecting = True
             self._turns.begin(self._connect())
-            self._settle()  # what it raised, if it has ended
+        self._settle()
         for visit in self._visits:
             self._go_on(visit)
         is_over = self._is_stopping and not (self._visits or self._is_connecting)
@@ -178,7 +174,7 @@ class BaseWorker(Generic[Handler, OnDead]):
     async def _connect(self) -> None:
         try:
             self._run_known.place = self._servers.current.name
-            session = self._session_at(self._patience)
+            session = self._servers.session(self._session_of, self._patience)
             await session._connect()
             self._turns.watch(session)
             self._visit = Work(self._wait, self.report, self._pauses, self._run_known, self._bury, self._attempts,

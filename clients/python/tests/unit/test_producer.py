@@ -7,8 +7,9 @@ import unittest.mock
 from from_threads import for_both_kinds
 from scripted import PATIENCE, ScriptedTest, fork, free_port, status_of
 from rb_broker_client import (
-    Broker, FullError, InDoubtError, NotOfferedError, Offered, OutOfMemoryError, Pauses, Producer, RefusedError,
+    FullError, InDoubtError, NotOfferedError, Offered, OutOfMemoryError, Pauses, Producer, RefusedError,
 )
+from rb_broker_client.servers import Servers
 
 OFFER, FIRST, SECOND = "OFFER 5 a", "OFFER 5 a > OFFERED 0 5", "OFFER 5 a > OFFERED 1 5"
 
@@ -122,7 +123,7 @@ class SessionTest(ProducerCase):
         port = self.play(f"AT 0; {OFFER} > OFFERED 7 5").port  # a scripted server serves one at a time
 
         def offer_there():
-            producer._session_at = lambda _: Broker(port)
+            producer._servers = Servers(port)
             with producer:
                 return offer(producer).id
 
