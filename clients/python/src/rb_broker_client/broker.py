@@ -182,7 +182,12 @@ class Session:
             while self._due or self.answers:
                 deadline = math.inf if self.patience is None else time.monotonic() + self.patience
                 while not self.answers:
-                    await self._wait(deadline)
+                    self._demand()
+                    if not await self.is_ready(deadline):
+                        raise TimeoutError(f"the server did not answer within {self.patience} seconds")
+                    self.receive()
+                    if self.unsent:
+                        self.post()
                 answers.append(self._own(self.take_answer()))
         finally:
             self._is_asking = False
@@ -247,16 +252,12 @@ class Session:
         if self._fault is not None:
             raise self._fault
 
-    async def _wait(self, deadline: float) -> None:
+    async def is_ready(self, deadline: float) -> bool:
+        """Waits until something can be read or, if something is to be, sent. Gives whether it can, by this deadline."""
         # A server reads no further while its replies are not read, so they are read while there is more to send.
-        self._demand()
         events = EVENT_READ | EVENT_WRITE if self.unsent else EVENT_READ
         left = None if deadline == math.inf else max(deadline - time.monotonic(), 0)
-        if not await self._kind.ready(self._socket, events, left):
-            raise TimeoutError(f"the server did not answer within {self.patience} seconds")
-        self.receive()
-        if self.unsent:
-            self.post()
+        return await self._kind.ready(self._socket, events, left)
 
 
 def _asks(make: Callable[Words, Request[Answer]]) -> Callable[

@@ -4,7 +4,6 @@ import threading
 import time
 from collections import deque
 from collections.abc import Callable
-from selectors import EVENT_READ, EVENT_WRITE
 from typing import Any
 
 from .answers import DisconnectedError, UnknownReplyError
@@ -88,33 +87,24 @@ class Pipeline:
         if not reads:
             return await self._kind.acquire(bell, max(deadline - time.monotonic(), 0))
         try:
-            return await self._read(call, deadline)
+            while not call.is_answered and await self.session.is_ready(deadline):
+                with self._lock:
+                    self._hear()
+            return call.is_answered
         finally:
             self._is_read = False  # whereupon `ask` wakes another
 
-    async def _read(self, call: _Call, deadline: float) -> bool:
-        while not call.is_answered:
-            events = EVENT_READ | EVENT_WRITE if self.session.unsent else EVENT_READ
-            if not await self._kind.ready(self.session._socket, events, max(deadline - time.monotonic(), 0)):
-                return False
-            with self._lock:
-                self._hear()
-        return True
+    def _hear(self) -> None:
+        self.session.receive()
+        self._send()
 
     def _send(self, *requests: Request[Any]) -> None:
         try:
+            self._hand_out()  # what came before the session was lost
             self.session.post(*requests)
             self._hand_out()
         except (OSError, UnknownReplyError) as fault:
             self._lose(fault)
-
-    def _hear(self) -> None:
-        self.session.receive()
-        try:
-            self._hand_out()  # what came before the session was lost
-        except UnknownReplyError as fault:
-            self._lose(fault)
-        self._send()
 
     def _hand_out(self) -> None:
         while self._calls and self.session.answers:
