@@ -17,15 +17,6 @@ class Address(NamedTuple):
     name: str
 
 
-def checked_port(port: object) -> int:
-    """A port at which a server can be. Raises `ValueError`, or `TypeError` for what is no whole number."""
-    if not isinstance(port, int):
-        raise TypeError(f"a port is a whole number, not {port!r}")
-    if not 1 <= port <= 65_535:
-        raise ValueError(f"a port is from 1 to 65535, not {port}")
-    return port
-
-
 def are_addresses(word: str) -> bool:
     """Whether a word is meant to be addresses, and no port."""
     return ":" in word or "," in word
@@ -51,13 +42,18 @@ class Servers:
     it is the next one's turn, and after the last one the first's."""
 
     def __init__(self, port: int | str, host: str = LOOPBACK, **options: Any) -> None:
-        """`port` may be the text of one address or several. Each session has these options."""
-        if not (isinstance(port, str) and are_addresses(port)):
-            self._all = [Address(host, checked_port(port), f"{host}:{port}")]
-        elif host == LOOPBACK:
+        """`port` may be the text of one address or several. Each session has these options. Raises `ValueError`, or
+        `TypeError` for what is neither such a text nor a whole number."""
+        if isinstance(port, str) and are_addresses(port):
             self._all = read_addresses(port)
+            if host != LOOPBACK:
+                raise ValueError(f"the addresses {port} name their hosts, so {host} can't be one")
+        elif not isinstance(port, int):
+            raise TypeError(f"a port is a whole number, not {port!r}")
+        elif not 1 <= port <= 65_535:
+            raise ValueError(f"a port is from 1 to 65535, not {port}")
         else:
-            raise ValueError(f"the addresses {port} name their hosts, so {host} can't be one")
+            self._all = [Address(host, port, f"{host}:{port}")]
         self._options, self._index, self._failed = options, 0, 0
         self._has_served = False
 

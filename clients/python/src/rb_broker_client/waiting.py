@@ -84,21 +84,18 @@ class Looping:
 
     @staticmethod
     async def ready(of: socket.socket, events: int, seconds: float | None) -> bool:
-        loop, can = asyncio.get_running_loop(), asyncio.Event()
-        loop.add_reader(of, can.set)  # which is always waited for
+        loop, bell = asyncio.get_running_loop(), Looping.bell()
+        loop.add_reader(of, bell.release)  # which is always waited for
         if events & selectors.EVENT_WRITE:
-            loop.add_writer(of, can.set)
+            loop.add_writer(of, bell.release)
         try:
-            async with asyncio.timeout(seconds):
-                return await can.wait()
-        except TimeoutError:
-            return False
+            return await Looping.acquire(bell, seconds)
         finally:
             loop.remove_reader(of)
             loop.remove_writer(of)
 
     @staticmethod
-    async def acquire(lock: Any, seconds: float) -> bool:
+    async def acquire(lock: Any, seconds: float | None) -> bool:
         try:
             async with asyncio.timeout(seconds):
                 return bool(await lock.acquire())
