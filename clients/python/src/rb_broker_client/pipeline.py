@@ -45,9 +45,7 @@ class Pipeline:
         self.is_left = False  # whether it takes no request any more
         self.end = self._kind.bell()  # which can be acquired once it has hung up
 
-    async def ask(
-        self, request: Request[Answer], deadline: float, take: Callable[[Answer], object] = lambda _: None
-    ) -> Answer:
+    async def ask(self, request: Request[Answer], deadline: float, take: Callable[[Answer], object]) -> Answer:
         """Sends a request, and gives its answer. `take` is called with each answer that is no exception, in the order
         of the requests. Raises `LeftError` if it was not sent, and `TimeoutError` at the deadline. If the session is
         lost the exception is another `OSError`."""
