@@ -1,4 +1,4 @@
-"""What a worker asks in one session, and what the answers make of its jobs. No socket, thread or loop is here."""
+"""What a worker asks in one session, and what the answers make of its jobs. Nothing is sent, read or run here."""
 
 import logging
 import math
@@ -8,7 +8,8 @@ from functools import partial
 from time import monotonic
 from typing import Any
 
-from .answers import Again, BrokerError, FullError, Greeting, Job, OutOfMemoryError, Report, StoppedError
+from .answers import Again, BrokerError, FullError, Job, OutOfMemoryError, Report, StoppedError
+from .broker import Session
 from .durations import Pauses
 from .request import Request
 from .run import Run
@@ -25,14 +26,13 @@ class Work:
     `given` has the jobs that are to be run then, which the caller takes out. `ended` is called with each job whose
     handler has ended."""
 
-    def __init__(self, wait: float, report: Report, pauses: Pauses, run: Run, bury: Callable[[Job], object],
-                 attempts: float = math.inf, may_move: bool = False) -> None:
+    def __init__(self, session: Session, wait: float, report: Report, pauses: Pauses, run: Run,
+                 bury: Callable[[Job], object], attempts: float = math.inf, may_move: bool = False) -> None:
         """A wait for a job lasts so many seconds while none runs. `bury` is called with each job that failed in its
         last attempt, and each has so many. A worker that `may_move` has another server to go to."""
         self._bury, self._attempts, self._is_lost, self._may_move = bury, attempts, False, may_move
         self._wait, self._report, self._pauses, self._run = wait, report, pauses, run
-        self.place = run.place  # of the server that serves it
-        self.greeting: Greeting | None = None  # known once it is served
+        self.session, self.place = session, run.place  # the place is that of the server that serves it
         self._waits: list[Request[Any]] = [Request.poll_for(it) for it in (wait, wait / BESIDE)]  # one beside jobs
         self.is_served = False
         self._asked: deque[Callable[[Any], None]] = deque()  # what takes each answer that is due
@@ -161,9 +161,9 @@ class Work:
         self.given += jobs
 
     def _not_fetched(self, refused: BrokerError, asked: float) -> None:
-        if isinstance(refused, StoppedError) and self.greeting is not None and self._asked:
+        if isinstance(refused, StoppedError) and self.session.greeting is not None and self._asked:
             pass  # the server looks what was sent behind a wait
-        elif isinstance(refused, StoppedError) and self._may_move and self.greeting is None and self.held:
+        elif isinstance(refused, StoppedError) and self._may_move and self.session.greeting is None and self.held:
             self.is_used_up = True  # a gateway that is to end lets these jobs be told, and another one gives more
         elif isinstance(refused, (StoppedError, OutOfMemoryError)):
             if asked < self._next_try:
@@ -181,7 +181,7 @@ class Work:
 
     def _served(self, answer: Any) -> None:
         _demand(answer)
-        self._run.served(self.greeting)
+        self._run.served(self.session.greeting)
         self.is_served = True
 
     def _left(self, answer: Any) -> None:

@@ -32,8 +32,6 @@ Function = Callable[[Job], object]
 Handler = TypeVar("Handler", bound=Function)  # as callers give it: one that returns nothing, or is to be awaited
 OnDead = TypeVar("OnDead", bound=Function)
 
-_Visit = tuple[Work, Session]
-
 
 @dataclass(eq=False)
 class _Call:
@@ -94,8 +92,8 @@ class BaseWorker(Generic[Handler, OnDead]):
         self._pauses, self._run_known = pauses or Pauses(), Run(log, self._servers.current.name, on_lost_run)
         self._turns = self._turns_of(concurrency > 1 or timeout is not None)
         self._has_run = self._is_stopping = self._is_connecting = False
-        self._visit: _Visit | None = None  # the one that fetches
-        self._visits: tuple[_Visit, ...] = ()  # with those that fetch no more, while another one does
+        self._visit: Work | None = None  # that of the session that fetches
+        self._visits: tuple[Work, ...] = ()  # with those that fetch no more, while another one does
         self._next_visit = 0.0  # when the next may begin
         self._calls: set[_Call] = set()  # that run
         self._ends: deque[tuple[_Call, bool | None]] = deque()  # whether the job is done, or None if it ends the worker
@@ -129,8 +127,8 @@ class BaseWorker(Generic[Handler, OnDead]):
             await self._turns.run(self._turn)
         finally:
             is_over.set()
-            for visit in self._visits:
-                self._end(visit)
+            for work in self._visits:
+                self._end(work)
             await self._turns.close()
         return self.report
 
@@ -148,28 +146,27 @@ class BaseWorker(Generic[Handler, OnDead]):
             self._is_connecting = True
             self._turns.begin(self._connect())
         self._settle()
-        for visit in self._visits:
-            self._go_on(visit)
+        for work in self._visits:
+            self._go_on(work)
         is_over = self._is_stopping and not (self._visits or self._is_connecting)
         return None if is_over and all(it.is_told for it in self._calls) else self._pause()
 
     def _may_connect(self) -> bool:
         return not (self._visit or self._is_stopping or self._is_connecting or len(self._calls) >= self._concurrency)
 
-    def _go_on(self, visit: _Visit) -> None:
-        work, session = visit
+    def _go_on(self, work: Work) -> None:
         try:
-            self._receive(work, session)
+            self._receive(work)
             if not self._turns.has_started:
-                self._attend(visit)
+                self._attend(work)
         except OSError as fault:
             text = "the session at %s was lost: %s"
-            if visit is not self._visit:
+            if work is not self._visit:
                 if work.held:
                     log.warning(text, work.place, fault)
-            elif work.greeting is None or work.held or not isinstance(fault, ConnectionError):
+            elif work.session.greeting is None or work.held or not isinstance(fault, ConnectionError):
                 self._run_known.away(text, fault)
-            self._end(visit, is_lost=True)
+            self._end(work, is_lost=True)
 
     async def _connect(self) -> None:
         try:
@@ -177,8 +174,8 @@ class BaseWorker(Generic[Handler, OnDead]):
             session = self._servers.session(self._session_of, self._patience)
             await session._connect()
             self._turns.watch(session)
-            self._visit = Work(self._wait, self.report, self._pauses, self._run_known, self._bury, self._attempts,
-                               self._servers.are_several), session
+            self._visit = Work(session, self._wait, self.report, self._pauses, self._run_known, self._bury,
+                               self._attempts, self._servers.are_several)
             self._visits += (self._visit,)
         except OSError as fault:
             self._run_known.away("no server at %s: %s", fault)
@@ -197,20 +194,19 @@ class BaseWorker(Generic[Handler, OnDead]):
         pause = min([FOR_EVER, *(it.late - now for it in self._calls)])
         if self._next_visit > now or self._may_connect():
             pause = min(self._next_visit - now, pause)
-        for work, session in self._visits:
-            pause = min(self._late(work, session) - now, work.pause(), SOON if session.unsent else pause)
+        for work in self._visits:
+            pause = min(self._late(work) - now, work.pause(), SOON if work.session.unsent else pause)
         return max(pause, 0)
 
-    def _late(self, work: Work, session: Session) -> float:
+    def _late(self, work: Work) -> float:
         # Even a reply to a wait.
-        return session.due_since + self._patience + self._wait if work.is_served else math.inf
+        return work.session.due_since + self._patience + self._wait if work.is_served else math.inf
 
-    def _receive(self, work: Work, session: Session) -> None:
-        answers = session.received()
-        work.greeting = session.greeting
+    def _receive(self, work: Work) -> None:
+        answers = work.session.received()
         for answer in answers:
             work.answered(answer)
-        if not answers and time.monotonic() >= self._late(work, session):
+        if not answers and time.monotonic() >= self._late(work):
             raise TimeoutError(f"the server did not answer within {self._patience} seconds")
         for job in work.given:
             self._start(self._handler, job, work)
@@ -221,16 +217,17 @@ class BaseWorker(Generic[Handler, OnDead]):
         if self._on_dead is not None:
             self._start(self._on_dead, job, None)
 
-    def _attend(self, visit: _Visit) -> None:
-        work, session = visit
+    def _attend(self, work: Work) -> None:
         running = len(self._calls)
-        free = self._concurrency - running - sum(it.fetching for it, _ in self._visits)
+        free = self._concurrency - running
+        for it in self._visits:
+            free -= it.fetching
         questions = work.ask(free, running, self._is_stopping)
-        if questions or session.unsent:
-            session.post(*questions)
+        if questions or work.session.unsent:
+            work.session.post(*questions)
         if work.is_left or self._is_stopping and not work.is_served:
-            self._end(visit, is_lost=work.is_used_up)
-        elif work.is_used_up and visit is self._visit and self._servers.are_several:
+            self._end(work, is_lost=work.is_used_up)
+        elif work.is_used_up and work is self._visit and self._servers.are_several:
             self._leave(work)
 
     def _leave(self, work: Work) -> None:
@@ -240,14 +237,13 @@ class BaseWorker(Generic[Handler, OnDead]):
             self._servers.served()
         self._move_on()
 
-    def _end(self, visit: _Visit, is_lost: bool = False) -> None:
-        work, session = visit
+    def _end(self, work: Work, is_lost: bool = False) -> None:
         work.lost()
-        session.close()
-        self._visits = tuple(it for it in self._visits if it is not visit)
-        if visit is self._visit and is_lost:
+        work.session.close()
+        self._visits = tuple(it for it in self._visits if it is not work)
+        if work is self._visit and is_lost:
             self._leave(work)
-        elif visit is self._visit:
+        elif work is self._visit:
             self._visit = None
 
     def _start(self, function: Function, job: Job, work: Work | None) -> None:
@@ -286,7 +282,7 @@ class BaseWorker(Generic[Handler, OnDead]):
             self._calls.discard(call)
             if call.work is not None and not call.is_told:
                 call.work.ended(call.job, is_done)
-        if self._fault is not None and not (self._calls or any(work.held for work, _ in self._visits)):
+        if self._fault is not None and not (self._calls or any(it.held for it in self._visits)):
             raise self._fault
         for it in [*self._calls] if self._timeout < math.inf else ():
             if it.work and it.late <= time.monotonic():

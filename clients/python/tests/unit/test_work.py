@@ -34,8 +34,8 @@ class WorkTest(unittest.TestCase):
         known = Run(logging.getLogger("rb_broker_client.worker"), "a place")
         self.report, self.concurrency, self.running, self.is_stopping = Report(), concurrency, 0, True
         self.dead = []
-        self.work = Work(1.0, self.report, Pauses(first, longest), known, self.dead.append, attempts)
-        self.work.greeting = Greeting(run, 0, 0) if run else None
+        session = unittest.mock.Mock(greeting=Greeting(run, 0, 0) if run else None)
+        self.work = Work(session, 1.0, self.report, Pauses(first, longest), known, self.dead.append, attempts)
         self.due, self.jobs = deque(), {}
         self.asks("AT 0")
         self.asks("")
