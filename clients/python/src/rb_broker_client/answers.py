@@ -14,8 +14,7 @@ from rb_broker_formats.protocol import GREETING, ErrorReply
 
 @dataclass(frozen=True)
 class Offered:
-    """An element that the queue accepted: its id, and the moment at which it expires. A producer adds what the
-    server said of its run."""
+    """An element that the queue accepted: its id and its expiry. A producer adds what the server said of its run."""
 
     id: int
     expires_at_ns: int
@@ -24,8 +23,7 @@ class Offered:
 
 @dataclass(frozen=True)
 class Greeting:
-    """What a server of a service says first in each session: the number of its run, how many were lost before it, and
-    the moment of its clock at which it began."""
+    """What a service says first in each session: its run's number, how many were lost before, and when it began."""
 
     run: int
     lost: int
@@ -49,9 +47,8 @@ class LostRun:
 
 @dataclass(frozen=True)
 class Job:
-    """An element of the queue: one that was given, or one that `peek` shows. The first `attempt` is 1. `done` and
-    `fail` raise `NotHeldError` if the job isn't held any more, also if its session has ended, and for the jobs of a
-    worker, which tells the server itself."""
+    """An element of the queue that was given, or that `peek` shows. The first `attempt` is 1. `done` and `fail` raise
+    `NotHeldError` if it isn't held any more, also if its session has ended, and for a worker's, which tells itself."""
 
     id: int
     expires_at_ns: int

@@ -44,8 +44,8 @@ class Session:
 
     def __init__(self, port: int | str, host: str = LOOPBACK, patience: Duration | None = None, *,
                  tls: ssl.SSLContext | None = None, record: TextIO | None = None) -> None:
-        """`port` may be `"gateway-1:7011,gateway-2:7011"`: the session is at the first that accepts it. A reply that does
-        not come within `patience` raises `TimeoutError`. With `tls` the connection is encrypted.
+        """`port` may be `"gateway-1:7011,gateway-2:7011"`: the session is at the first that accepts it. A reply that
+        does not come within `patience` raises `TimeoutError`. With `tls` the connection is encrypted.
         To `record`, a text file, a line is added for each request once it has its answer, or at the end: when it was
         sent, when its reply had come (null if that never came), its line, and the reply's lines."""
         self._servers, self._tls = Servers(port, host), tls

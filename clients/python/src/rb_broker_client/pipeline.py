@@ -33,9 +33,8 @@ class _Call:
 
 
 class Pipeline:
-    """The requests of several callers in one session, which is served already. One of those that wait reads for all, as
-    long as the reply to its own request has not come; then another goes on. Once nobody waits for the replies that are
-    due the session is closed."""
+    """The requests of several callers in one session, which is served. One of those that wait reads for all until its
+    own reply has come; then another goes on. Once nobody waits for the replies that are due the session is closed."""
 
     def __init__(self, session: Session) -> None:
         self.session, self._kind = session, session._kind
@@ -46,9 +45,8 @@ class Pipeline:
         self.end = self._kind.bell()  # which can be acquired once it has hung up
 
     async def ask(self, request: Request[Answer], deadline: float, take: Callable[[Answer], object]) -> Answer:
-        """Sends a request, and gives its answer. `take` is called with each answer that is no exception, in the order
-        of the requests. Raises `LeftError` if it was not sent, and `TimeoutError` at the deadline. If the session is
-        lost the exception is another `OSError`."""
+        """Sends a request, and gives its answer. `take` is called with each that is no exception, in the order of the
+        requests. Raises `LeftError` if it was not sent, `TimeoutError` at the deadline, and `OSError` if it is lost."""
         call, sent = _Call(take), time.monotonic()
         with self._lock:
             if not self._is_read:

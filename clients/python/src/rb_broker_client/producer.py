@@ -34,9 +34,8 @@ class BaseProducer:
                  on_lost_run: Callable[[LostRun], object] | None = None, tls: ssl.SSLContext | None = None,
                  pauses: Pauses | None = None, record: TextIO | None = None) -> None:
         """Connects to nothing yet. `port` may be `"gateway-1:7011,gateway-2:7011"`, gateways of one queue: where one is
-        lost, the next session is at the next. An offer takes no longer than `patience`, whatever it waits for.
-        `on_lost_run` is called, in a thread of its own, when the server has lost a run. `tls` and `record` are those of
-        a `Broker`."""
+        lost, the next session is at the next. An offer takes `patience` at most, whatever it waits for. `on_lost_run`
+        is called, in a thread of its own, when the server has lost a run. `tls` and `record` are a `Broker`'s."""
         self._servers = Servers(port, host, tls=tls, record=record)
         self._may_double, self._patience, self._is_direct = may_double, seconds(patience), tls is None
         self._pauses = pauses or Pauses(longest=2.0)

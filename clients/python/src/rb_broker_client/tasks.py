@@ -52,8 +52,7 @@ def exponential(first: Duration | str, most: Duration | str = "1h", jitter: floa
 
 
 class Middleware:
-    """What is told of each attempt of a task, in the thread in which its function runs, or in the loop. What it raises
-    is logged, and changes nothing."""
+    """Is told of each attempt of a task, in the thread or loop in which it runs. What it raises is only logged."""
 
     def before(self, task: StoredTask) -> None:
         """The function is to be called."""

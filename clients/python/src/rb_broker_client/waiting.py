@@ -222,8 +222,7 @@ class LoopTurns:
             self._take()
 
     def _take_within(self, pause: float) -> None:
-        # A timer that is due too early takes a turn in which nothing is to be done, which costs less than a timer for
-        # each turn.
+        # A timer that is due too early takes a turn for nothing, which costs less than a timer for each turn.
         if self._timer is not None:
             if self._timer.when() <= self._loop.time() + pause:
                 return

@@ -23,8 +23,7 @@ Asked = tuple[Request[Any], Callable[[Any], None]]  # a request, and what takes 
 
 class Work:
     """One session of a worker. In turns, `ask` says what is to be sent, `answered` takes each answer, in order, and
-    `given` has the jobs that are to be run then, which the caller takes out. `ended` is called with each job whose
-    handler has ended."""
+    `given` has the jobs to be run, which the caller takes out. `ended` takes each job whose handler has ended."""
 
     def __init__(self, session: Session, wait: float, report: Report, pauses: Pauses, run: Run,
                  bury: Callable[[Job], object], attempts: float = math.inf, may_move: bool = False) -> None:

@@ -115,9 +115,8 @@ class BaseWorker(Generic[Handler, OnDead]):
             raise TypeError(f"only an AsyncWorker awaits a coroutine function: {function!r}")
 
     async def _work(self) -> Report:
-        """Works until `stop`, once for each worker. At the end no job is held, and the session has ended. Something
-        that a handler raised and that is no `Exception`, such as `SystemExit`, is raised once the other jobs in hand
-        have ended and were told."""
+        """Works until `stop`, once for each worker. At the end no job is held, and the session has ended. What a
+        handler raised that is no `Exception`, such as `SystemExit`, is raised once the other jobs in hand were told."""
         if self._has_run:
             raise RuntimeError("a worker runs once: make another one")
         self._has_run = True
