@@ -13,6 +13,7 @@ from .broker import Session
 from .durations import Pauses
 from .request import Request
 from .run import Run
+from .servers import Servers
 
 log = logging.getLogger("rb_broker_client.worker")
 
@@ -25,11 +26,11 @@ class Work:
     """One session of a worker. In turns, `ask` says what is to be sent, `answered` takes each answer, in order, and
     `given` has the jobs to be run, which the caller takes out. `ended` takes each job whose handler has ended."""
 
-    def __init__(self, session: Session, wait: float, report: Report, pauses: Pauses, run: Run,
-                 bury: Callable[[Job], object], attempts: float = math.inf, may_move: bool = False) -> None:
+    def __init__(self, session: Session, servers: Servers, wait: float, report: Report, pauses: Pauses, run: Run,
+                 bury: Callable[[Job], object], attempts: float = math.inf) -> None:
         """A wait for a job lasts so many seconds while none runs. `bury` is called with each job that failed in its
-        last attempt, and each has so many. A worker that `may_move` has another server to go to."""
-        self._bury, self._attempts, self._is_lost, self._may_move = bury, attempts, False, may_move
+        last attempt, and each has so many."""
+        self._servers, self._bury, self._attempts, self._is_lost = servers, bury, attempts, False
         self._wait, self._report, self._pauses, self._run = wait, report, pauses, run
         self.session, self.place = session, run.place  # the place is that of the server that serves it
         self._waits: list[Request[Any]] = [Request.poll_for(it) for it in (wait, wait / BESIDE)]  # one beside jobs
@@ -45,7 +46,6 @@ class Work:
         self._next_try = 0.0  # no job is fetched, and no failure told again, before this moment
         self._looked = 0.0  # when it was asked for the last time what is to be sent
         self.is_used_up = False  # whether nothing more comes of this session, or of this run
-        self.has_fetched = False  # whether a fetch was answered by jobs, or by none
         self._is_leaving = self.is_left = False  # whether the server was told that it is left, and has read so
         self.given: list[Job] = []
 
@@ -120,7 +120,7 @@ class Work:
         # Where it did not, one job is waited for; and where a wait has found one, others may be due, which come first.
         # A gateway that is to end gives a wait up, but by a drain the session ends, and its jobs with it. So where
         # another gateway can go on, nothing else than a wait is asked beside jobs.
-        if self._may_move and (self.held or self.fetching):
+        if self._servers.are_several and (self.held or self.fetching):
             return [] if self.fetching else [self._await_job(running > 0)]
         if self._more_are_due and (free > 1 or running or self.fetching):
             return [self._drain(free)]
@@ -153,18 +153,20 @@ class Work:
             self._not_fetched(answer, asked)
             return
         self._pauses.reset()
-        self.has_fetched = True
+        if not self.is_used_up:
+            self._servers.served()
         for job in jobs:
             self._run.given(job.id)
             self.held[job.id] = job
         self.given += jobs
 
     def _not_fetched(self, refused: BrokerError, asked: float) -> None:
-        if isinstance(refused, StoppedError) and self.session.greeting is not None and self._asked:
+        is_stopped = isinstance(refused, StoppedError)
+        if is_stopped and self.session.greeting is not None and self._asked:
             pass  # the server looks what was sent behind a wait
-        elif isinstance(refused, StoppedError) and self._may_move and self.session.greeting is None and self.held:
+        elif is_stopped and self.session.greeting is None and self._servers.are_several and self.held:
             self.is_used_up = True  # a gateway that is to end lets these jobs be told, and another one gives more
-        elif isinstance(refused, (StoppedError, OutOfMemoryError)):
+        elif is_stopped or isinstance(refused, OutOfMemoryError):
             if asked < self._next_try:
                 return  # one that was asked before it was refused, too
             # From one fetch to the next: a wait that was given up after a while needs no pause.

@@ -173,8 +173,8 @@ class BaseWorker(Generic[Handler, OnDead]):
             session = self._servers.session(self._session_of, self._patience)
             await session._connect()
             self._turns.watch(session)
-            self._visit = Work(session, self._wait, self.report, self._pauses, self._run_known, self._bury,
-                               self._attempts, self._servers.are_several)
+            self._visit = Work(session, self._servers, self._wait, self.report, self._pauses, self._run_known,
+                               self._bury, self._attempts)
             self._visits += (self._visit,)
         except OSError as fault:
             self._run_known.away("no server at %s: %s", fault)
@@ -185,6 +185,8 @@ class BaseWorker(Generic[Handler, OnDead]):
         self._turns.ended()
 
     def _move_on(self) -> None:
+        # Another session is to fetch.
+        self._visit = None
         pause = self._pauses.next() if self._servers.move_on() else 0
         self._next_visit = max(self._next_visit, time.monotonic() + pause)
 
@@ -227,21 +229,14 @@ class BaseWorker(Generic[Handler, OnDead]):
         if work.is_left or self._is_stopping and not work.is_served:
             self._end(work, is_lost=work.is_used_up)
         elif work.is_used_up and work is self._visit and self._servers.are_several:
-            self._leave(work)
-
-    def _leave(self, work: Work) -> None:
-        # Another session is to fetch.
-        self._visit = None
-        if work.has_fetched:
-            self._servers.served()
-        self._move_on()
+            self._move_on()
 
     def _end(self, work: Work, is_lost: bool = False) -> None:
         work.lost()
         work.session.close()
         self._visits = tuple(it for it in self._visits if it is not work)
         if work is self._visit and is_lost:
-            self._leave(work)
+            self._move_on()
         elif work is self._visit:
             self._visit = None
 

@@ -9,6 +9,7 @@ from scripted import SHORT
 from worker_case import paragraphs, values
 from rb_broker_client import BrokerError, Greeting, NotHeldError, Pauses, Report
 from rb_broker_client.run import Run
+from rb_broker_client.servers import Servers
 from rb_broker_client.work import Work
 
 
@@ -35,7 +36,8 @@ class WorkTest(unittest.TestCase):
         self.report, self.concurrency, self.running, self.is_stopping = Report(), concurrency, 0, True
         self.dead = []
         session = unittest.mock.Mock(greeting=Greeting(run, 0, 0) if run else None)
-        self.work = Work(session, 1.0, self.report, Pauses(first, longest), known, self.dead.append, attempts)
+        pauses = Pauses(first, longest)
+        self.work = Work(session, Servers(7011), 1.0, self.report, pauses, known, self.dead.append, attempts)
         self.due, self.jobs = deque(), {}
         self.asks("AT 0")
         self.asks("")
