@@ -54,10 +54,7 @@ class WorkerProcess:
         """Whether it has asked something."""
         return os.path.getsize(self.record) > 0
 
-    @property
-    def may_end(self):
-        """Whether a signal ends it in good order, as it does once it has asked something."""
-        return self.has_begun
+    may_end = has_begun  # whether a signal ends it in good order
 
     @property
     def has_died(self):
@@ -202,8 +199,7 @@ class HostileDayTest(ServedTest):
         self.assertEqual((self.faults, [it.record for it in self.workers if it.has_died]), ([], []))
 
     def is_empty(self):
-        """Whether the queue is empty for a while. A job that is held is not in it, and comes back if its worker is
-        killed, or its handler hangs."""
+        """Whether the queue is empty for a while. A held job comes back if its worker dies, or its handler hangs."""
         return all(self.size() == 0 for _ in range(15))
 
     def told(self):

@@ -1,8 +1,8 @@
 """A day on which all that tasks need is killed: their service, its server, workers, and what offers them, by themselves
 and all at once.
 
-Each task that was accepted is done. One that did not fail is run again only if the process that ran it was killed, which
-is counted, and no such process has more of these than threads.
+Each task that was accepted is done. One that did not fail is run again only if the process that ran it was killed,
+which is counted, and no such process has more of these than threads.
 """
 import os
 import random

@@ -1,5 +1,4 @@
-"""What a history says of elements: which were offered and not taken back, and which were given. docs/HISTORY.md describes
-the text."""
+"""By the text of docs/HISTORY.md: which elements were offered and not taken back, and which were given."""
 from rb_broker_formats.acts import given_ids
 from rb_broker_formats.element import Element
 

@@ -5,10 +5,10 @@ import logging
 import subprocess
 import sys
 import threading
-import time
 
 from common.program import TOP, tested_program
 from history import History
+from scripted import wait_for
 from rb_broker_client import AsyncProducer, AsyncWorker, Broker, Job, Pauses, Producer, Report, Request, Worker
 from serving import PATIENCE
 from serving.testing import ServingTest
@@ -101,14 +101,12 @@ class ServedTest(ServingTest):
         return lines
 
     def assert_drained(self, server, *history, lost="0"):
-        """The same of one that is told to end now. A client that was stopped between its connection and its first reply
-        may have left a fault."""
+        """The same of one that is told to end now. A client that was stopped before its first reply may be a fault."""
         server.drain()
         return self.assert_ends(server, "[0-9]+", *history, faults="[0-9]+", lost=lost)
 
     def assert_attempts(self, histories, handled, attempts):
-        """The histories have these attempts of each payload, and each that was given was handled once, as it was
-        offered."""
+        """The histories have these attempts of each payload, and each that was given was handled once, as offered."""
         history = History(*histories)
         self.assertEqual(history.attempts(), attempts)
         given = [history.elements[id] for id in sorted(history.given)]
@@ -137,15 +135,11 @@ class ServedTest(ServingTest):
 
     def wait_until(self, is_so, seconds=PATIENCE):
         """Waits for a condition that another thread brings about."""
-        deadline = time.monotonic() + seconds
-        while not is_so():
-            self.assertLess(time.monotonic(), deadline, "it did not come about in time")
-            time.sleep(0.01)
+        self.assertTrue(wait_for(is_so, seconds), "it did not come about in time")
 
 
 class Crew:
-    """Workers of one port, with these options; each second one is of asyncio. `is_done` says whether an attempt of a
-    job is done, or fails."""
+    """Workers of one port, with these options, each second one of asyncio. `is_done` says which attempts are done."""
 
     def __init__(self, port, count, is_done, **options):
         self._is_done = is_done

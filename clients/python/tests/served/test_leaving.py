@@ -70,8 +70,7 @@ class LeavingTest(ServedTest):
         self.assertEqual([len(crew.done()), len({*crew.done()})], [JOBS - report.lost] * 2)
 
     def test_a_run_that_was_lost_is_logged_and_one_that_goes_on_is_not(self):
-        """A worker and a producer are idle when a server ends well and one is killed, and go on with the next. None
-        greets, so ids show it."""
+        """A worker and a producer, idle as a server ends well and one is killed, go on. None greets, so ids show it."""
         server = self.serve_run(greets=False)
         crew = self.gather(server, 1, is_done)
         logging.disable(logging.NOTSET)

@@ -1,9 +1,9 @@
 """A server that plays a script, for what the real one does rarely or at no stated moment."""
 import contextlib
 import logging
+import multiprocessing
 import os
 import re
-import signal
 import socket
 import tempfile
 import threading
@@ -134,29 +134,26 @@ def table(name):
     return Path(__file__).with_name(name).read_text("ascii").partition("\n\n")[2]
 
 
-def wait_for(is_so):
+def wait_for(is_so, seconds=PATIENCE):
     """Waits until something holds, but not for ever. Gives whether it does."""
-    deadline = time.monotonic() + PATIENCE
-    while not is_so() and time.monotonic() < deadline:
+    deadline = time.monotonic() + seconds
+    while not (holds := is_so()) and time.monotonic() < deadline:
         time.sleep(0.01)
-    return is_so()
+    return holds
 
 
 def fork(function):
     """Calls this in a forked process, whose exit status is what it gives. Gives the process."""
-    if child := os.fork():
-        return child
-    try:
-        signal.signal(signal.SIGALRM, signal.SIG_DFL)
-        signal.alarm(PATIENCE)
-        os._exit(function())
-    finally:
-        os._exit(99)
+    child = multiprocessing.get_context("fork").Process(target=lambda: os._exit(function()))
+    child.start()
+    return child
 
 
 def status_of(child):
-    """The exit status of a process, once it has ended."""
-    return os.waitstatus_to_exitcode(os.waitpid(child, 0)[1])
+    """The exit status of a process, once it has ended, which is killed if it does not end."""
+    child.join(PATIENCE)
+    child.kill()
+    return child.exitcode
 
 
 def free_port():

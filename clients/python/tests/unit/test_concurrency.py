@@ -1,5 +1,4 @@
-"""A worker that runs several jobs at the same time: what it asks a scripted server, and in which order; and handlers
-that take too long."""
+"""A worker that runs several jobs at the same time: what it asks, and in which order; handlers that take too long."""
 import asyncio
 import logging
 import sys

@@ -102,8 +102,7 @@ class ProducerTest(ProducerCase):
 
 
 class SessionTest(ProducerCase):
-    """A session goes on until it is lost or the producer is closed. That takes no thread. A forked process has its own.
-    """
+    """A session goes on until it is lost or the producer closed. That takes no thread. A forked process has its own."""
 
     def test_it_goes_on_between_two_offers(self):
         producer, threads = self.produce(f"{FIRST}; {SECOND}"), threading.active_count()
@@ -166,8 +165,7 @@ class ThreadsTest(ProducerCase):
         self.assertEqual(sorted(told), list(range(count)))
 
     def offer_beside(self, steps, fault, text, behind=""):
-        """An offer, and another one that has less patience and fails, while the server lets the first wait; and what is
-        offered behind it."""
+        """An offer, another that has less patience and fails while the first waits; and what is offered behind it."""
         is_asked, is_over, told = threading.Event(), threading.Event(), []
         self.goes_on = lambda _: is_asked.set() or is_over.wait(PATIENCE)
 

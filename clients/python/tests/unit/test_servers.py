@@ -1,5 +1,4 @@
-"""Clients that know several addresses: the next server is used at once, each job is told where it was fetched, and no
-offer in doubt is repeated."""
+"""Clients of several addresses: the next is used at once, jobs are told where they came from, no doubt is repeated."""
 import logging
 import socket
 import threading
@@ -10,6 +9,7 @@ import unittest.mock
 from from_threads import for_both_kinds
 from scripted import PATIENCE, ScriptedTest, free_port
 from test_command import run
+from test_producer import offer
 from worker_case import A, LAST, ConcurrencyCase, Jobs, WorkerCase
 from rb_broker_client import Broker, InDoubtError, NotOfferedError, Offered, Pauses, Producer, Report, Worker
 from rb_broker_client.servers import read_addresses
@@ -128,31 +128,28 @@ class ProducerTest(ScriptedTest):
         self.addCleanup(producer.close)
         return producer
 
-    def offer(self, producer, payload="a"):
-        return producer.offer(payload, delay=5e-9)
-
     def test_an_offer_behind_the_end_of_a_session_goes_to_the_next(self):
         first = self.play("AT 0; OFFER 5 a > OFFERED 0 5; > hangs up")
         second = self.play("AT 0; OFFER 5 a > OFFERED 1 5")
         producer = self.produce(free_port(), first.port, second.port)
-        self.assertEqual(self.offer(producer), Offered(0, 5))
+        self.assertEqual(offer(producer), Offered(0, 5))
         self.assertTrue(first.ended.acquire(timeout=PATIENCE))
-        self.assertEqual(self.offer(producer), Offered(1, 5))
+        self.assertEqual(offer(producer), Offered(1, 5))
 
     def test_an_offer_in_doubt_is_not_repeated(self):
         first, second = self.play("AT 0; OFFER 5 a > hangs up"), self.play("AT 0; OFFER 5 b > OFFERED 1 5")
         producer = self.produce(first.port, second.port)
-        self.assertRaises(InDoubtError, self.offer, producer)
-        self.assertEqual(self.offer(producer, "b"), Offered(1, 5))
+        self.assertRaises(InDoubtError, offer, producer)
+        self.assertEqual(offer(producer, "b"), Offered(1, 5))
 
     def test_one_that_does_not_answer_leaves_the_next_its_time(self):
         silent, second = self.play("AT 0 > nothing"), self.play("AT 0; OFFER 5 a > OFFERED 1 5")
         began = time.monotonic()
-        self.assertEqual(self.offer(self.produce(silent.port, second.port, patience=2)), Offered(1, 5))
+        self.assertEqual(offer(self.produce(silent.port, second.port, patience=2)), Offered(1, 5))
         self.assertGreater(time.monotonic() - began, 0.9)
 
     def test_none_is_there(self):
-        self.assertRaises(NotOfferedError, self.offer, self.produce(free_port(), free_port(), patience=0.5))
+        self.assertRaises(NotOfferedError, offer, self.produce(free_port(), free_port(), patience=0.5))
 
 
 class OthersTest(ScriptedTest):

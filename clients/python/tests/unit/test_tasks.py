@@ -2,7 +2,6 @@
 import asyncio
 import contextlib
 import os
-import signal
 import sqlite3
 import sys
 import threading
@@ -271,8 +270,8 @@ class TasksTest(ScriptedTest):
         with unittest.mock.patch.object(self.app, "_run", hangs):
             parent = fork(lambda: self.app.run(1, processes=1))
         self.assertTrue(wait_for(lambda: pid.exists() and pid.read_text()))
-        os.kill(parent, signal.SIGKILL)
-        os.waitpid(parent, 0)
+        parent.kill()
+        parent.join()
         stat = Path(f"/proc/{pid.read_text().strip()}/stat")
         self.assertTrue(wait_for(lambda: not stat.exists() or stat.read_text().split(") ")[1][0] == "Z"))
 

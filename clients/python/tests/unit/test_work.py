@@ -5,7 +5,7 @@ import math
 import unittest.mock
 from collections import deque
 
-from scripted import SHORT
+from scripted import SHORT, ScriptedTest
 from worker_case import paragraphs, values
 from rb_broker_client import BrokerError, Greeting, NotHeldError, Pauses, Report
 from rb_broker_client.run import Run
@@ -13,10 +13,9 @@ from rb_broker_client.servers import Servers
 from rb_broker_client.work import Work
 
 
-class WorkTest(unittest.TestCase):
+class WorkTest(ScriptedTest):
     def setUp(self):
-        logging.disable(logging.CRITICAL)
-        self.addCleanup(logging.disable, logging.NOTSET)
+        super().setUp()
         self.moment = 1_000.0
         patch = unittest.mock.patch("rb_broker_client.work.monotonic", lambda: self.moment)
         patch.start()

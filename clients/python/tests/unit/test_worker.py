@@ -195,7 +195,7 @@ class ForkTest(WorkerCase):
         children = [fork(lambda: 7 if worker.run() == Report() else 8) for _ in range(4)]
         time.sleep(0.5)
         for child in children:
-            os.kill(child, signal.SIGTERM)
+            child.terminate()
         self.assertEqual([*map(status_of, children)], [7] * 4)
 
 

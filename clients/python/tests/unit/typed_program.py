@@ -33,4 +33,3 @@ async def work_async() -> None:
     await AsyncWorker(deliver_async, 7011, on_dead=deliver).run()
     async with AsyncProducer(7011) as producer:
         await producer.offer("a", delay=1)
-
