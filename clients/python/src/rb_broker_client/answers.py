@@ -48,7 +48,7 @@ class LostRun:
 @dataclass(frozen=True)
 class Job:
     """An element of the queue that was given, or that `peek` shows. The first `attempt` is 1. `done` and `fail` raise
-    `NotHeldError` if it isn't held any more, also if its session has ended, and for a worker's, which tells itself."""
+    `NotHeldError` if it isn't held, or its session has ended, and for a worker's jobs, of which it tells the server."""
 
     id: int
     expires_at_ns: int

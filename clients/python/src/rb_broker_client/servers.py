@@ -2,9 +2,10 @@
 
 import re
 from collections.abc import Callable
-from typing import Any, NamedTuple
+from typing import Any, NamedTuple, TypeVar
 
 LOOPBACK = "127.0.0.1"
+Made = TypeVar("Made")
 
 _ADDRESS = re.compile(r"(?:\[([^][,\s]+)\]|([^][:,\s]+)):([0-9]{1,5})")
 
@@ -85,6 +86,6 @@ class Servers:
         self._failed, self._has_served = (self._failed + 1) % len(self._all), False
         return self._failed == 0
 
-    def session(self, kind: Callable[..., Any], patience: float) -> Any:
+    def session(self, kind: Callable[..., Made], patience: float) -> Made:
         """A session of this kind at the current one."""
         return kind(self.current.port, self.current.host, patience, **self._options)

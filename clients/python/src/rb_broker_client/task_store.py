@@ -101,7 +101,7 @@ class Store:
                        "AND state = 'new'", [self.now(), greeting.run if greeting else 0, task.id, task.turn])
 
     def greeted(self, greeting: Greeting) -> int:
-        """The broker has this run. If one was lost since the last, what it may have had is `new`: so many tasks."""
+        """The broker has this run. If one was lost since the last, what it may have had is `new`. Gives how many."""
         with self._transaction() as db:
             return self._hear(db, greeting)
 
