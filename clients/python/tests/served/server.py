@@ -5,10 +5,10 @@ import logging
 import subprocess
 import sys
 import threading
+import time
 
 from common.program import TOP, tested_program
 from history import History
-from scripted import wait_for
 from rb_broker_client import AsyncProducer, AsyncWorker, Broker, Job, Pauses, Producer, Report, Request, Worker
 from serving import PATIENCE
 from serving.testing import ServingTest
@@ -135,7 +135,10 @@ class ServedTest(ServingTest):
 
     def wait_until(self, is_so, seconds=PATIENCE):
         """Waits for a condition that another thread brings about."""
-        self.assertTrue(wait_for(is_so, seconds), "it did not come about in time")
+        deadline = time.monotonic() + seconds
+        while not is_so():
+            self.assertLess(time.monotonic(), deadline, "it did not come about in time")
+            time.sleep(0.01)
 
 
 class Crew:
