@@ -80,7 +80,7 @@ def test_a_range_of_the_protocol(option: str, least: str, most: str, default: st
 
 
 def test_the_ranges_that_are_told() -> None:
-    wanted = {"calls", "workers", "sessions", "turns", "socket", "silent"}
+    wanted = {"calls", "workers", "sessions", "turns", "socket", "silent", "since"}
     assert wanted <= {told[0] for told in RANGES}
     least, most = re.search(r"at port P \(([\d,]+) to ([\d,]+)\)", page(PROTOCOL)).groups()
     assert accepts_just("port", least, most)

@@ -26,7 +26,7 @@ PLANTED = [
     (PROTOCOL, "OFFER 50 a      OFFERED 0 150", "OFFER 50 a      OFFERED 0 151", "test_the_dialogue_of_the_protocol"),
     (PROTOCOL, "`--workers` (1 to 16, default 4)", "`--workers` (1 to 16, default 5)", "test_a_range_of_the_protocol"),
     (PROTOCOL, "as descriptor N (3 to 1,023)", "as descriptor N (2 to 1,023)", "test_a_range_of_the_protocol"),
-    (PROTOCOL, "[--attentive] [--silent N]\n", "[--mindful] [--silent N]\n", "test_a_synopsis"),
+    (PROTOCOL, "[--attentive] [--silent N] [--since N]\n", "[--mindful] [--silent N] [--since N]\n", "test_a_synopsis"),
     (PROTOCOL, '"given":1,"left":0', '"given":0,"left":1', "test_the_end_of_a_run_with_two_clients"),
     (HISTORY, '"given":1,"left":1,', '"given":1,"left":2,', "test_the_commands_of_histories"),
     (HISTORY, "`no parent`", "`no father`", "test_the_reasons_of_replays"),

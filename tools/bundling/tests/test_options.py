@@ -15,7 +15,7 @@ COMMANDS = {name: options.split() for name, options in {
     "script": "--calls --timer --history --from --delay --rate --attempts",
     "replay": "--chains --delay --rate --attempts",
     "serve": "--port --calls --timer --workers --sessions --turns --socket --until-input-ends --greeting --attentive"
-    " --silent --history --from --delay --rate --attempts",
+    " --silent --since --history --from --delay --rate --attempts",
 }.items()}
 NAMES = {name for names in COMMANDS.values() for name in names}
 ROW = re.compile(r"^ +(?:-h, )?(--[a-z-]+)(?: <([A-Z]+)>)? +(.*)$", re.M)
