@@ -1,19 +1,24 @@
 """How a server treats its clients: that it greets them, ends their waits, and ends those that are silent."""
 import contextlib
+import os
 import socket
 import subprocess
 import time
+from pathlib import Path
 from typing import Callable
 
 import pytest
 
-from checking.server.started import MILLISECOND, attempts, seconds_of, served, without_moments
+from checking.server.started import MILLISECOND, SECOND, attempts, seconds_of, served, without_moments
 from common.program import tested_program
 from serving import PATIENCE
 from serving.server import Server
 from serving.session import Session
 
 SILENT = 1500  # milliseconds, long enough for a busy machine
+LAST = 5000 * SECOND  # the moment of an opening
+AWAY = 1000  # seconds
+SUSPENDED = "unshare", "--time", "--boottime", str(AWAY)  # as on a machine that has been suspended for so long
 
 
 @pytest.mark.parametrize("line", ["RUN 7 lost 0", "g" * 255, " grüß dich\t"])
@@ -89,3 +94,53 @@ def test_a_silent_client_that_takes_nothing() -> None:
             for _ in range(10_000):
                 client.socket.sendall(b"x\n" * 10_000)
         assert server.end().lines[0] == "sessions 1 faults 1 lost 0"
+
+
+def machines_clock() -> int:
+    return time.clock_gettime_ns(time.CLOCK_BOOTTIME)
+
+
+def keeps_time(server: Server, since: int, first: int = 0) -> bool:
+    """Whether for half a second each moment, as an offer tells it, is the first one and the time since a reading of the
+    machine's clock, if that has come."""
+    told = []
+    with Session(server.port) as client:
+        for _ in range(20):
+            before = machines_clock()
+            moment = int(client.ask("OFFER 0 job").split(" ")[2])
+            told.append((max(before - since, 0), moment - first, max(machines_clock() - since, 0)))
+            time.sleep(0.025)
+    return all(least <= passed <= most for least, passed, most in told)
+
+
+@pytest.mark.parametrize("first", [0, LAST])
+@pytest.mark.parametrize("seconds", [-3600, 0, 0.3, 3600])
+def test_since(tmp_path: Path, seconds: float, first: int) -> None:
+    """A reading that is past, is about to come, and lies ahead."""
+    (tmp_path / "opening").write_text(f"history 3\nopen 0 {first} 0\nend 0\n", "ascii")
+    since = max(machines_clock() + int(seconds * SECOND), 0)
+    with Server(["--since", since, "--from", tmp_path / "opening"]) as server:
+        assert keeps_time(server, since, first)
+
+
+def test_since_the_greatest_number() -> None:
+    with served(f"--since {2**64 - 1}") as client:
+        assert client.ask("OFFER 7 job") == "OFFERED 0 7"
+
+
+def test_since_the_start_of_the_server() -> None:
+    """Unless another time is said."""
+    before = machines_clock()
+    with served("") as client:
+        moment = int(client.ask("OFFER 0 job").split(" ")[2])
+        assert 0 <= moment <= machines_clock() - before
+
+
+def test_since_on_a_machine_that_was_suspended(tmp_path: Path) -> None:
+    if subprocess.run([*SUSPENDED, "true"], capture_output=True, check=False).returncode:
+        pytest.skip("no other time can be had here")
+    program, since = tmp_path / "program", machines_clock()
+    program.write_text(f'#!/bin/sh\nexec {" ".join(SUSPENDED)} "{tested_program()}" "$@"\n', "ascii")
+    os.chmod(program, 0o700)
+    with Server(["--since", since + AWAY * SECOND], str(program)) as server:
+        assert keeps_time(server, since)
