@@ -141,7 +141,6 @@ def saved(parts: Parts, run: Current) -> Next:
             parts.runs.drop(record)
         parts.publisher.count(looks.offered, looks.left, 0)
     else:
-        record = run.timed_by(told.left)
         parts.until_written(f"run-{record.number}.txt", lambda: parts.runs.save_history(server), server)
         end = _end_of(why, told, server, run.cut)
         _write_end(parts, record, end)

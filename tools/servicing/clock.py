@@ -25,11 +25,7 @@ def read_clock() -> Reading:
         boot = Path("/proc/sys/kernel/random/boot_id").read_text(encoding="ascii").strip().replace("-", "")
     except OSError:
         boot = os.environ.get(BOOT, "")
-    return Reading(boot, up_time(), time.time_ns())
-
-
-def up_time() -> int:
-    return time.clock_gettime_ns(time.CLOCK_BOOTTIME)
+    return Reading(boot, time.clock_gettime_ns(time.CLOCK_BOOTTIME), time.time_ns())
 
 
 def elapsed(since: Reading, now: Reading) -> int:

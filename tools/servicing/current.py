@@ -3,14 +3,12 @@ from __future__ import annotations
 
 import contextlib
 import time
-from dataclasses import replace
 from typing import Callable
 
-from servicing.clock import Reading, elapsed, is_same_boot, read_clock
+from servicing.clock import elapsed, read_clock
 from servicing.connections import Connection, Unwatchable
 from servicing.deciding import is_to_cut, why_to_end
 from servicing.looking import Looks
-from servicing.opening import Left
 from servicing.parts import Parts
 from servicing.saying import notify, say
 from servicing.server import Server
@@ -36,7 +34,8 @@ class Current:
         self.looks = Looks(own or OwnSession(self._settings.port), record, self._settings.workers)
         self.next_own = OwnSession(self._settings.port, self.looks.own)  # of the next run
         self.why = Reason.UNKNOWN  # it ends
-        self._ended: Reading | None = None  # when it was seen to have
+        # Since when it serves, or a little earlier if a service before this has started it.
+        self._since = read_clock() if server.process else record.began
         self.closed = 0.0  # since when nobody else is let in, by the monotonic clock
         self.cut = 0  # sessions
 
@@ -53,26 +52,17 @@ class Current:
             self._parts.publisher.enter(Phase.ENDING, why, clients=len(self.looks.served))
             self._end()
         self._begin_next()
-        self._ended = read_clock()
 
     def _begin_next(self) -> None:
         with contextlib.suppress(OSError):
             self.next_own.begin()
         self.looks.own.drop()
 
-    def timed_by(self, left: Left) -> Run:
-        """Its record, once its history is known: its clock began when the last event tells, or earlier."""
-        record, now = self.record, self._ended or read_clock()
-        began = record.began.after(now.up - (left.moment - record.moment) - record.began.up)
-        if not is_same_boot(record.began, now) or began.up >= record.surely_began.up:
-            return record
-        return replace(record, began=began, is_seen=True)
-
     def _watched(self) -> Reason | None:
         """Watches the server until its run has to end, and returns why. None if it has ended by itself."""
         while not self.server.has_ended:
             self._see(self.looks.look)
-            age = elapsed(self.record.began, read_clock())  # whatever the machine's date is set to
+            age = elapsed(self._since, read_clock())  # whatever the machine's date is set to
             why = Reason.ASKED if self._signals.count else self._wanted() or why_to_end(
                 self.looks, self.record, self._settings, age, self._first_aside)
             if why is not None:
@@ -87,9 +77,6 @@ class Current:
             self._parts.publisher.lower_alert("not-watching")
         except Unwatchable as fault:
             self._parts.publisher.raise_alert("not-watching", str(fault))
-        record, began = self.record, self.looks.began
-        if began is not None and not record.is_seen:
-            self.record = self._parts.runs.see(record, record.began.after(began - record.began.up))
         self._parts.publisher.show()
 
     def _wanted(self) -> Reason | None:

@@ -112,6 +112,7 @@ def misfit_of(run: Run, told: Checked) -> str:
     """Why a history is not that of a run. Nothing if it is."""
     audit, left, digest = told
     next_id, moment, elements = left.begins
+    # A run of an earlier version can have begun a little later than its record says.
     if (next_id, elements) != (run.next_id, run.opening) or moment < run.moment:
         return f"it does not begin as run {run.number} did"
     if run.end is None:

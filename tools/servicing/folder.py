@@ -147,12 +147,18 @@ def record_of(run: Run) -> bytes:
 
 
 def run_in(text: bytes) -> Run:
-    """The run of a record. Raises a `ValueError`, `KeyError` or `TypeError` if the text is none."""
+    """The run of a record. Raises a `ValueError`, `KeyError` or `TypeError` if the text is none.
+
+    A record of an earlier version has `is_seen`: whether its run's clock had begun at `began`. Otherwise that began up
+    to ten seconds later, and 0.1 ms for each element. An earlier time than the real one could make a job early.
+    """
     told: dict[str, Any] = dict(json.loads(text))
-    end = told["end"]
+    end, began = told["end"], Reading(**told["began"])
     if end is not None:
         told["end"] = _known(End, {**end, "why": Reason(end["why"])})
-    return _known(Run, {**told, "began": Reading(**told["began"]), "policy": tuple(told["policy"])})
+    if not told.get("is_seen", True):
+        began = began.after(10_000_000_000 + 100_000 * told["opening"])
+    return _known(Run, {**told, "began": began, "policy": tuple(told["policy"])})
 
 
 def _known(kind: Callable[..., Kind], told: dict[str, Any]) -> Kind:

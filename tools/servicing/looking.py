@@ -25,7 +25,6 @@ class Looks:
         self._seen_at, self.rate = time.monotonic(), 0.0  # calls a second, between the last two looks
         self.queue: Queue | None = None
         self.moment: int | None = None
-        self.began: int | None = None  # when the server's clock began to go at the latest, by `clock.up_time`
         self.offered = self.left = 0  # elements of this run; a job that came back is offered again
 
     def look(self) -> None:
@@ -55,8 +54,6 @@ class Looks:
     def hear(self, told: Told) -> None:
         record, own = self._record, self.own
         self.queue, self.moment = told.queue, told.moment
-        began = told.heard - (told.moment - record.moment)
-        self.began = min(self.began or began, began)
         ids = told.next_id - record.next_id
         self.offered = ids - own.probes
         self.left = max(self.offered - told.queue.elements + record.opening, 0)

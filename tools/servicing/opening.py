@@ -1,5 +1,5 @@
 """What a run begins with: the text that its server reads, made from the run before."""
-from dataclasses import dataclass, field, replace
+from dataclasses import dataclass, field
 from typing import BinaryIO, Iterable, Iterator
 
 from rb_broker_formats.grammar import GREATEST, GREATEST_OPENING_ID, HEADER, MOST_OPENING_ELEMENTS
@@ -27,19 +27,12 @@ class Opening:
     aside: Elements = field(default_factory=dict)  # beyond what an opening may have, which wait beside it
 
     @property
-    def header(self) -> bytes:
-        """The first lines of the text of a history that has left its elements."""
-        return HEADER + b"open %d %d %d\n" % (self.next_id, self.moment, len(self.elements))
-
-    @property
-    def body(self) -> Iterator[bytes]:
+    def text(self) -> Iterator[bytes]:
+        """The text of a history that has left its elements."""
+        yield HEADER + b"open %d %d %d\n" % (self.next_id, self.moment, len(self.elements))
         for id, words in self.elements.items():
             yield b"keep %s %s\n" % (id, words)
         yield b"end 0\n"
-
-    def at(self, moment: int) -> "Opening":
-        """The same at a moment, unless it is of a later one."""
-        return replace(self, moment=min(max(moment, self.moment), GREATEST))
 
     @property
     def first_aside(self) -> int:
@@ -69,7 +62,7 @@ def opening_after(left: Left, aside: Elements, moment: int, given: int = 0) -> O
         order = sorted({**elements, **aside}.items(), key=lambda it: (expiry_of(it[1]), int(it[0])))
         elements, aside = (dict(sorted(them, key=lambda it: int(it[0])))
                            for them in (order[:MOST_OPENING_ELEMENTS], order[MOST_OPENING_ELEMENTS:]))
-    return Opening(next_id, left.moment, elements, aside).at(moment)
+    return Opening(next_id, min(max(moment, left.moment), GREATEST), elements, aside)
 
 
 def expiry_of(words: bytes) -> int:

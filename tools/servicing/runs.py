@@ -35,10 +35,8 @@ class Next:
     given: int = 0  # ids that a lost run may have given
 
     def at(self, now: Reading) -> Opening:
-        return opening_after(self.left, self.aside, self.moment_at(now), self.given)
-
-    def moment_at(self, now: Reading) -> int:
-        return self.moment + (elapsed(self.since, now) if self.since else 0)
+        passed = elapsed(self.since, now) if self.since else 0
+        return opening_after(self.left, self.aside, self.moment + passed, self.given)
 
     def off_at(self, now: Reading) -> int:
         """For how many nanoseconds the machine was off, as far as its date tells."""
@@ -67,8 +65,8 @@ class Runs:
     def past(self) -> tuple[Run, ...]:
         return tuple(it for _, it in sorted(self.records.items(), reverse=True) if it.end)
 
-    def prepare(self, number: int, following: Next, settings: Settings) -> Run:
-        """Writes down the next run, whose server is started right behind. Raises an `OSError` if the disk is full."""
+    def prepare(self, number: int, following: Next, settings: Settings) -> tuple[Run, Opening]:
+        """Writes down the next run, whose clock goes from now on. Raises an `OSError` if the disk is full."""
         now, (lost, lost_jobs) = read_clock(), self.lost
         opening = following.at(now)
         record = Run(number, now, opening.moment, opening.next_id, len(opening.elements), len(opening.aside),
@@ -76,11 +74,10 @@ class Runs:
                      follows=digest_of(self.last))
         self.folder.remove(f"aside-{number}.txt")
         if opening.aside:
-            aside = replace(opening, elements=opening.aside)
-            self.folder.write(f"aside-{number}.txt", [aside.header, *aside.body])
-        self.folder.write(f"opening-{number}.txt", [opening.header, *opening.body])
+            self.folder.write(f"aside-{number}.txt", replace(opening, elements=opening.aside).text)
+        self.folder.write(f"opening-{number}.txt", opening.text)
         self.write(record)
-        return record
+        return record, opening
 
     def drop(self, record: Run) -> None:
         """Removes a run whose server served nobody, before what is in memory of it is gone: no service may take it for
@@ -88,20 +85,13 @@ class Runs:
         self.folder.drop(record.number)
         del self.records[record.number]
 
-    def see(self, record: Run, began: Reading) -> Run:
-        """Writes down when a server really began. It is no harm if that can't be written."""
-        self.records[record.number] = seen = replace(record, began=began, is_seen=True)
-        with contextlib.suppress(OSError):
-            self.write(seen)
-        return seen
-
     def after(self, record: Run, left: Left, given: int = 0) -> Next:
         """What follows a run that left this, and may have given so many ids more. Raises an `Unusable`."""
         path = self.folder.file(f"aside-{record.number}.txt")
         aside = left_of(path).elements if record.aside else {}
         if len(aside) != record.aside:
             raise Unusable(f"{path} is not what run {record.number} left aside: restore it")
-        return Next(left, record.moment, record.surely_began, aside, given)
+        return Next(left, record.moment, record.began, aside, given)
 
     def again(self, record: Run, given: int) -> Next:
         """What follows a run that was lost, and may have given so many ids. Raises an `Unusable`."""

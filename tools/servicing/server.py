@@ -7,18 +7,14 @@ import os
 import re
 import shutil
 import subprocess
-import termios
-import time
-from typing import Callable, Iterable, Iterator, NamedTuple, Sequence
+from typing import Iterator, NamedTuple, Sequence
 
 from rb_broker_formats.files import open_history
-from rb_broker_formats.grammar import HEADER
 from servicing.memory import Kept, Memory
 from servicing.opening import Left, left_in
 
 _COUNTS = re.compile(r"^sessions (\d+) faults \d+ lost (\d+)$", re.M)
 PIECE = 1 << 20
-SOON = 0.0002  # seconds from one look whether a server reads to the next
 
 # The room of a history is large, and a page of it is first touched while its lock is held: huge pages are fewer.
 HUGE_PAGES = {"GLIBC_TUNABLES": "glibc.malloc.hugetlb=1"}
@@ -58,31 +54,21 @@ class Server:
             return False
         return True
 
-    def start(self, words: Sequence[str], door: int, text: Callable[[], Iterable[bytes]]) -> None:
-        """Starts it, with words that name its files behind these. Raises a `NotStarted`.
-
-        It reads its opening from a pipe, and the text behind the first line is made only once it has read that, so that
-        the moment is that of now: what passes until the server's clock goes is time by which jobs are late.
-        """
-        kept, (opening, into), lock = self._kept, os.pipe(), _opened_again(self._kept.history)
+    def start(self, words: Sequence[str], door: int, opening: str) -> None:
+        """Starts it with the file of its opening, and words that name its files behind these. Raises a `NotStarted`."""
+        kept, lock = self._kept, _opened_again(self._kept.history)
         fcntl.flock(lock, fcntl.LOCK_EX)
-        with contextlib.suppress(BrokenPipeError), open(into, "wb") as file:  # it may have ended, which is seen
-            try:
+        try:
+            with open(opening, "rb") as file:
                 self.process = subprocess.Popen(
-                    [*words, "--from", f"/dev/fd/{opening}", "--history", f"/dev/fd/{lock}"], stdin=kept.end,
-                    stdout=kept.printed, stderr=kept.printed, pass_fds=[door, opening, lock], start_new_session=True,
-                    env={**HUGE_PAGES, **os.environ})
-            except OSError as fault:
-                raise NotStarted(f"{fault.filename or 'server'}: {fault.strerror}") from None
-            finally:
-                _close(opening, lock, kept.end)
-                self._kept = kept._replace(end=None)
-            file.write(HEADER)
-            file.flush()
-            while self.process.poll() is None and _unread(into):
-                time.sleep(SOON)
-            first, *others = text()
-            file.writelines([first.removeprefix(HEADER), *others])
+                    [*words, "--from", f"/dev/fd/{file.fileno()}", "--history", f"/dev/fd/{lock}"], stdin=kept.end,
+                    stdout=kept.printed, stderr=kept.printed, pass_fds=[door, file.fileno(), lock],
+                    start_new_session=True, env={**HUGE_PAGES, **os.environ})
+        except OSError as fault:
+            raise NotStarted(f"{fault.filename or 'server'}: {fault.strerror}") from None
+        finally:
+            _close(lock, kept.end)
+            self._kept = kept._replace(end=None)
 
     def drain(self) -> None:
         """Tells it to let nobody else in, and to end each session that holds no job."""
@@ -137,11 +123,6 @@ class Server:
 def _opened_again(descriptor: int, flags: int = os.O_RDWR) -> int:
     """A file that is opened once more: it is locked and read by itself."""
     return os.open(f"/proc/self/fd/{descriptor}", flags | os.O_CLOEXEC)
-
-
-def _unread(pipe: int) -> bool:
-    """Whether there is something in a pipe that nobody has read."""
-    return fcntl.ioctl(pipe, termios.FIONREAD, b"\0" * 4) != b"\0" * 4
 
 
 def _close(*descriptors: int | None) -> None:

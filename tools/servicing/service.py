@@ -107,19 +107,10 @@ def _listening(
     parts: Parts, door: socket.socket, server: Server, following: Next, before: Current | None
 ) -> Current:
     """A run whose server listens. Raises a `NotStarted`."""
-    record = parts.until_written("opening", lambda: parts.runs.prepare(server.run, following, parts.settings))
-    opening = following.at(record.began)
-    words, body = parts.settings.serve_words(record.greeting, door.fileno()), b"".join(opening.body)
-
-    def text() -> tuple[bytes, bytes]:
-        nonlocal opening, record
-        now = read_clock()
-        opening = opening.at(following.moment_at(now))
-        record = replace(record, moment=opening.moment, began=now)
-        return opening.header, body
-
+    record, opening = parts.until_written("opening", lambda: parts.runs.prepare(server.run, following, parts.settings))
+    words, file = parts.settings.serve_words(record, door.fileno()), parts.folder.file(f"opening-{record.number}.txt")
     try:
-        server.start(words, door.fileno(), text)
+        server.start(words, door.fileno(), file)
         while not server.listens:
             parts.signals.wait(POLL, server.input)
             if server.has_ended and not server.listens:
@@ -128,5 +119,4 @@ def _listening(
         parts.runs.drop(record)
         server.close()
         raise
-    record = replace(record, began=read_clock())  # its clock goes since about now; a look tells exactly
     return Current(parts, record, server, opening.first_aside, before.next_own if before else None)

@@ -8,7 +8,6 @@ import time
 from collections import deque
 from typing import NamedTuple
 
-from servicing.clock import up_time
 from servicing.opening import PROBE, PROBE_DELAY
 from servicing.state import Queue
 from rb_broker_client import Broker, BrokerError, FullError, Job, Request
@@ -24,7 +23,6 @@ class Told(NamedTuple):
     queue: Queue
     next_id: int
     moment: int
-    heard: int  # when, by the clock that `clock.up_time` reads
 
 
 class OwnSession:
@@ -85,7 +83,6 @@ class OwnSession:
     def _told(self, broker: Broker) -> Told | None:
         probe = Request.offer(PROBE, delay=PROBE_DELAY // SECOND)
         size, head, offered = answers = broker.ask_all([Request.size(), Request.peek(), probe])
-        heard = up_time()
         self.calls += sum(not isinstance(it, BrokerError) for it in answers)
         self.is_full = self.is_full or isinstance(offered, FullError)
         if isinstance(offered, BrokerError):
@@ -93,7 +90,7 @@ class OwnSession:
         broker.remove(offered.id)
         self.calls, self.probes = self.calls + 1, self.probes + 1
         moment = offered.expires_at_ns - PROBE_DELAY
-        return Told(Queue(time.time(), size, _late(head, moment)), offered.id + 1, moment, heard)
+        return Told(Queue(time.time(), size, _late(head, moment)), offered.id + 1, moment)
 
 
 def _late(head: Job | None, moment: int) -> float:

@@ -8,6 +8,7 @@ from typing import Any, Callable, NamedTuple
 
 from common.program import program_named
 from common.words import number, parser_of, span
+from servicing.state import Run
 
 TURN = 20_000_000  # nanoseconds that a turn of a wait lasts while nothing happens
 
@@ -106,10 +107,10 @@ class Settings:
         retry = ("--delay", self.delay) if self.rate is None else ("--rate", self.rate)
         return *map(str, retry), "--attempts", str(self.attempts)
 
-    def serve_words(self, greeting: str, door: int) -> list[str]:
+    def serve_words(self, run: Run, door: int) -> list[str]:
         """The command that serves a run at a listening socket; `server.start` names its opening and its history."""
         said = {it: getattr(self, it) for it in ("port", "workers", "sessions", "calls", "timer", "silent")}
-        said |= {"turns": math.ceil(self.wait / TURN), "socket": door, "greeting": greeting}
+        said |= {"turns": math.ceil(self.wait / TURN), "socket": door, "greeting": run.greeting, "since": run.began.up}
         words = [it for name, value in said.items() for it in (f"--{name}", str(value))]
         return [self.program, "serve", *words, *self.policy, "--until-input-ends", "--attentive"]
 

@@ -11,9 +11,6 @@ from typing import Callable, NamedTuple
 from servicing.clock import Reading
 from servicing.connections import Connection
 
-# Nanoseconds in which a server begins to serve, and for each element of its opening.
-SLOWEST_START, SLOWEST_ELEMENT = 10_000_000_000, 100_000
-
 LONGEST = 60.0  # seconds without a new state after which the service is not healthy
 CLOSED = 5.0  # seconds in which no new client is served after which there is an alert
 
@@ -106,23 +103,17 @@ class Run:
     """A run: what is written down of it before its server starts, and what became of it."""
 
     number: int  # from 1, as in the names of its files
-    began: Reading  # at which the moment was the opening's, or a little earlier if that was not seen yet
-    moment: int  # the moment at its beginning
+    began: Reading  # at which the moment was the opening's
+    moment: int  # that moment
     next_id: int  # the id of its first offer
     opening: int  # elements that it began with
     aside: int  # elements beyond the 1,000,000 of an opening, which wait in a file
     calls: int  # for which it has room, and so at most as many ids
     policy: tuple[str, ...]  # the words of its retries
-    is_seen: bool = False  # whether the server has shown since when its clock goes
     lost_before: int = 0  # how many runs of the folder were lost before this one
     lost_jobs_before: int = 0  # and how many jobs could not come back
     follows: str = ""  # `deciding.digest_of` the run that it continues
     end: End | None = None
-
-    @property
-    def surely_began(self) -> Reading:
-        """At which the moment was the opening's, or later. By an earlier one a job could be early in the next run."""
-        return self.began if self.is_seen else self.began.after(SLOWEST_START + SLOWEST_ELEMENT * self.opening)
 
     # What its server says to who is let in, and the words by which `replay` checks its history.
     greeting = property(lambda self: f"RUN {self.number} lost {self.lost_before} at {self.moment}")

@@ -19,6 +19,7 @@ from common.program import TOP, tested_program
 from serving import HOST, PATIENCE
 from serving.server import free_port
 from serving.session import Session
+from servicing.clock import read_clock
 from servicing.tests.store import LAUNCH, Store
 
 SYSTEMS_PYTHON = "/usr/bin/python3"
@@ -199,6 +200,19 @@ class ServiceTest(RoomTest):
     def has_left(self, size: int) -> None:
         """So many elements are in the queue. The service's own comes and goes."""
         until(lambda: self.ask("SIZE") == [f"SIZE {size}"], f"{size} elements")
+
+    def zero(self) -> tuple[int, int]:
+        """What the machine's clock read at moment 0, by the run that serves, at the least and at the most."""
+        before = read_clock().up
+        id, expiry = map(int, self.ask("OFFER 0 now")[0].split(" ")[1:])
+        least, most = before - expiry, read_clock().up - expiry
+        self.ask(f"REMOVE {id}")
+        return least, most
+
+    def first_zero(self) -> int:
+        """The same, by what is written down of the first run."""
+        told = self.record(1)
+        return told["began"]["up"] - told["moment"]
 
     def record(self, run: int, folder: str = "") -> Any:
         """What is written down of a run, once it is."""

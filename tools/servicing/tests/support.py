@@ -27,7 +27,7 @@ def left_of(text: str) -> Left:
 
 
 def text_of(opening: Opening) -> str:
-    return b"".join([opening.header, *opening.body]).decode()
+    return b"".join(opening.text).decode()
 
 
 def connection(port: int = 1, **told: Any) -> Connection:

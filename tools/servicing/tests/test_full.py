@@ -119,7 +119,7 @@ class CallsTest(unittest.TestCase):
         reply = len(f"OFFERED 1000 {10**15}.")
         looks.see([connection(3, calls=9000, replied=1000 * reply)])  # an offer's bytes could be 9 other calls
         self.assertEqual(looks.calls, 2500 + 1000 * reply // 5)
-        looks.hear(Told(Queue(0, 1000, 0), 2000, 10**15, 10**15))
+        looks.hear(Told(Queue(0, 1000, 0), 2000, 10**15))
         self.assertEqual(looks.calls, 1000 + 2500)
 
     def test_the_next_look(self) -> None:

@@ -111,22 +111,16 @@ class WatchedTest(ServingTest):
         self.until(looks, lambda: looks.queue is not None and looks.queue.elements == 2)
         self.assertTrue(looks.queue and 0 <= looks.queue.late <= time.monotonic() - before, looks.queue)
 
-    def test_since_when_the_servers_clock_goes(self) -> None:
-        """What is found is no earlier than the clock's real beginning, and at the best a little later."""
+    def test_what_a_run_begins_with(self) -> None:
+        """It was neither offered in the run, nor has it left."""
         last = 5_000_000_000_000
         opening = self.file("opening.txt", f"history 3\nopen 7 {last} 1\nkeep 3 {last} 3 {last} 1 old\nend 0\n")
-        before = time.clock_gettime_ns(time.CLOCK_BOOTTIME)
         server = self.serve("--workers", 3, "--sessions", 40, "--from", opening, *GREETS)
-        after = time.clock_gettime_ns(time.CLOCK_BOOTTIME)
         looks = Looks(OwnSession(server.port), record(next_id=7, moment=last, opening=1), 3)
         self.addCleanup(looks.own.drop)
-        for _ in range(20):
-            told = looks.own.look()
-            assert told is not None
-            looks.hear(told)
-        assert looks.began is not None
-        self.assertTrue(before <= looks.began <= after + 50_000_000, (before, looks.began, after))
+        self.until(looks, lambda: looks.queue is not None)
         self.assertEqual((looks.offered, looks.left, looks.queue and looks.queue.elements), (0, 0, 1))
+        self.assertGreaterEqual(looks.moment, last)
 
     def test_what_looking_costs(self) -> None:
         """The server's audit has the calls that the service counts, and no element of its own is left. In a full run
