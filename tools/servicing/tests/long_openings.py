@@ -3,8 +3,7 @@
 import signal
 
 from rb_broker_formats.grammar import MOST_OPENING_ELEMENTS
-from serving.session import Session
-from servicing.tests.process import Event, Service, ServiceTest
+from servicing.tests.process import Client, Event, Service, ServiceTest
 
 FAR, FURTHER = 10**15, 2 * 10**15  # moments
 ASIDE = 1_000
@@ -18,8 +17,8 @@ class OpeningsTest(ServiceTest):
         self.stops(service)
         service, told = self.goes_on()
         self.assertEqual((told["elements"], told["aside"]), (f"{MOST_OPENING_ELEMENTS}", f"{ASIDE + 1}"))
-        with Session(self.port) as it:
-            id = it.ask("POLL").split(" ")[1]
+        with Client(self.port) as it:
+            id = it.greeted().ask("POLL").split(" ")[1]
             self.assertEqual([it.ask(f"DONE {id}"), it.ask("QUIT")], [f"DONE {id}", "BYE"])
         self.ask_all(*(f"REMOVE {number}" for number in range(ASIDE)))
         self.stops(service)
@@ -38,8 +37,8 @@ class OpeningsTest(ServiceTest):
 
     def ask_all(self, *requests: str) -> None:
         """Makes many requests in one session, none of which is refused."""
-        with Session(self.port) as it:
-            it.send(*requests)
+        with Client(self.port) as it:
+            it.greeted().send(*requests)
             for _ in requests:
                 self.assertRegex(it.line(), "^OFFERED |^REMOVED yes$")
             it.ask("QUIT")
