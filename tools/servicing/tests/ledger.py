@@ -92,7 +92,7 @@ def told(ledgers: Sequence[Ledger], lost: Collection[int]) -> str:
     done = {payload for one in ledgers for payload, _ in one.done}
     groups = {"": late, " in the first quarter": late[:quarter], " in the last": late[-quarter:],
               **{f" behind {first} to {last - 1} rollovers": [it for it in late if first <= it[1] < last]
-                 for first, last in ((0, 2), (2, 8), (8, 1000))}}
+                 for first, last in ((0, 2), (2, 6), (6, 21), (21, 1000))}}
     return (f"{sum(len(it.offered) for it in ledgers)} offered, {len(doubts)} in doubt of which {len(doubts & done)} "
             f"done, {len(lost)} runs lost; gaps {spread(gaps(ledgers, lost))}; "
             f"waits {spread([it for one in ledgers for it in one.waits])}; faults {dict(faults)}"
