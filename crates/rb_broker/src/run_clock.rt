@@ -1,3 +1,5 @@
+ghost use Rattle.std.specs.Prelude.{◌≡◌};
+
 use libc::clock_gettime;
 use libc::types::timespec;
 use rb_blocking::{Clock, MachineClock};
@@ -21,7 +23,9 @@ pub struct RunClock<'a, R: time::Clock> {
 
 impl<'a, R: time::Clock> RunClock<'a, R> {
     /// The clock of a run that begins now, or at that moment. It takes no memory.
-    pub fn new(rt: &'a R, since: Option<u64>) -> RunClock<'a, R> {
+    pub fn new(rt: &'a R, since: Option<u64>) -> RunClock<'a, R>
+        ensures { result.since ≡ since }
+    {
         RunClock {
             made: MachineClock::new(rt),
             since,
