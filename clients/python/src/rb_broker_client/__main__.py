@@ -22,7 +22,7 @@ import sys
 from collections.abc import Callable, Iterable, Iterator
 from contextlib import contextmanager
 from functools import partial
-from typing import Any, TypeVar
+from typing import Any
 
 from rb_broker_formats.protocol import MOST_HELD
 
@@ -33,7 +33,7 @@ from .dead_letters import payload_of, read_letters, take_letters
 from .durations import from_text, seconds
 from .producer import Producer
 from .request import Request
-from .servers import LOOPBACK, are_addresses, read_addresses
+from .servers import LOOPBACK, Servers
 from .tasks import Tasks
 from .waiting import run
 from .worker import AsyncWorker, Worker
@@ -41,7 +41,6 @@ from .worker import AsyncWorker, Worker
 NAME, SCRIPT = "rb_broker_client", "rb-broker"  # the module, and the command that pip installs
 FORM = argparse.RawDescriptionHelpFormatter
 Asked = argparse.Namespace
-Read = TypeVar("Read")
 
 
 def main(words: list[str] | None = None) -> int:
@@ -228,26 +227,21 @@ def _whole(least: int, most: int) -> Callable[[str], int]:
     return read
 
 
-def _port(word: str) -> int | str:
-    if not are_addresses(word):
-        return _whole(1, 65_535)(word)
-    _told(read_addresses, word)
-    return word
-
-
-def _delay(word: str) -> float:
-    return _told(from_text, word)
-
-
-def _told(read: Callable[[str], Read], word: str) -> Read:
+def _told(read: Callable[[str], Any], word: str) -> Any:
     try:
         return read(word)
-    except ValueError as fault:
+    except (TypeError, ValueError) as fault:
         raise argparse.ArgumentTypeError(str(fault)) from None
 
 
-def _seconds(word: str) -> float:
-    return seconds(float(word))
+def _address(word: str) -> int | str:
+    port: int | str = int(word) if word.isascii() and word.isdecimal() else word
+    Servers(port)
+    return port
+
+
+_port, _delay = partial(_told, _address), partial(_told, from_text)
+_seconds = partial(_told, lambda word: seconds(float(word)))
 
 
 def _named(kind: Any, word: str) -> Any:

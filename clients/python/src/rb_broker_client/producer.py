@@ -131,7 +131,7 @@ class BaseProducer:
     async def _go_on(self, deadline: float) -> None:
         # At the next server, if one has served, and at once at each further one. They share the time that is left.
         if self._pipeline is not None:
-            self._servers.leave()
+            self._servers.move_on()
         for left in range(len(self._servers), 0, -1):
             now = time.monotonic()
             try:

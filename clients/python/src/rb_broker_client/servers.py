@@ -18,11 +18,6 @@ class Address(NamedTuple):
     name: str
 
 
-def are_addresses(word: str) -> bool:
-    """Whether a word is meant to be addresses, and no port."""
-    return ":" in word or "," in word
-
-
 def read_addresses(text: str) -> list[Address]:
     """Those of `HOST:PORT,HOST:PORT`. Raises `ValueError`, with the part that is wrong. So is one that stands twice,
     which is rather meant to be another than to be tried twice."""
@@ -45,7 +40,7 @@ class Servers:
     def __init__(self, port: int | str, host: str = LOOPBACK, **options: Any) -> None:
         """`port` may be the text of one address or several. Each session has these options. Raises `ValueError`, or
         `TypeError` for what is neither such a text nor a whole number."""
-        if isinstance(port, str) and are_addresses(port):
+        if isinstance(port, str) and re.search("[:,]", port):
             self._all = read_addresses(port)
             if host != LOOPBACK:
                 raise ValueError(f"the addresses {port} name their hosts, so {host} can't be one")
@@ -56,7 +51,6 @@ class Servers:
         else:
             self._all = [Address(host, port, f"{host}:{port}")]
         self._options, self._index, self._failed = options, 0, 0
-        self._has_served = False
 
     def __len__(self) -> int:
         return len(self._all)
@@ -66,24 +60,14 @@ class Servers:
         """The one that serves, or is tried next."""
         return self._all[self._index]
 
-    @property
-    def are_several(self) -> bool:
-        """Whether there is another one to go to."""
-        return len(self._all) > 1
-
     def served(self) -> None:
         """The current one has served: the others are tried at once when it does no more."""
-        self._failed, self._has_served = 0, True
-
-    def leave(self) -> None:
-        """A session has ended: moves on, if the current one has served."""
-        if self._has_served:
-            self.move_on()
+        self._failed = 0
 
     def move_on(self) -> bool:
         """The current one does not serve, or no more. Gives whether none has since `served`, so that a pause is due."""
         self._index = (self._index + 1) % len(self._all)
-        self._failed, self._has_served = (self._failed + 1) % len(self._all), False
+        self._failed = (self._failed + 1) % len(self._all)
         return self._failed == 0
 
     def session(self, kind: Callable[..., Made], patience: float) -> Made:

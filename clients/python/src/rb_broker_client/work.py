@@ -120,7 +120,7 @@ class Work:
         # Where it did not, one job is waited for; and where a wait has found one, others may be due, which come first.
         # A gateway that is to end gives a wait up, but by a drain the session ends, and its jobs with it. So where
         # another gateway can go on, nothing else than a wait is asked beside jobs.
-        if self._servers.are_several and (self.held or self.fetching):
+        if len(self._servers) > 1 and (self.held or self.fetching):
             return [] if self.fetching else [self._await_job(running > 0)]
         if self._more_are_due and (free > 1 or running or self.fetching):
             return [self._drain(free)]
@@ -164,7 +164,7 @@ class Work:
         is_stopped = isinstance(refused, StoppedError)
         if is_stopped and self.session.greeting is not None and self._asked:
             pass  # the server looks what was sent behind a wait
-        elif is_stopped and self.session.greeting is None and self._servers.are_several and self.held:
+        elif is_stopped and self.session.greeting is None and len(self._servers) > 1 and self.held:
             self.is_used_up = True  # a gateway that is to end lets these jobs be told, and another one gives more
         elif is_stopped or isinstance(refused, OutOfMemoryError):
             if asked < self._next_try:

@@ -228,7 +228,7 @@ class BaseWorker(Generic[Handler, OnDead]):
             work.session.post(*questions)
         if work.is_left or self._is_stopping and not work.is_served:
             self._end(work, is_lost=work.is_used_up)
-        elif work.is_used_up and work is self._visit and self._servers.are_several:
+        elif work.is_used_up and work is self._visit and len(self._servers) > 1:
             self._move_on()
 
     def _end(self, work: Work, is_lost: bool = False) -> None:
