@@ -11,6 +11,7 @@ import selectors
 import socket
 import threading
 import time
+import weakref
 from collections.abc import Callable, Coroutine
 from concurrent.futures import ThreadPoolExecutor
 from contextlib import suppress
@@ -115,18 +116,14 @@ class ThreadTurns:
     def __init__(self, is_apart: bool) -> None:
         self._is_apart, self._threads = is_apart, 0
         self._tasks: queue.SimpleQueue[Task | None] = queue.SimpleQueue()
-        self._open: list[Any] = []
         self._is_rung = True  # whether a byte is in the socket or about to be: one is enough. There is none yet
-
-    def __del__(self) -> None:  # once nobody can wake any more
-        for it in self._open:
-            it.close()
 
     async def run(self, turn: Turn) -> None:
         """Takes turns until all is done. Descriptors are made here: a process that was forked before has its own."""
         self._reader, self._writer = socket.socketpair()
         self._selector = selectors.DefaultSelector()
-        self._open = [self._reader, self._writer, self._selector]
+        for it in (self._reader, self._writer):
+            weakref.finalize(self, it.close).atexit = False  # only once nobody can wake any more
         self._selector.register(self._reader, selectors.EVENT_READ, self._hear)
         self._is_rung = False  # before the first turn looks whether it is to stop
         while (pause := turn()) is not None:
@@ -215,11 +212,7 @@ class LoopTurns:
     def _ring(self) -> None:
         if not self._is_rung:
             self._is_rung = True
-            self._loop.call_soon(self._hear)
-
-    def _hear(self) -> None:
-        if self._is_rung:  # and no turn was taken since
-            self._take()
+            self._loop.call_soon(self._take)
 
     def _take_within(self, pause: float) -> None:
         # A timer that is due too early takes a turn for nothing, which costs less than a timer for each turn.
@@ -246,13 +239,12 @@ class LoopTurns:
         session.receive()
         self._take()
 
-    def begin(self, task: Task) -> None:
-        self.start(task, 0)
-
-    def start(self, task: Task, running: int) -> Any:
+    def start(self, task: Task, running: int = 0) -> Any:
         self.has_started = True
         self._tasks.add(started := self._loop.create_task(task, context=self._context.copy()))
         return started.cancel
+
+    begin = start
 
     def ended(self) -> None:
         self._tasks.discard(asyncio.current_task())
