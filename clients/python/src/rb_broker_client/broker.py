@@ -23,7 +23,7 @@ from .answers import (
     AsyncHeldJob, BrokerError, DisconnectedError, EndedError, Greeting, HeldJob, Job, UnknownReplyError,
 )
 from .durations import Duration, seconds
-from .request import Answer, Request
+from .request import Answer, Request, demand
 from .servers import LOOPBACK, Address, Servers
 from .waiting import Blocking, Kind, Looping, Words, blocking, run
 
@@ -162,11 +162,8 @@ class Session:
         return made
 
     async def _ask(self, request: Request[Answer]) -> Answer:
-        answer: Answer
         (answer,) = await self._ask_all([request])
-        if isinstance(answer, BrokerError):
-            raise answer
-        return answer
+        return demand(answer)
 
     async def _ask_all(self, requests: Iterable[Request[Any]]) -> list[Any]:
         """Sends any number of requests in one piece, and gives the answer to each. For a request that was refused, or
@@ -202,10 +199,6 @@ class Session:
         """Ends the session, waits until the server has read so, and hangs up."""
         await self._ask(Request.quit())
         self.close()
-
-    async def _await_service(self) -> None:
-        """Waits until the server serves this session, for which one of its workers must be free. This is no call."""
-        await self._ask(Request.greeting())
 
     def _read(self) -> None:
         if self._lines and not self._has_begun:
@@ -295,9 +288,9 @@ class AsyncBroker(Session):
     remove = _asks(Request.remove)
     clear = _asks(Request.clear)
     size = _asks(Request.size)
+    await_service = _asks(Request.greeting)
     ask_all = Session._ask_all
     quit = Session._quit
-    await_service = Session._await_service
 
     async def __aenter__(self) -> Self:
         await self._connect()
@@ -328,9 +321,9 @@ class Broker(Session, AbstractContextManager["Broker"]):
     remove = blocking(AsyncBroker.remove)
     clear = blocking(AsyncBroker.clear)
     size = blocking(AsyncBroker.size)
+    await_service = blocking(AsyncBroker.await_service)
     ask_all = blocking(Session._ask_all)
     quit = blocking(Session._quit)
-    await_service = blocking(Session._await_service)
 
     def __exit__(self, *fault: object) -> None:
         self.close()

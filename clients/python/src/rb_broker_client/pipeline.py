@@ -8,11 +8,7 @@ from typing import Any
 
 from .answers import DisconnectedError, UnknownReplyError
 from .broker import Session
-from .request import Answer, Request
-
-
-class LeftError(Exception):
-    """The session takes no request any more. The one that it was given was not sent."""
+from .request import Answer, Request, demand
 
 
 class _Call:
@@ -23,6 +19,13 @@ class _Call:
         self.answer: Any = None  # or an exception
         self.is_answered = self.is_given_up = False
         self.bell: Any = None  # where it sleeps while another reads
+
+    def settle(self, answer: Any) -> None:
+        """Its reply has come, or never will."""
+        if not isinstance(answer, Exception):
+            self.take(answer)
+        self.answer, self.is_answered = answer, True
+        self.wake()
 
     def wake(self) -> bool:
         """Wakes who sleeps. Gives whether somebody does."""
@@ -44,15 +47,15 @@ class Pipeline:
         self.is_left = False  # whether it takes no request any more
         self.end = self._kind.bell()  # which can be acquired once it has hung up
 
-    async def ask(self, request: Request[Answer], deadline: float, take: Callable[[Answer], object]) -> Answer:
-        """Sends a request, and gives its answer. `take` is called with each that is no exception, in the order of the
-        requests. Raises `LeftError` if it was not sent, `TimeoutError` at the deadline, and `OSError` if it is lost."""
+    async def ask(self, request: Request[Answer], deadline: float, take: Callable[[Answer], object]) -> Answer | None:
+        """Sends a request, and gives its answer, or None if it was not sent. `take` is called with each that is no
+        exception, in the order of the requests. Raises `TimeoutError` at the deadline, and `OSError` if it is lost."""
         call, sent = _Call(take), time.monotonic()
         with self._lock:
             if not self._is_read:
                 self._hear()  # who reads knows first if the session is lost
             if self.is_left:
-                raise LeftError
+                return None
             self._calls.append(call)
             self._send(request)
         try:
@@ -63,9 +66,7 @@ class Pipeline:
             with self._lock:
                 call.is_given_up = not call.is_answered
                 self._pass_on()
-        if isinstance(call.answer, Exception):
-            raise call.answer
-        return call.answer  # type: ignore[no-any-return]
+        return demand(call.answer)
 
     def leave(self) -> None:
         """Takes no request any more, and hangs up once nobody waits."""
@@ -105,19 +106,12 @@ class Pipeline:
     def _hand_out(self) -> None:
         while self._calls and self.session.answers:
             answer = self.session.take_answer()
-            if not isinstance(answer, Exception):
-                self._calls[0].take(answer)
-            self._settle(answer)
-
-    def _settle(self, answer: Any) -> None:
-        call = self._calls.popleft()
-        call.answer, call.is_answered = answer, True
-        call.wake()
+            self._calls.popleft().settle(answer)
 
     def _lose(self, fault: Exception) -> None:
         self.is_left = True
         while self._calls:
-            self._settle(fault)
+            self._calls.popleft().settle(fault)
             if isinstance(fault, UnknownReplyError):  # which answers the first
                 fault = DisconnectedError(f"the server sent a line that answers no request: {fault}")
 

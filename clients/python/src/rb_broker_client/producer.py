@@ -14,7 +14,7 @@ from weakref import WeakSet
 from .answers import EndedError, FullError, Greeting, InDoubtError, LostRun, NotOfferedError, Offered, OutOfMemoryError
 from .broker import AsyncBroker, Broker, Session
 from .durations import FOR_EVER, Duration, Pauses, nanoseconds, seconds
-from .pipeline import LeftError, Pipeline
+from .pipeline import Pipeline
 from .request import Request
 from .run import Run
 from .servers import LOOPBACK, Servers
@@ -50,13 +50,10 @@ class BaseProducer:
         request, delay_ns = Request.offer(payload, delay=delay), nanoseconds(delay)
         deadline, doubt, pauses = time.monotonic() + self._patience, None, copy.copy(self._pauses)
         pauses.reset()  # of other offers, which may be tried at the same time
-
-        def see(offered: Offered) -> None:
-            self._run.offered(offered.id, offered.expires_at_ns - delay_ns)
-
         while True:
             try:
-                return await self._try(request, deadline, see)
+                return await self._try(request, deadline,
+                                       lambda it: self._run.offered(it.id, it.expires_at_ns - delay_ns))
             except (InDoubtError, NotOfferedError, FullError, OutOfMemoryError) as fault:
                 if isinstance(fault, InDoubtError):
                     doubt = doubt or fault
@@ -79,9 +76,9 @@ class BaseProducer:
         while True:
             pipeline = await self._served(request, deadline)
             try:
-                return replace(await pipeline.ask(request, deadline, see), greeting=pipeline.session.greeting)
-            except LeftError:
-                pass  # it was left, or lost, since it was had
+                offered = await pipeline.ask(request, deadline, see)
+                if offered is not None:  # or else it was left, or lost, since it was had
+                    return replace(offered, greeting=pipeline.session.greeting)
             except FullError:
                 pipeline.leave()  # nothing more comes of this run, which ends when its clients have left
                 raise
@@ -150,7 +147,7 @@ class BaseProducer:
             began = time.monotonic()
             session.patience = max(deadline - began, LEAST)
             try:
-                await session._await_service()
+                await session._ask(Request.greeting())
             except TimeoutError:
                 raise TimeoutError(f"connected, but all workers of the server at {self._run.place} were busy for "
                                    f"{time.monotonic() - began:.1f} seconds") from None

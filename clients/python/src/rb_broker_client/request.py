@@ -7,7 +7,7 @@ from collections.abc import Callable, Iterator, Mapping
 from dataclasses import dataclass
 from typing import Generic, NoReturn, TypeVar
 
-from rb_broker_formats.protocol import ATTEMPT, GREATEST_NUMBER, LONGEST_PAYLOAD, NUMBER, PAYLOAD
+from rb_broker_formats.protocol import ATTEMPT, GREATEST_NUMBER, LONGEST_PAYLOAD, MOST_HELD, NUMBER, PAYLOAD
 
 from .answers import REFUSALS, Again, BrokerError, Dead, Job, Offered, StoppedError, UnknownReplyError, Verdict
 from .durations import Duration, nanoseconds
@@ -15,7 +15,15 @@ from .durations import Duration, nanoseconds
 Answer = TypeVar("Answer")
 Reader = Callable[[Iterator[bytes]], Answer]  # of a reply, of which it takes as many lines as there are
 
+_WORDS = {"#": NUMBER, "@": ATTEMPT, "%": "|".join(map(str, range(MOST_HELD + 1))), "*": PAYLOAD}
 _WAITS: Mapping[bytes, type[BrokerError]] = {**REFUSALS, b"STOPPED": StoppedError}
+
+
+def demand(answer: Answer | Exception) -> Answer:
+    """The answer, which is to be a value: an exception is raised."""
+    if isinstance(answer, Exception):
+        raise answer
+    return answer
 
 
 def _unknown(line: bytes) -> NoReturn:
@@ -27,22 +35,14 @@ def _number(word: bytes) -> int:
     return number if number <= GREATEST_NUMBER else _unknown(word)
 
 
-_WORDS: Mapping[str, tuple[str, Callable[[bytes], object]]] = {
-    "#": (f"({NUMBER})", _number),
-    "@": (f"({ATTEMPT})", int),
-    "%": ("([0-9]|[1-5][0-9]|6[0-4])", int),  # how many jobs a session may hold
-    "*": (f"({PAYLOAD})", bytes.decode),
-}
-
-
 def _form(text: str, make: Callable[..., Answer]) -> Callable[[bytes], Answer]:
     # Makes the answer of a line of this form, from the words that vary.
-    pattern = re.compile("".join(_WORDS[it][0] if it in _WORDS else it for it in text).encode())
-    converts = [_WORDS[it][1] for it in text if it in _WORDS]
+    pattern = re.compile("".join(f"({_WORDS[it]})" if it in _WORDS else it for it in text).encode())
+    are_texts = [it == "*" for it in text if it in _WORDS]
 
     def read(line: bytes) -> Answer:
         found = pattern.fullmatch(line) or _unknown(line)
-        return make(*[convert(word) for convert, word in zip(converts, found.groups())])
+        return make(*[it.decode() if is_text else _number(it) for it, is_text in zip(found.groups(), are_texts)])
 
     return read
 
@@ -106,7 +106,8 @@ class Request(Generic[Answer]):
     size = _plain(b"SIZE", _reader(_size), "Counts the elements in the queue, expired or not.")
     quit = _plain(b"QUIT", _reader(exact={b"BYE": None}), "Ends the session. Nothing after it is served.")
     greeting = _plain(b"AT 0", _reader(exact={b"ERR 1 syntax": None}),
-                      "Asks what each server refuses, which is no call. The reply tells that it is served.")
+                      """Waits until the server serves this session, for which one of its workers must be free. It asks
+        what each server refuses, which is no call.""")
 
     @classmethod
     def poll_for(cls, timeout: Duration) -> Request[Job | None]:

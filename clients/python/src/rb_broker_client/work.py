@@ -11,7 +11,7 @@ from typing import Any
 from .answers import Again, BrokerError, FullError, Job, OutOfMemoryError, Report, StoppedError
 from .broker import Session
 from .durations import Pauses
-from .request import Request
+from .request import Request, demand
 from .run import Run
 from .servers import Servers
 
@@ -181,16 +181,16 @@ class Work:
             raise refused
 
     def _served(self, answer: Any) -> None:
-        _demand(answer)
+        demand(answer)
         self._run.served(self.session.greeting)
         self.is_served = True
 
     def _left(self, answer: Any) -> None:
-        _demand(answer)
+        demand(answer)
         self.is_left = True
 
     def _done(self, job: Job, answer: Any) -> None:
-        _demand(answer)
+        demand(answer)
         del self.held[job.id]
         self._report.done += 1
 
@@ -201,7 +201,7 @@ class Work:
             self._next_try = monotonic() + self._pauses.next()
             return
         if not isinstance(answer, FullError):
-            _demand(answer)
+            demand(answer)
         del self.held[job.id]
         if isinstance(answer, Again):
             self._run.came_back(answer.id)
@@ -215,8 +215,3 @@ class Work:
             self._report.dead += 1
             log.error("job %s failed in its last attempt, %d", job.payload, job.attempt)
             self._bury(job)
-
-
-def _demand(answer: Any) -> None:
-    if isinstance(answer, BrokerError):  # one that can't be
-        raise answer
