@@ -14,7 +14,6 @@ from collections.abc import Callable, Coroutine, Iterable
 from contextlib import AbstractContextManager, ExitStack
 from functools import wraps
 from operator import length_hint
-from selectors import EVENT_READ, EVENT_WRITE
 from typing import Any, ClassVar, Concatenate, Generic, Self, TextIO
 
 from rb_broker_formats.protocol import LONGEST_REPLY
@@ -248,9 +247,8 @@ class Session:
     async def is_ready(self, deadline: float) -> bool:
         """Waits until something can be read or, if something is to be, sent. Gives whether it can, by this deadline."""
         # A server reads no further while its replies are not read, so they are read while there is more to send.
-        events = EVENT_READ | EVENT_WRITE if self.unsent else EVENT_READ
         left = None if deadline == math.inf else max(deadline - time.monotonic(), 0)
-        return await self._kind.ready(self._socket, events, left)
+        return await self._kind.ready(self._socket, bool(self.unsent), left)
 
 
 def _asks(make: Callable[Words, Request[Answer]]) -> Callable[
@@ -274,7 +272,7 @@ class _Gives(Generic[Answer]):
 class AsyncBroker(Session):
     """A `Broker` for asyncio: `async with AsyncBroker(7011) as broker`. Its methods are coroutine functions."""
 
-    _kind = Looping
+    _kind = Looping()
 
     offer = _asks(Request.offer)
     offer_at = _asks(Request.offer_at)
@@ -307,7 +305,7 @@ class Broker(Session, AbstractContextManager["Broker"]):
     `RefusedError`, a lost connection as an `OSError`. If the wait for a reply is broken off, by `patience` or by the
     exception of a signal handler, the session can only be closed. The jobs that it holds fail when it ends."""
 
-    _kind = Blocking
+    _kind = Blocking()
 
     offer = blocking(AsyncBroker.offer)
     offer_at = blocking(AsyncBroker.offer_at)

@@ -5,7 +5,6 @@ import os
 from collections.abc import Callable, Iterator
 from contextlib import contextmanager
 from datetime import datetime, timezone
-from functools import partial
 from typing import IO
 
 from .answers import Job
@@ -31,7 +30,7 @@ class DeadLetters:
 
     async def keep(self, job: Job) -> None:
         """The same in a thread, which holds up no event loop."""
-        await Looping.apart(partial(self, job))
+        await Looping().apart(lambda: self(job))
 
 
 def read_letters(path: str) -> list[bytes]:

@@ -124,9 +124,9 @@ class Testing:
             task = self._app._claim(Job(0, 0, 1, payload))
             if task is not None and self._app._tasks[task.name].is_async:
                 with ThreadPoolExecutor(1) as thread:  # the caller's may have an event loop
-                    thread.submit(lambda it: asyncio.run(self._app._attempt(Looping, it)), task).result()
+                    thread.submit(lambda it: asyncio.run(self._app._attempt(Looping(), it)), task).result()
             elif task is not None:
-                run(self._app._attempt(Blocking, task))
+                run(self._app._attempt(Blocking(), task))
         self._now = until
 
     def _keep(self, payload: str, delay: float) -> None:

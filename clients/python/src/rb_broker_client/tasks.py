@@ -175,9 +175,9 @@ class Tasks:
 
     def _run(self, threads: int, owner: str) -> Report:
         worker: Worker | AsyncWorker = (
-            AsyncWorker(partial(self._handle, Looping), concurrency=threads, **self._place)
+            AsyncWorker(partial(self._handle, Looping()), concurrency=threads, **self._place)
             if any(it.is_async for it in self._tasks.values())
-            else Worker(blocking(partial(self._handle, Blocking)), concurrency=threads, **self._place))
+            else Worker(blocking(partial(self._handle, Blocking())), concurrency=threads, **self._place))
         worker._run_known.on_greeting = self._greeted
         self._owner, self._worker = owner, worker
         keepers = [threading.Thread(target=it, name="rb_broker_client-keeps", daemon=True)

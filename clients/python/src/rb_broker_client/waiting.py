@@ -48,55 +48,48 @@ def blocking(coroutine: Callable[Words, Coroutine[Any, Any, Result]]) -> Callabl
 class Blocking:
     """How a client waits that blocks its thread. A bell is acquired once it has been released."""
 
-    is_async, lock, bell = False, threading.Lock, partial(threading.Semaphore, 0)
+    is_async, lock, bell = False, threading.Lock, staticmethod(partial(threading.Semaphore, 0))
 
-    @staticmethod
-    async def apart(function: Callable[[], Result]) -> Result:
+    async def apart(self, function: Callable[[], Result]) -> Result:
         return function()
 
-    @staticmethod
-    async def ready(of: socket.socket, events: int, seconds: float | None) -> bool:
+    async def ready(self, of: socket.socket, is_to_send: bool, seconds: float | None) -> bool:
         selector = _Selector()
-        selector.register(of, events)
+        selector.register(of, selectors.EVENT_READ | selectors.EVENT_WRITE if is_to_send else selectors.EVENT_READ)
         return bool(selector.select(seconds))
 
-    @staticmethod
-    async def acquire(lock: Any, seconds: float) -> bool:
+    async def acquire(self, lock: Any, seconds: float) -> bool:
         return bool(lock.acquire(timeout=seconds))
 
-    @staticmethod
-    async def sleep(seconds: float) -> None:
+    async def sleep(self, seconds: float) -> None:
         time.sleep(seconds)
 
 
 class Looping:
     """How a client of asyncio waits."""
 
-    is_async, lock, bell = True, asyncio.Lock, partial(asyncio.Semaphore, 0)
+    is_async, lock, bell = True, asyncio.Lock, staticmethod(partial(asyncio.Semaphore, 0))
     sleep = staticmethod(asyncio.sleep)
 
-    @staticmethod
-    async def apart(function: Callable[[], Result]) -> Result:
+    async def apart(self, function: Callable[[], Result]) -> Result:
         thread = ThreadPoolExecutor(1)  # those of the loop's executor may be busy
         try:
             return await asyncio.get_running_loop().run_in_executor(thread, function)
         finally:
             thread.shutdown(wait=False)
 
-    @staticmethod
-    async def ready(of: socket.socket, events: int, seconds: float | None) -> bool:
-        loop, bell = asyncio.get_running_loop(), Looping.bell()
+    async def ready(self, of: socket.socket, is_to_send: bool, seconds: float | None) -> bool:
+        loop, bell = asyncio.get_running_loop(), self.bell()
         loop.add_reader(of, bell.release)  # which is always waited for
-        if events & selectors.EVENT_WRITE:
+        if is_to_send:
             loop.add_writer(of, bell.release)
         try:
-            return await Looping.acquire(bell, seconds)
+            return await self.acquire(bell, seconds)
         finally:
             loop.remove_reader(of)
             loop.remove_writer(of)
 
-    @staticmethod
-    async def acquire(lock: Any, seconds: float | None) -> bool:
+    async def acquire(self, lock: Any, seconds: float | None) -> bool:
         try:
             async with asyncio.timeout(seconds):
                 return bool(await lock.acquire())
@@ -104,7 +97,7 @@ class Looping:
             return False
 
 
-Kind = type[Blocking] | type[Looping]
+Kind = Blocking | Looping
 
 
 class ThreadTurns:

@@ -280,7 +280,7 @@ class TasksTest(ScriptedTest):
             while not self.app._is_over.wait(0.01):
                 for it in self.app._store.overdue(60):
                     task = self.app._store.claim(it.id, it.turn, owner)
-                    waiting.run(self.app._attempt(waiting.Blocking, task))
+                    waiting.run(self.app._attempt(waiting.Blocking(), task))
 
         with ThreadPoolExecutor(threads) as pool:
             for _ in range(threads):
@@ -322,7 +322,7 @@ class TasksTest(ScriptedTest):
         store, id = self.app._store, self.note.later(0, 17)
         with unittest.mock.patch.object(store, "done", side_effect=sqlite3.OperationalError("database is locked")):
             self.assertRaises(sqlite3.OperationalError, waiting.run,
-                              self.app._attempt(waiting.Blocking, store.claim(id, 1, "one")))
+                              self.app._attempt(waiting.Blocking(), store.claim(id, 1, "one")))
         now = time.time()
         store.now = lambda: now + 60
         self.app._owner = "one"
