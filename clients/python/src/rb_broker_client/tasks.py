@@ -83,9 +83,8 @@ class Task:
         return self.function(*words, **options)
 
     def later(self, delay: Duration | str, *words: Any, key: str | None = None, **options: Any) -> str | None:
-        """Has the function called with these arguments after this delay, such as `"2h"`. It is in the file when this
-        returns. Gives the task's id, or None if there is one of this key that waits or runs. Raises `TypeError` for
-        arguments that the function does not take, or that JSON can't hold."""
+        """Calls the function after this delay, such as `"2h"`. The task is in the file when this returns. Gives its id,
+        or None if one of its key waits or runs. Raises `TypeError` for arguments that it, or JSON, can't take."""
         self._signature.bind(*words, **options)
         arguments, due = json.dumps([words, options]), self._app._store.now() + from_text(delay)
         task = self._app._store.add(self.name, arguments, key, due)
@@ -154,9 +153,15 @@ class Tasks:
             self._offer(it)
         return len(revived)
 
-    def testing(self) -> Testing:
+    @contextmanager
+    def testing(self) -> Iterator[Testing]:
         """Has tasks run in this process alone, for a test: `with app.testing() as moments: ..`."""
-        return Testing(self)
+        moments, kept = Testing(self), (self._store, self._send)
+        self._store, self._send = Store(":memory:", lambda: moments.now), moments.offer
+        try:
+            yield moments
+        finally:
+            self._store, self._send = kept
 
     def run(self, threads: int = 4, processes: int = 0) -> Report:
         """Runs tasks until `stop`, so many at the same time, in threads, or in an event loop if there are coroutine
@@ -257,15 +262,12 @@ class Tasks:
         if file != self._store.file or not turn.isdecimal():
             raise LookupError(f"{job.payload} is no task of this file, and is left for another worker")
         task = self._store.claim(id, int(turn), self._owner)
-        if task is None:
-            return None  # it was done, or is cancelled, or was offered more than once
-        if task.state == "running":  # elsewhere: if that was killed nobody else would come back to it so soon
-            self._send(job.payload, STALE)
-            return None
-        if task.name in self._tasks:
-            return task
-        log.warning("task %s is left for another worker: no function here is named %s", task.id, task.name)
-        self._store.release(task)
+        if task is None or task.state == "claimed" and task.name in self._tasks:
+            return task  # None if it was done, or is cancelled, or was offered more than once
+        if task.state == "claimed":
+            log.warning("task %s is left for another worker: no function here is named %s", task.id, task.name)
+            self._store.release(task)
+        # Or else it runs elsewhere: if that was killed nobody else would come back to it so soon.
         self._store.sent(task, self._send(job.payload, STALE))
         return None
 
