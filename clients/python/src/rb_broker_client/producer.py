@@ -26,8 +26,6 @@ LEAST = 1e-3  # seconds of a try whose time is over
 
 
 class BaseProducer:
-    """What `Producer` and `AsyncProducer` have in common."""
-
     _session_of: ClassVar[type[Session]]
 
     def __init__(self, port: int | str, host: str = LOOPBACK, *, may_double: bool = False, patience: Duration = 30.0,
@@ -38,7 +36,8 @@ class BaseProducer:
         is called, in a thread of its own, when the server has lost a run. `tls` and `record` are a `Broker`'s."""
         self._servers = Servers(port, host, tls=tls, record=record)
         self._may_double, self._patience, self._is_direct = may_double, seconds(patience), tls is None
-        self._pauses = pauses or Pauses(longest=2.0)
+        self._pauses = copy.copy(pauses or Pauses(longest=2.0))  # of which each offer has a copy of its own
+        self._pauses.reset()
         self._run, self._kind = Run(log, self._servers.current.name, on_lost_run), self._session_of._kind
         self._is_closed = False
         self._turn: Any = self._kind.lock()
@@ -49,7 +48,6 @@ class BaseProducer:
         """Offers a job that expires this delay after the server has accepted it."""
         request, delay_ns = Request.offer(payload, delay=delay), nanoseconds(delay)
         deadline, doubt, pauses = time.monotonic() + self._patience, None, copy.copy(self._pauses)
-        pauses.reset()  # of other offers, which may be tried at the same time
         while True:
             try:
                 return await self._try(request, deadline,
@@ -90,7 +88,6 @@ class BaseProducer:
     async def _is_continued(self, ended: Greeting | None, request: Request[Offered], deadline: float) -> bool:
         # A run that ends in good order answers what it carries out. Behind TLS a proxy may have taken a reply with it.
         pauses = copy.copy(self._pauses)
-        pauses.reset()
         while ended is not None and self._is_direct:
             try:
                 pipeline = await self._served(request, deadline)

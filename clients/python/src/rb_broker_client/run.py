@@ -16,9 +16,8 @@ _ALL = LostRun(0, GREATEST_NUMBER)
 
 
 class Run:
-    """The run of a server. It logs when the server has lost it, and calls `on_lost_run`. A server that greets says so.
-    Another one begins again then from where it had begun: its ids are given again, and its clock goes back. It also
-    logs when the server is away, and when it serves again, each once."""
+    """The run of a server. It is logged, and `on_lost_run` is called, when the server has lost it. One that greets says
+    so; another one then gives ids again, or its clock goes back. That it is away, or serves again, is logged once."""
 
     def __init__(self, log: logging.Logger, place: str, on_lost_run: Callable[[LostRun], object] | None = None) -> None:
         """`place` is what the log calls the server."""
@@ -86,12 +85,11 @@ class Run:
         self._tell(self._on_lost_run, lost)
 
     def _tell(self, function: Callable[[Any], object] | None, told: object) -> None:
-        # In a thread of its own, so that it holds up no loop and no offer.
-        def tell(function: Callable[[Any], object]) -> None:
-            try:
-                function(told)
-            except Exception:
-                self._log.exception("%r failed, which was told of a run", function)
+        if function is not None:  # in a thread of its own, so that it holds up no loop and no offer
+            Thread(target=self._call, args=[function, told], name="rb_broker_client-tells", daemon=True).start()
 
-        if function is not None:
-            Thread(target=tell, args=[function], name="rb_broker_client-tells", daemon=True).start()
+    def _call(self, function: Callable[[Any], object], told: object) -> None:
+        try:
+            function(told)
+        except Exception:
+            self._log.exception("%r failed, which was told of a run", function)

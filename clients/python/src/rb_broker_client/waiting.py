@@ -23,8 +23,6 @@ Words = ParamSpec("Words")
 Task = Coroutine[Any, Any, object]
 Turn = Callable[[], float | None]
 
-_Selector: Any = getattr(selectors, "PollSelector", selectors.SelectSelector)  # no descriptor more
-
 
 def run(coroutine: Coroutine[Any, Any, Result]) -> Result:
     """Runs a coroutine that never suspends."""
@@ -54,7 +52,7 @@ class Blocking:
         return function()
 
     async def ready(self, of: socket.socket, is_to_send: bool, seconds: float | None) -> bool:
-        selector = _Selector()
+        selector: Any = getattr(selectors, "PollSelector", selectors.SelectSelector)()  # no descriptor more
         selector.register(of, selectors.EVENT_READ | selectors.EVENT_WRITE if is_to_send else selectors.EVENT_READ)
         return bool(selector.select(seconds))
 

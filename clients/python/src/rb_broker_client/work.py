@@ -28,8 +28,7 @@ class Work:
 
     def __init__(self, session: Session, servers: Servers, wait: float, report: Report, pauses: Pauses, run: Run,
                  bury: Callable[[Job], object], attempts: float = math.inf) -> None:
-        """A wait for a job lasts so many seconds while none runs. `bury` is called with each job that failed in its
-        last attempt, and each has so many."""
+        """`wait` is in seconds, while no job runs. `bury` is called with each job that failed in its last attempt."""
         self._servers, self._bury, self._attempts, self._is_lost = servers, bury, attempts, False
         self._wait, self._report, self._pauses, self._run = wait, report, pauses, run
         self.session, self.place = session, run.place  # the place is that of the server that serves it
@@ -105,8 +104,7 @@ class Work:
         refused, self._refused = self._refused, []
         for job in refused:
             if is_stopping:  # the end of the session fails it
-                self._report.unheard += 1
-                del self.held[job.id]
+                self.ended(job, None)
                 self._fail_unheard([job])
             else:
                 self.ended(job, False)
@@ -200,18 +198,16 @@ class Work:
             self._refused.append(job)
             self._next_try = monotonic() + self._pauses.next()
             return
-        if not isinstance(answer, FullError):
-            demand(answer)
-        del self.held[job.id]
-        if isinstance(answer, Again):
-            self._run.came_back(answer.id)
-            self._report.again += 1
-        elif isinstance(answer, FullError):
+        if isinstance(answer, FullError):
             self._report.lost += 1
             self.is_used_up = True
             log.error("job %s is lost: it failed in a full run", job.payload)
             self._bury(job)
+        elif isinstance(demand(answer), Again):
+            self._run.came_back(answer.id)
+            self._report.again += 1
         else:
             self._report.dead += 1
             log.error("job %s failed in its last attempt, %d", job.payload, job.attempt)
             self._bury(job)
+        del self.held[job.id]

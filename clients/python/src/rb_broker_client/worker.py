@@ -40,10 +40,9 @@ class _Call:
     function: Function
     job: Job
     work: Work | None
-    began: float
+    long: float  # when it is to be logged that it takes long
     late: float  # when it takes longer than a handler may
     is_told: bool = False  # whether it has ended as far as the server is told
-    is_logged: bool = False  # whether it was logged that it takes long
     cancel: Callable[[], object] | None = None
 
 
@@ -54,8 +53,6 @@ def check_has_run(given: object) -> None:
 
 
 class BaseWorker(Generic[Handler, OnDead]):
-    """What `Worker` and `AsyncWorker` have in common."""
-
     _session_of: ClassVar[type[Session]]
     _turns_of: ClassVar[Any]
 
@@ -64,11 +61,10 @@ class BaseWorker(Generic[Handler, OnDead]):
                  on_dead: OnDead | None = None, attempts: int | None = None,
                  on_lost_run: Callable[[LostRun], object] | None = None, tls: ssl.SSLContext | None = None,
                  pauses: Pauses | None = None, record: TextIO | None = None) -> None:
-        """Connects to nothing yet. `wait` is how long the worker waits for a job at a time, and so how long a stop
-        takes at most while it is idle. It makes a call each time. While jobs run a wait is a fifth of that, since a
-        server reads nothing behind a wait: the end of a job is told so much later at most. A reply that is `patience`
-        late is taken for a lost session. A job whose handler takes longer than `timeout` fails; its place is free once
-        the handler returns.
+        """Connects to nothing yet. `wait` is how long the worker waits for a job at a time, which is a call, and so how
+        long a stop takes while it is idle. While jobs run a wait is a fifth of that, since a server reads nothing
+        behind a wait: it hears so much later that a job ended. A reply that is `patience` late is taken for a lost
+        session. A job whose handler takes longer than `timeout` fails; its place is free once the handler returns.
 
         `port` may be `"gateway-1:7011,gateway-2:7011"`, gateways of one queue, whose `--wait` is no shorter. When one
         ends or gives a wait up, the worker fetches at the next one at once, and pauses only after a round in which none
@@ -135,8 +131,8 @@ class BaseWorker(Generic[Handler, OnDead]):
         # In a thread of its own: there is no turn while a handler hangs in the thread of `run`, or holds up the loop.
         while not is_over.wait(LONG / 4):
             for it in [*self._calls]:
-                if not it.is_logged and it.began + LONG <= time.monotonic():
-                    it.is_logged = True
+                if it.long <= time.monotonic():
+                    it.long = math.inf
                     log.warning("%s of job %s, attempt %d, has been running for %g seconds",
                                 "the handler" if it.work else "on_dead", it.job.payload, it.job.attempt, LONG)
 
@@ -220,9 +216,7 @@ class BaseWorker(Generic[Handler, OnDead]):
 
     def _attend(self, work: Work) -> None:
         running = len(self._calls)
-        free = self._concurrency - running
-        for it in self._visits:
-            free -= it.fetching
+        free = self._concurrency - running - sum(it.fetching for it in self._visits)
         questions = work.ask(free, running, self._is_stopping)
         if questions or work.session.unsent:
             work.session.post(*questions)
@@ -242,7 +236,7 @@ class BaseWorker(Generic[Handler, OnDead]):
 
     def _start(self, function: Function, job: Job, work: Work | None) -> None:
         now = time.monotonic()
-        call = _Call(function, job, work, now, now + self._timeout if work else math.inf)
+        call = _Call(function, job, work, now + LONG, now + self._timeout if work else math.inf)
         self._calls.add(call)
         call.cancel = self._turns.start(self._run(call), len(self._calls) - 1)
 
