@@ -38,8 +38,7 @@ class Greeting:
 
 @dataclass(frozen=True)
 class LostRun:
-    """What a server has lost: what it accepted from a moment of its clock on, until its present run began, is in doubt.
-    The moment of an offer is its expiry less its delay."""
+    """What a server accepted in this time of its clock is in doubt. An offer's moment is its expiry less its delay."""
 
     since_ns: int
     until_ns: int
@@ -99,16 +98,14 @@ class Dead:
     id: int
 
 
-Verdict = Again | Dead
-"""What became of a job that failed."""
+Verdict = Again | Dead  # what became of a job that failed
 
 
 @dataclass
 class Report:
     """What became of the jobs that a worker took. `done`: the handler returned, and the server was told. `again`: it
     raised an exception, and the job was offered again. `dead`: it did in the last attempt. `lost`: it did in a full
-    run, which takes no job back. `unheard`: what the server made of it is not known; unless it was told in time that
-    the job is done, it comes back."""
+    run, which takes no job back. `unheard`: there was no answer. A job comes back unless the server read it is done."""
 
     done: int = 0
     again: int = 0

@@ -18,9 +18,7 @@ from typing import Any, ClassVar, Concatenate, Generic, Self, TextIO
 
 from rb_broker_formats.protocol import LONGEST_REPLY
 
-from .answers import (
-    AsyncHeldJob, BrokerError, DisconnectedError, EndedError, Greeting, HeldJob, Job, UnknownReplyError,
-)
+from .answers import AsyncHeldJob, BrokerError, DisconnectedError, EndedError, Greeting, HeldJob, Job, UnknownReplyError
 from .durations import Duration, seconds
 from .request import Answer, Request, demand
 from .servers import LOOPBACK, Address, Servers
@@ -58,8 +56,7 @@ class Session:
         self._is_asking = False  # whether a thread or task waits for answers
         self._is_unclear = False  # which line answers which request, after an unknown reply
         self._has_begun = False  # whether a line has come
-        self.greeting: Greeting | None = None
-        """What the server said first, if it is one that greets."""
+        self.greeting: Greeting | None = None  # what the server said first, if it is one that greets
         self.answers: deque[Any] = deque()  # those that nobody has taken, each refusal in its place
         self.at_end = ExitStack()
         if not self._kind.is_async:
@@ -75,8 +72,7 @@ class Session:
         return self._socket.fileno()
 
     def is_lost(self) -> bool:
-        """Whether the server has ended the session, as far as that is known: it may have ended it all the same. This
-        looks at what has come, and takes nothing of it."""
+        """Whether the session is known to have ended. This looks at what has come, and takes nothing of it."""
         try:
             return self._fault is not None or not socket.socket.recv(self._socket, 1, socket.MSG_PEEK)
         except _NOT_NOW:
@@ -165,8 +161,7 @@ class Session:
         return demand(answer)
 
     async def _ask_all(self, requests: Iterable[Request[Any]]) -> list[Any]:
-        """Sends any number of requests in one piece, and gives the answer to each. For a request that was refused, or
-        whose wait was given up, the answer is that exception."""
+        """Sends any number of requests in one piece, and gives their answers: a refusal is one, and is not raised."""
         self._demand()
         if self._is_asking:
             raise RuntimeError("another thread or task waits for a reply in this session, which is for one at a time")
@@ -251,8 +246,10 @@ class Session:
         return await self._kind.ready(self._socket, bool(self.unsent), left)
 
 
-def _asks(make: Callable[Words, Request[Answer]]) -> Callable[
-        Concatenate[Session, Words], Coroutine[Any, Any, Answer]]:
+_Method = Callable[Concatenate[Session, Words], Coroutine[Any, Any, Answer]]
+
+
+def _asks(make: Callable[Words, Request[Answer]]) -> _Method[Words, Answer]:
     # The method that asks what this one makes.
     @wraps(make)
     async def ask(session: Session, /, *words: Words.args, **options: Words.kwargs) -> Answer:
@@ -264,8 +261,7 @@ def _asks(make: Callable[Words, Request[Answer]]) -> Callable[
 class _Gives(Generic[Answer]):
     """What a method gives whose request gives jobs: those of its broker."""
 
-    def by(self, make: Callable[Words, Request[Any]]) -> Callable[Concatenate[Session, Words],
-                                                                  Coroutine[Any, Any, Answer]]:
+    def by(self, make: Callable[Words, Request[Any]]) -> _Method[Words, Answer]:
         return _asks(make)
 
 

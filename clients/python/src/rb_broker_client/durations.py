@@ -7,8 +7,7 @@ from fractions import Fraction
 from rb_broker_formats.durations import SECOND, nanoseconds_in
 from rb_broker_formats.protocol import GREATEST_NUMBER
 
-Duration = int | float | timedelta
-"""Seconds as a number, or a `timedelta`."""
+Duration = int | float | timedelta  # seconds as a number, or a `timedelta`
 
 FOR_EVER = 1e6  # seconds of a wait that only what happens ends
 

@@ -19,8 +19,7 @@ class Address(NamedTuple):
 
 
 def read_addresses(text: str) -> list[Address]:
-    """Those of `HOST:PORT,HOST:PORT`. Raises `ValueError`, with the part that is wrong. So is one that stands twice,
-    which is rather meant to be another than to be tried twice."""
+    """Those of `HOST:PORT,HOST:PORT`. Raises `ValueError` with a part that is wrong, as is one that stands twice."""
     addresses: list[Address] = []
     for part in text.split(","):
         found = _ADDRESS.fullmatch(part)
@@ -34,12 +33,10 @@ def read_addresses(text: str) -> list[Address]:
 
 
 class Servers:
-    """The addresses of a client, of which one is used at a time: that which served last, until it serves no more. Then
-    it is the next one's turn, and after the last one the first's."""
+    """The addresses of a client. One is used until it serves no more, then the next, and after the last the first."""
 
     def __init__(self, port: int | str, host: str = LOOPBACK, **options: Any) -> None:
-        """`port` may be the text of one address or several. Each session has these options. Raises `ValueError`, or
-        `TypeError` for what is neither such a text nor a whole number."""
+        """`port` may be a text of addresses. Raises `ValueError`, or `TypeError` if it is neither one nor a number."""
         if isinstance(port, str) and re.search("[:,]", port):
             self._all = read_addresses(port)
             if host != LOOPBACK:
