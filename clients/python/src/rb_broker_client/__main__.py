@@ -61,8 +61,13 @@ def main(words: list[str] | None = None) -> int:
     return status
 
 
-def _add_words_of_each(add: Callable[..., Any], is_port_needed: bool) -> None:
-    add("--port", type=_port, required=is_port_needed, metavar="P",
+def _command(commands: Any, name: str, help: str, run: Callable[..., Any], example: str = "") -> Callable[..., Any]:
+    """Adds a command, with the words that each has. Gives what adds others to it."""
+    added = commands.add_parser(name, help=help, description=help, allow_abbrev=False, formatter_class=FORM)
+    added.epilog = f"example: {added.prog} {example}--port 7011"
+    added.set_defaults(run=run)
+    add: Callable[..., Any] = added.add_argument
+    add("--port", type=_port, required=name != "dead", metavar="P",
         help="the server's port, or HOST:PORT,HOST:PORT,.. of gateways of one queue, of which one is used at a time")
     add("--host", default=LOOPBACK, metavar="H", help=f"where it is (default: {LOOPBACK})")
     add("--patience", type=_seconds, default=5.0, metavar="SECONDS",
@@ -72,6 +77,7 @@ def _add_words_of_each(add: Callable[..., Any], is_port_needed: bool) -> None:
     add("--ca", metavar="FILE", help="the certificates whose owners are trusted (default: those of the system)")
     add("--cert", metavar="FILE", help="the certificate that is shown to the server")
     add("--key", metavar="FILE", help="its key, if it is not in the same file")
+    return add
 
 
 def _parser() -> argparse.ArgumentParser:
@@ -81,14 +87,7 @@ def _parser() -> argparse.ArgumentParser:
                                      formatter_class=FORM)
     parser.add_argument("--version", action="version", version=f"{NAME} {__version__}")
     commands = parser.add_subparsers(metavar="COMMAND", required=True)
-
-    def command(name: str, help: str, run: Callable[..., Iterator[str]], example: str = "") -> Callable[..., Any]:
-        added = commands.add_parser(name, help=help, description=help, allow_abbrev=False, formatter_class=FORM,
-                                    epilog=f"example: {command_name} {name} {example}--port 7011")
-        added.set_defaults(run=run)
-        _add_words_of_each(added.add_argument, name != "dead")
-        return added.add_argument
-
+    command = partial(_command, commands)
     add = command("worker", "calls a function with each job", _work, "letters:deliver --concurrency 8 ")
     add("handler", type=_function, metavar="MODULE:FUNCTION", help="what is called with each job")
     add("--concurrency", type=_whole(1, MOST_HELD), default=1, metavar="N",
@@ -125,7 +124,6 @@ def _parser() -> argparse.ArgumentParser:
 
 
 def _client(kind: Callable[..., Any], asked: Asked, *words: Any, **options: Any) -> Any:
-    """A client of this kind, as the words of each command say."""
     tls = None
     if asked.tls or asked.ca or asked.cert or asked.key:
         try:
