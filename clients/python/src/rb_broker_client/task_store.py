@@ -8,8 +8,7 @@ import time
 import uuid
 from collections.abc import Callable, Iterator
 from contextlib import contextmanager
-from dataclasses import dataclass, replace
-from typing import Any
+from typing import Any, NamedTuple
 
 from .answers import Greeting
 
@@ -34,7 +33,24 @@ _TABLES = """
     CREATE INDEX IF NOT EXISTS waits ON tasks (state, due);
     CREATE TABLE IF NOT EXISTS file (id TEXT NOT NULL, run INTEGER NOT NULL DEFAULT 0, lost INTEGER NOT NULL DEFAULT 0);
 """
-_COLUMNS = "id, name, arguments, key, due, turn, failures, error, state"
+
+
+class StoredTask(NamedTuple):
+    """A task in the file. Its `state` is `new` until it is known to be offered, and then `waiting`, `running` or
+    `dead`. Each failure begins the next `turn`. Moments are seconds since 1970."""
+
+    id: str
+    name: str
+    arguments: str
+    key: str | None
+    due: float
+    turn: int
+    failures: int
+    error: str
+    state: str
+
+
+_COLUMNS = ", ".join(StoredTask._fields)
 _OVERDUE = f"""
     UPDATE tasks SET touched = :now, state = 'new', offers = offers + (state = 'waiting') WHERE id IN (
         SELECT id FROM tasks WHERE state = 'new' AND touched < :now - :unsent
@@ -54,22 +70,6 @@ def going_on() -> Iterator[None]:
         yield
     except sqlite3.Error:
         log.exception("the file of tasks can't be used now")
-
-
-@dataclass(frozen=True)
-class StoredTask:
-    """A task in the file. Its `state` is `new` until it is known to be offered, and then `waiting`, `running` or
-    `dead`. Each failure begins the next `turn`. Moments are seconds since 1970."""
-
-    id: str
-    name: str
-    arguments: str
-    key: str | None
-    due: float
-    turn: int
-    failures: int
-    error: str
-    state: str
 
 
 class Store:
@@ -122,21 +122,19 @@ class Store:
             UPDATE tasks SET state = 'running', offers = 0, owner = :owner, touched = :now, began = :now
             WHERE id = :id AND turn = :turn AND (state IN ('new', 'waiting')
             OR state = 'running' AND touched <= :now - :stale) RETURNING {_COLUMNS}""", False, **words)
-        return replace(task, state="claimed") if task else self._one(
+        return task._replace(state="claimed") if task else self._one(
             f"SELECT {_COLUMNS} FROM tasks WHERE id = :id AND turn = :turn AND state = 'running'", False, **words)
 
     def done(self, task: StoredTask) -> None:
-        """The task was done, and is forgotten."""
-        self._do("DELETE FROM tasks WHERE id = :id AND turn = :turn", **vars(task))
+        self._do("DELETE FROM tasks WHERE id = :id AND turn = :turn", **task._asdict())
 
     def retry(self, task: StoredTask, due: float, error: str) -> StoredTask:
         """The task failed, and is due again at this moment."""
         self._change(task, "state = 'new', turn = turn + 1, failures = failures + 1, due = :due, error = :error",
                      due=due, error=error)
-        return replace(task, turn=task.turn + 1, due=due)
+        return task._replace(turn=task.turn + 1, due=due)
 
     def bury(self, task: StoredTask, error: str) -> None:
-        """The task failed for the last time."""
         self._change(task, "state = 'dead', failures = failures + 1, error = :error", error=error)
 
     def release(self, task: StoredTask) -> None:
@@ -144,13 +142,11 @@ class Store:
         self._change(task, "state = 'new'", is_synced=False)
 
     def cancel(self, key: str) -> bool:
-        """Takes out the task of this key, if it waits. Gives whether it did."""
         return bool(self._do("DELETE FROM tasks WHERE key = :key AND state IN ('new', 'waiting') RETURNING 1", key=key))
 
     def dead(self) -> list[StoredTask]:
-        """The tasks that failed for the last time, in the order in which they did."""
         rows = self._do(f"SELECT {_COLUMNS} FROM tasks WHERE state = 'dead' ORDER BY touched, id")
-        return [StoredTask(*it) for it in rows]
+        return [*map(StoredTask._make, rows)]
 
     def revive(self, id: str) -> StoredTask | None:
         """A dead task is due now, as if it had never failed. None if it is not dead, or another has its key."""
@@ -166,22 +162,22 @@ class Store:
         """The tasks that this owner runs, each with the moment at which it began."""
         rows = self._do(f"SELECT began, {_COLUMNS} FROM tasks WHERE state = 'running' AND owner = :owner",
                         is_synced=False, owner=owner)
-        return [(began, StoredTask(*it)) for began, *it in rows]
+        return [(began, StoredTask._make(it)) for began, *it in rows]
 
     def overdue(self, overdue: float) -> list[StoredTask]:
         """The tasks that are to be offered again: those that were not offered, those whose owner is dead, and those
         that are so many seconds overdue, or twice as many, and so on, after each time."""
         rows = self._do(_OVERDUE, is_synced=False, overdue=overdue, unsent=UNSENT, stale=STALE, most=AT_ONCE)
-        return [StoredTask(*it) for it in rows]
+        return [*map(StoredTask._make, rows)]
 
     def _change(self, task: StoredTask, change: str, is_synced: bool = True, **words: Any) -> None:
         # Of one that is run.
         self._do(f"UPDATE tasks SET {change}, touched = :now WHERE id = :id AND turn = :turn AND state = 'running'",
-                 is_synced, **{**vars(task), **words})
+                 is_synced, **{**task._asdict(), **words})
 
     def _one(self, statement: str, is_synced: bool = True, **words: Any) -> StoredTask | None:
         rows = self._do(statement, is_synced, **words)
-        return StoredTask(*rows[0]) if rows else None
+        return StoredTask._make(rows[0]) if rows else None
 
     def _do(self, statement: str, is_synced: bool = True, **words: Any) -> list[Any]:
         with self._transaction(is_synced) as db:
