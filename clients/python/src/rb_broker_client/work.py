@@ -70,8 +70,7 @@ class Work:
         self._asked.popleft()(answer)
 
     def ended(self, job: Job, is_done: bool | None) -> None:
-        """The handler of a job has ended or took too long, or, if this is None, broke off, and the end of the session
-        fails the job. If the session was lost meanwhile nothing more is asked."""
+        """A handler has ended or took too long, or broke off if this is None: then the session's end fails the job."""
         if is_done is None:
             self._report.unheard += self.held.pop(job.id, None) is not None
         elif is_done:
@@ -118,13 +117,12 @@ class Work:
         # Where it did not, one job is waited for; and where a wait has found one, others may be due, which come first.
         # A gateway that is to end gives a wait up, but by a drain the session ends, and its jobs with it. So where
         # another gateway can go on, nothing else than a wait is asked beside jobs.
-        if len(self._servers) > 1 and (self.held or self.fetching):
-            return [] if self.fetching else [self._await_job(running > 0)]
-        if self._more_are_due and (free > 1 or running or self.fetching):
+        is_one_by_one = len(self._servers) > 1 and (self.held or self.fetching)
+        if self._more_are_due and not is_one_by_one and (free > 1 or running or self.fetching):
             return [self._drain(free)]
         if self.fetching:
             return []
-        if not self._found_one or free == 1:
+        if is_one_by_one or not self._found_one or free == 1:
             return [self._await_job(running > 0)]
         return [self._drain(free - 1), self._await_job(True)] if running else [self._drain(free)]
 
@@ -139,13 +137,13 @@ class Work:
 
     def _waited(self, asked: float, answer: Any) -> None:
         self._is_waiting, self._found_one = False, isinstance(answer, Job)
-        self._fetched([] if answer is None else [answer], 1, asked, answer)
+        self._fetched(1, asked, [answer] if self._found_one else answer or [])
 
     def _drained(self, most: int, asked: float, answer: Any) -> None:
         self._found_one, self._more_are_due = False, isinstance(answer, list) and len(answer) == most
-        self._fetched(answer, most, asked, answer)
+        self._fetched(most, asked, answer)
 
-    def _fetched(self, jobs: list[Job], most: int, asked: float, answer: Any) -> None:
+    def _fetched(self, most: int, asked: float, answer: list[Job] | BrokerError) -> None:
         self.fetching -= most
         if isinstance(answer, BrokerError):
             self._not_fetched(answer, asked)
@@ -153,10 +151,10 @@ class Work:
         self._pauses.reset()
         if not self.is_used_up:
             self._servers.served()
-        for job in jobs:
+        for job in answer:
             self._run.given(job.id)
             self.held[job.id] = job
-        self.given += jobs
+        self.given += answer
 
     def _not_fetched(self, refused: BrokerError, asked: float) -> None:
         is_stopped = isinstance(refused, StoppedError)

@@ -161,7 +161,7 @@ class BaseWorker(Generic[Handler, OnDead]):
                     log.warning(text, work.place, fault)
             elif work.session.greeting is None or work.held or not isinstance(fault, ConnectionError):
                 self._run_known.away(text, fault)
-            self._end(work, is_lost=True)
+            self._end(work)
 
     async def _connect(self) -> None:
         try:
@@ -181,7 +181,7 @@ class BaseWorker(Generic[Handler, OnDead]):
         self._turns.ended()
 
     def _move_on(self) -> None:
-        # Another session is to fetch.
+        # Another session is to fetch, unless the worker stops.
         self._visit = None
         pause = self._pauses.next() if self._servers.move_on() else 0
         self._next_visit = max(self._next_visit, time.monotonic() + pause)
@@ -221,18 +221,16 @@ class BaseWorker(Generic[Handler, OnDead]):
         if questions or work.session.unsent:
             work.session.post(*questions)
         if work.is_left or self._is_stopping and not work.is_served:
-            self._end(work, is_lost=work.is_used_up)
+            self._end(work)
         elif work.is_used_up and work is self._visit and len(self._servers) > 1:
             self._move_on()
 
-    def _end(self, work: Work, is_lost: bool = False) -> None:
+    def _end(self, work: Work) -> None:
         work.lost()
         work.session.close()
         self._visits = tuple(it for it in self._visits if it is not work)
-        if work is self._visit and is_lost:
+        if work is self._visit:
             self._move_on()
-        elif work is self._visit:
-            self._visit = None
 
     def _start(self, function: Function, job: Job, work: Work | None) -> None:
         now = time.monotonic()
@@ -292,11 +290,10 @@ class AsyncWorker(BaseWorker[Callable[[Job], Awaitable[object]], Function]):
 
 class Worker(BaseWorker[Callable[[Job], None], Callable[[Job], None]]):
     """Takes jobs and runs the handler on each, up to `concurrency` of them at the same time. A job is done when the
-    handler returns, and fails when it raises an `Exception`.
+    handler returns, and fails when it raises an `Exception`. One of which the server has not read so comes back.
 
-    With a `concurrency` of 1 and no `timeout` the handler runs in the thread of `run`, and else in up to 64 threads of
-    its own: it must bear to be called by several at a time. It has one session at a time, and begins the next after
-    pauses that grow while no server answers. A job of which the server has not read that it is done comes back."""
+    With a `concurrency` of 1 and no `timeout` the handler runs in the thread of `run`, and else in up to 64 threads, so
+    it must be safe to call several at a time. After a lost session the next begins, after pauses that grow."""
 
     _session_of, _turns_of = Broker, ThreadTurns
     run = blocking(BaseWorker._work)
