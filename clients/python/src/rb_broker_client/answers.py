@@ -7,7 +7,7 @@ is a `BrokerError`.
 import re
 from collections.abc import Callable, Coroutine
 from dataclasses import dataclass, field
-from typing import TYPE_CHECKING, Any, ClassVar, Self
+from typing import TYPE_CHECKING, Any, ClassVar
 
 from rb_broker_formats.protocol import GREETING, ErrorReply
 
@@ -67,11 +67,6 @@ class Job:
         if self._session is None or self._session.is_lost():
             raise NotHeldError(f"job {self.payload} is not held: no broker took it, or its session has ended")
         return self._session
-
-    def of(self, session: object) -> Self:
-        """This job, which the session was shown."""
-        object.__setattr__(self, "_session", session)  # past the lock of a frozen class
-        return self
 
 
 if TYPE_CHECKING:  # what `done` and `fail` give, by the kind of the broker that took the job

@@ -34,8 +34,6 @@ if hasattr(os, "register_at_fork"):
 
 
 class Session:
-    """What `Broker` and `AsyncBroker` have in common."""
-
     _kind: ClassVar[Kind]
     _socket: socket.socket  # once it is connected
 
@@ -185,9 +183,10 @@ class Session:
         return answers
 
     def _own(self, answer: Any) -> Any:
-        if isinstance(answer, list):
-            return [*map(self._own, answer)]
-        return answer.of(self) if isinstance(answer, Job) else answer
+        for it in answer if isinstance(answer, list) else [answer]:
+            if isinstance(it, Job):
+                vars(it)["_session"] = self  # past the lock of a frozen class
+        return answer
 
     async def _quit(self) -> None:
         """Ends the session, waits until the server has read so, and hangs up."""
