@@ -34,7 +34,6 @@ class DeadLetters:
 
 
 def read_letters(path: str) -> list[bytes]:
-    """The lines of a file of dead letters."""
     with _locked(path, "rb") as file:
         return file.read().splitlines()
 

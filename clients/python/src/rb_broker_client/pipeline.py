@@ -43,8 +43,7 @@ class Pipeline:
         self.session, self._kind = session, session._kind
         self._lock = threading.Lock()  # in which nobody waits
         self._calls: deque[_Call] = deque()  # whose replies have not come
-        self._is_read = self._is_ended = False
-        self.is_left = False  # whether it takes no request any more
+        self._is_read = self.is_left = False  # whether somebody reads, and whether it takes no request any more
         self.end = self._kind.bell()  # which can be acquired once it has hung up
 
     async def ask(self, request: Request[Answer], deadline: float, take: Callable[[Answer], object]) -> Answer | None:
@@ -117,11 +116,11 @@ class Pipeline:
 
     def _pass_on(self) -> None:
         # Somebody is to read for those that wait, or, if nobody does, the session is to end in which something is due.
-        if self._is_read or self._is_ended:
+        if self._is_read:
             return
         if not all(it.is_given_up for it in self._calls):
             any(it.wake() for it in self._calls if not it.is_given_up)
         elif self.is_left or self._calls:
-            self.is_left = self._is_ended = True
+            self.is_left = True
             self.session.close()
             self.end.release()

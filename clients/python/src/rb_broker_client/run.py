@@ -53,8 +53,7 @@ class Run:
         last_id, last_moment = self._offers.get(id % SHARDS, (-1, 0))
         if id <= last_id or moment < last_moment:
             self._show(f"gave id {id} to a new job")
-            last_moment = 0
-        self._offers[id % SHARDS] = id, max(moment, last_moment)
+        self._offers[id % SHARDS] = id, moment
 
     def given(self, id: int) -> None:
         """A job of this id was given, as each is once."""

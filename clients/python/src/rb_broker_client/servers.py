@@ -68,5 +68,4 @@ class Servers:
         return self._failed == 0
 
     def session(self, kind: Callable[..., Made], patience: float) -> Made:
-        """A session of this kind at the current one."""
         return kind(self.current.port, self.current.host, patience, **self._options)

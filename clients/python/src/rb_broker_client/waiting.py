@@ -71,10 +71,9 @@ class Looping:
 
     async def apart(self, function: Callable[[], Result]) -> Result:
         thread = ThreadPoolExecutor(1)  # those of the loop's executor may be busy
-        try:
-            return await asyncio.get_running_loop().run_in_executor(thread, function)
-        finally:
-            thread.shutdown(wait=False)
+        running = asyncio.get_running_loop().run_in_executor(thread, function)
+        thread.shutdown(wait=False)  # it ends once it has run this
+        return await running
 
     async def ready(self, of: socket.socket, is_to_send: bool, seconds: float | None) -> bool:
         loop, bell = asyncio.get_running_loop(), self.bell()
@@ -156,7 +155,6 @@ class ThreadTurns:
             run(task)
 
     def ended(self) -> None:
-        """A task ends now."""
         if self._is_apart:
             self.wake()
 
@@ -167,9 +165,8 @@ class ThreadTurns:
 
 
 class LoopTurns:
-    """Takes turns in callbacks of an event loop, and runs each task beside them. Its methods do what those of
-    `ThreadTurns` do. A turn that starts tasks is followed by another as soon as each has run up to where it waits: what
-    ends at once is told in one piece, and its place is free when more is fetched."""
+    """The same in callbacks of an event loop, beside which tasks run. A turn that starts some is followed by another as
+    soon as each has run up to where it waits: what ends at once is told in one piece, and its place is free again."""
 
     def __init__(self, is_apart: bool) -> None:
         self._tasks: set[Any] = set()
