@@ -48,7 +48,7 @@ class _Call:
 
 def check_has_run(given: object) -> None:
     """Raises `TypeError` if what a function gives is yet to be run."""
-    if inspect.isawaitable(given) or inspect.isgenerator(given) or inspect.isasyncgen(given):
+    if given is not None and (inspect.isawaitable(given) or inspect.isgenerator(given) or inspect.isasyncgen(given)):
         raise TypeError(f"nothing awaits or runs what the function gives: {given!r}")
 
 
@@ -188,7 +188,7 @@ class BaseWorker(Generic[Handler, OnDead]):
 
     def _pause(self) -> float:
         now = time.monotonic()
-        pause = min([FOR_EVER, *(it.late - now for it in self._calls)])
+        pause = FOR_EVER if self._timeout == math.inf else min([FOR_EVER, *(it.late - now for it in self._calls)])
         if self._next_visit > now or self._may_connect():
             pause = min(self._next_visit - now, pause)
         for work in self._visits:
