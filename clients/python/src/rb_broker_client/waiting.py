@@ -165,8 +165,8 @@ class ThreadTurns:
 
 
 class LoopTurns:
-    """The same in callbacks of an event loop, beside which tasks run. A turn that starts some is followed by another as
-    soon as each has run up to where it waits: what ends at once is told in one piece, and its place is free again."""
+    """As `ThreadTurns`, in callbacks of an event loop. A turn that starts tasks is followed by another as soon as each
+    has run up to where it waits: what ends at once is told in one piece, and its place is free again."""
 
     def __init__(self, is_apart: bool) -> None:
         self._tasks: set[Any] = set()

@@ -62,9 +62,9 @@ class BaseWorker(Generic[Handler, OnDead]):
                  on_lost_run: Callable[[LostRun], object] | None = None, tls: ssl.SSLContext | None = None,
                  pauses: Pauses | None = None, record: TextIO | None = None) -> None:
         """Connects to nothing yet. `wait` is how long the worker waits for a job at a time, which is a call, and so how
-        long a stop takes while it is idle. While jobs run a wait is a fifth of that, since a server reads nothing
-        behind a wait: it hears so much later that a job ended. A reply that is `patience` late is taken for a lost
-        session. A job whose handler takes longer than `timeout` fails; its place is free once the handler returns.
+        long a stop takes at most while it is idle. While jobs run a wait is a fifth of that, since a server reads
+        nothing behind a wait: the end of a job is told so much later at most. A reply that is `patience` late is taken
+        for a lost session. A job that takes longer than `timeout` fails; its place is free once the handler returns.
 
         `port` may be `"gateway-1:7011,gateway-2:7011"`, gateways of one queue, whose `--wait` is no shorter. When one
         ends or gives a wait up, the worker fetches at the next one at once, and pauses only after a round in which none
@@ -293,7 +293,7 @@ class Worker(BaseWorker[Callable[[Job], None], Callable[[Job], None]]):
     handler returns, and fails when it raises an `Exception`. One of which the server has not read so comes back.
 
     With a `concurrency` of 1 and no `timeout` the handler runs in the thread of `run`, and else in up to 64 threads, so
-    it must be safe to call several at a time. After a lost session the next begins, after pauses that grow."""
+    it must be safe to call several at a time. It begins sessions anew, after pauses that grow while none is served."""
 
     _session_of, _turns_of = Broker, ThreadTurns
     run = blocking(BaseWorker._work)
