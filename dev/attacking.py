@@ -4,10 +4,10 @@
     dev/attack --tenth    a tenth of all, the one of the number in dev/tenth, to which each landing adds one
     --minutes M           gives up what has no result after so long
 
-An attack is a file crates/NAME/attacks/*.edit, in the form of a must-fail edit. Each is tried on a copy of the
-checkout that has attacks/ in place of must-fail/, by the kit's own `rt ci`, so its rules are the gate's, and what an
-earlier `rt ci` proved on this machine, or tried over the same files, is not done again. The crates come one after the
-other, each with all processors. The checkout is left as it is, and the copy is removed at the end.
+An attack is a file crates/NAME/attacks/*.edit, in the form of a must-fail edit. `rt check` tries up to eight that change
+different functions together, one group on each processor, in copies of the checkout, over what earlier checks kept
+there in out/. What changes no function, or more than one, is tried alone. The checkout is left as it is, and the
+copies are removed at the end.
 
 Printed are a line for each crate, the attacks that were not refused, each with the prover's words, those that were
 refused only because a proof names what the edit removed, and finally `N refused, M not`, with `, K not tried` where
@@ -19,23 +19,34 @@ import os
 import re
 import shutil
 import subprocess
+import sys
 import time
+from concurrent.futures import ThreadPoolExecutor
 from pathlib import Path
-from typing import Sequence
+from queue import SimpleQueue
+from typing import Callable, NamedTuple, Sequence
 
-from building.crates import copy_crates, own_uses
+from building.build import available_memory
+from building.crates import own_uses, read_uses, with_those_below
 from common.program import TOP
 from common.words import number, parser_of
+from grouping import Change, Texts, change_of, groups_of, is_refused, says_little, together
 from leaving import status_of
 
 USES = own_uses(TOP)
-# What `rt ci` says of an edit, with the lines that follow.
-SAID = re.compile(r"^rt: must-fail ([^/\s]+)/(\S+\.edit): (.*(?:\n(?!rt: |\d+ passed).*)*)", re.M)
-REFUSED = "refused, as it must be"
-SAYS_LITTLE = "(only because a proof file names"
 TENTH = Path(TOP, "dev/tenth")
+MEMORY = 3_000_000_000  # bytes that a check may take
+NOT_PROVED = re.compile(r"^logic=not-proved", re.M)
+NOT_READ = re.compile(r"^(?:\./)?(?:src|specs)/[^:\s]+:\d+:\d+: error.*", re.M)
 
 Chosen = dict[str, list[str]]  # crates, each with those of its attacks that are tried
+
+
+class Verdict(NamedTuple):
+    """What became of an attack: whether it was refused, and what is to be said of it, if anything."""
+
+    refused: bool
+    said: str = ""
 
 
 def edits_of(crate: str) -> list[str]:
@@ -72,56 +83,142 @@ def edited(crate: Path, edit: Path) -> dict[Path, str]:
     return texts
 
 
-def copy_to(room: Path, chosen: Chosen) -> None:
-    """Copies what is proved, with these attacks as must-fail/."""
-    copy_crates(TOP, room, lambda crate: {"must-fail", "out"})
-    for attacks in room.glob("crates/*/attacks"):
-        for edit in attacks.glob("*.edit"):
-            if edit.name not in chosen.get(attacks.parent.name, ()):
-                edit.unlink()
-        attacks.rename(attacks.with_name("must-fail"))
+class Copies:
+    """Copies of a crate and of all that it stands on, each for one check at a time."""
+
+    def __init__(self, crate: str, room: Path, until: float) -> None:
+        self.crate, self.room, self.until = crate, room, until
+        self.free: SimpleQueue[Path] = SimpleQueue()
+
+    def proved(self) -> str:
+        """Makes the copies, once the crate is proved in the first. Returns what the check said where it is not."""
+        first, needed = self.room / "0", with_those_below([self.crate], USES)
+        for name in needed:
+            shutil.copytree(f"{TOP}/crates/{name}", first / "crates" / name, ignore=shutil.ignore_patterns("must-fail", "attacks"))
+        table = [f"{name}: {' '.join(named)}\n" for name, named in read_uses(TOP).items() if name in needed]
+        (first / "crates.txt").write_text("".join(table), "utf-8")
+        shutil.copy2(f"{TOP}/HANDLES", first)
+        self.free.put(first)
+        status, said = self.check({})
+        if status:
+            return said
+        for at in range(1, places()):
+            shutil.copytree(first, self.room / str(at))
+            self.free.put(self.room / str(at))
+        return ""
+
+    def check(self, texts: Texts) -> tuple[int, str]:
+        """The status of a check with these texts, and what it printed. Raises a `TimeoutExpired` if it does not end in
+        time."""
+        copy = self.free.get()
+        folder = copy / "crates" / self.crate
+        before = {file: (folder / file).read_text("utf-8") for file in texts}
+        try:
+            for file, text in texts.items():
+                (folder / file).write_text(text, "utf-8")
+            ran = subprocess.run(["rt", "check", "--jobs", "1"], cwd=folder, stdin=subprocess.DEVNULL, stdout=subprocess.PIPE,
+                                 stderr=subprocess.STDOUT, text=True, errors="replace", check=False,
+                                 timeout=max(1, self.until - time.monotonic()))
+            return ran.returncode, ran.stdout.rstrip("\n")
+        finally:
+            for file, text in before.items():
+                (folder / file).write_text(text, "utf-8")
+            self.free.put(copy)
 
 
-def said_of(crate: str, room: Path, until: float) -> str:
-    """What `rt ci` says of a crate of the copy. Raises a `TimeoutExpired` if it has not ended then."""
-    # With this variable it would be the gate of a merge, which is of all crates.
-    settings = {name: value for name, value in os.environ.items() if name != "CI"}
-    patience = max(1, until - time.monotonic())
-    ran = subprocess.run(["rt", "ci", crate], cwd=room, env=settings, stdin=subprocess.DEVNULL, stdout=subprocess.PIPE,
-                         stderr=subprocess.STDOUT, text=True, errors="replace", timeout=patience, check=False)
-    return ran.stdout.strip("\n")
+def places() -> int:
+    """How many checks run at once."""
+    return max(1, min(len(os.sched_getaffinity(0)), available_memory() // MEMORY))
 
 
-def tried(crate: str, edits: list[str], room: Path, until: float) -> tuple[int, list[str]]:
-    """Tries attacks of a crate: how many are refused, and the lines on all others and on those that say little."""
-    said = said_of(crate, room, until)
-    told = {edit: text.replace("\n", "\n    ") for of, edit, text in SAID.findall(said) if of == crate}
-    if not told:
-        # It is not proved as it stands, so each edit would count as refused.
-        last = "\n    ".join(said.splitlines()[-12:])
-        why = f"{crate}: none of its attacks was tried:\n    {last}"
-        return 0, [why, *(f"{crate}/{edit}: not tried" for edit in edits)]
-    refused = [edit for edit in edits if told.get(edit, "").startswith(REFUSED)]
-    others = [edit for edit in edits if edit not in refused]
-    others += [edit for edit in refused if SAYS_LITTLE in told[edit]]
-    return len(refused), [f"{crate}/{edit}: {told.get(edit, 'rt tried no such edit')}" for edit in others]
+class Attacks:
+    """Attacks of a crate, and what became of those that were tried."""
+
+    def __init__(self, crate: str, edits: Sequence[str], check: Callable[[Texts], tuple[int, str]]) -> None:
+        self.check, self.before, self.verdicts = check, dict[str, str](), dict[str, Verdict]()
+        self.texts: dict[str, Texts] = {}
+        self.changes: dict[str, Change] = {}
+        folder = Path(TOP, "crates", crate)
+        for edit in edits:
+            self._read(edit, folder)
+
+    def _read(self, edit: str, folder: Path) -> None:
+        try:
+            after = {str(file.relative_to(folder)): text for file, text in edited(folder, folder / "attacks" / edit).items()}
+        except (OSError, ValueError) as fault:
+            self.verdicts[edit] = Verdict(False, f"it can't be applied: {fault}")
+            return
+        for file in after:
+            self.before.setdefault(file, (folder / file).read_text("utf-8"))
+        self.texts[edit] = after
+        if change := change_of(self.before, after):
+            self.changes[edit] = change
+
+    def try_all(self, places: int) -> None:
+        """Tries each, in groups first and then alone where that decided nothing."""
+        with ThreadPoolExecutor(places) as pool:
+            for tried in (self._try_together, self._try_alone):
+                left = {edit: self.changes.get(edit) for edit in self.texts if edit not in self.verdicts}
+                grouped = {edit: change for edit, change in left.items() if change}
+                batches = groups_of(grouped) if tried == self._try_together else [[edit] for edit in left]
+                for ended in [pool.submit(tried, batch) for batch in batches]:
+                    ended.result()
+
+    def _try_together(self, edits: list[str]) -> None:
+        """Keeps a verdict on those of these attacks that a check of all of them refuses."""
+        _, said = self.check(together((self.changes[edit] for edit in edits), self.before))
+        if not NOT_PROVED.search(said) or NOT_READ.search(said):
+            return
+        for edit in edits:
+            if is_refused(self.changes[edit], said):
+                self._keep_refused(edit, said)
+
+    def _try_alone(self, edits: list[str]) -> None:
+        edit, = edits
+        status, said = self.check(self.texts[edit])
+        unread = NOT_READ.search(said)
+        if not status:
+            self.verdicts[edit] = Verdict(False, "the crate is still proved with it")
+        elif unread or not NOT_PROVED.search(said):
+            self.verdicts[edit] = Verdict(False, f"it did not reach the prover: {unread[0] if unread else said[-300:]}")
+        else:
+            self._keep_refused(edit, said)
+
+    def _keep_refused(self, edit: str, said: str) -> None:
+        little = says_little(self.changes.get(edit), said)
+        self.verdicts[edit] = Verdict(True, "refused only because a proof names what it takes away" if little else "")
+
+
+def attack_crate(crate: str, edits: Sequence[str], room: Path, until: float) -> Attacks:
+    """Tries attacks of a crate, in copies that it makes in this room."""
+    copies = Copies(crate, room, until)
+    attacks = Attacks(crate, edits, copies.check)
+    try:
+        if said := copies.proved():
+            # Each edit would count as refused.
+            print(f"{crate}: it is not proved as it stands:\n{said[-1000:]}", flush=True)
+            attacks.verdicts |= {edit: Verdict(False, "not tried") for edit in edits}
+        else:
+            attacks.try_all(copies.free.qsize())
+    except subprocess.TimeoutExpired:
+        pass
+    return attacks
 
 
 def attack(chosen: Chosen, until: float, room: Path) -> int:
-    """Tries attacks in the copy, and prints the results. Returns the exit status."""
-    copy_to(room, chosen)
+    """Tries attacks, and prints the results. Returns the exit status."""
     refused = failed = late = 0
-    # A run tries the edits of the crates below as well, so they come first.
-    for crate in sorted(chosen, key=[*USES].index):
-        count = len(chosen[crate])
-        try:
-            held, lines = tried(crate, chosen[crate], room, until)
-        except subprocess.TimeoutExpired:
-            print(f"{crate}: {count} not tried, for want of time", flush=True)
-            late += count
-            continue
-        print("\n".join([f"{crate}: {held} refused, {count - held} not", *lines]), flush=True)
-        refused, failed = refused + held, failed + count - held
+    for crate, edits in chosen.items():
+        attacks = attack_crate(crate, edits, room / crate, until)
+        shutil.rmtree(room / crate, ignore_errors=True)
+        held = sum(verdict.refused for verdict in attacks.verdicts.values())
+        missed, left = len(attacks.verdicts) - held, len(edits) - len(attacks.verdicts)
+        print(f"{crate}: {held} refused, {missed} not" + (f", {left} not tried" if left else ""))
+        for edit, verdict in sorted(attacks.verdicts.items()):
+            if verdict.said:
+                print(f"{crate}/{edit}: {verdict.said}")
+        sys.stdout.flush()
+        refused, failed, late = refused + held, failed + missed, late + left
     print(f"{refused} refused, {failed} not" + (f", {late} not tried" if late else ""))
     return 1 if failed else 0
 
