@@ -159,8 +159,8 @@ def test_tls(served: Service, tmp_path: Path) -> None:
     for line in makes.splitlines():
         subprocess.run(line.replace("server.example", "localhost"), shell=True, cwd=tmp_path, check=True,
                        capture_output=True)
-    for name, parts in (("server", ("server-certificate.pem", "server.key")), ("clients", ("client.pem",))):
-        (tmp_path / f"{name}.pem").write_bytes(b"".join((tmp_path / part).read_bytes() for part in parts))
+    shutil.copy(tmp_path / "client.pem", tmp_path / "clients.pem")
+    assert [(tmp_path / it).stat().st_mode & 0o077 for it in ("server.key", "server.pem")] == [0, 0]
     port = free_port()
     for old, new in ("7012", f"127.0.0.1:{port}"), ("7011", str(served.port)), ("/etc/stunnel", str(tmp_path)):
         file = file.replace(old, new)
