@@ -8,6 +8,7 @@ import signal
 import sys
 import threading
 import time
+from datetime import datetime
 from pathlib import Path
 from statistics import median
 from typing import Any
@@ -26,6 +27,7 @@ PATIENCE = 600  # seconds for what is left at the end, and for a service to serv
 WORK, DELAY = 0.1, 2.0  # seconds: the longest job, and the longest delay of most
 SELDOM, LONG = 0.02, 300.0  # the share of jobs that wait for longer, and for how long at most
 GAPS = 0.150, 0.400  # seconds for which nobody is served at a rollover, at the median and at worst
+TOLD = 0.100  # seconds of a gap of which it is told what took them
 
 # The program, but that one server has another job in the place of one of a client that it begins with, and says which.
 SWAPS = """#!{python}
@@ -106,6 +108,15 @@ def settle(it: Client, words: list[str], run: int, ledger: Ledger) -> None:
         ledger.done.append((words[4], run))
 
 
+def steps(service: Service, run: int) -> str:
+    """How long each step took from a run's end to the next run, by the lines that the service said."""
+    said = [(event, next(it for it in service.all(event) if it["run"] == str(number))) for event, number in (
+        ("ending", run), ("between-runs", run), ("saved", run), ("serving", run + 1))]
+    at = [datetime.fromisoformat(it["time"]) for _, it in said]
+    took = (f"{event} {(end - begin).total_seconds():.3f} s" for (event, _), begin, end in zip(said, at, at[1:]))
+    return f"run {run}, {', '.join(took)}; closed={said[-1][1]['closed']}"
+
+
 @pytest.mark.timeout(2 * SECONDS + 2 * PATIENCE)
 class DayTest(ServiceTest):
     OPTIONS = ("--every", f"{EVERY}s", "--turn-within", "2s", "--delay", "0s", "--stop-within", "10s",
@@ -126,7 +137,10 @@ class DayTest(ServiceTest):
     def test_gaps(self) -> None:
         """For how long nobody is served at a rollover, on a quiet machine."""
         services, ledgers = self.lived((), 24 * EVERY)
-        them = gaps(ledgers, self.lost(services))
+        behind = gaps(ledgers, self.lost(services))
+        print("".join(f"\nnobody served for {it:.3f} s: {steps(services[-1], run)}"
+                      for run, it in behind.items() if it > TOLD))
+        them = [*behind.values()]
         self.assertGreater(len(them), 20)
         if os.getloadavg()[0] > (os.cpu_count() or 1):
             self.skipTest(f"this machine does much else: gaps {spread(them)}")
