@@ -133,7 +133,7 @@ def saved(parts: Parts, run: Current) -> Next:
     except Damaged as fault:
         if server.size:
             with contextlib.suppress(OSError):
-                parts.runs.save_history(server, "damaged")  # for whoever wants to know why
+                parts.folder.write(f"damaged-{record.number}.txt", server.text())  # for whoever wants to know why
         if server.listens or server.size:
             following = _lost(parts, record, str(fault))
         else:
@@ -141,9 +141,8 @@ def saved(parts: Parts, run: Current) -> Next:
             parts.runs.drop(record)
         parts.publisher.count(looks.offered, looks.left, 0)
     else:
-        parts.until_written(f"run-{record.number}.txt", lambda: parts.runs.save_history(server), server)
         end = _end_of(why, told, server, run.cut)
-        _write_end(parts, record, end)
+        _write_end(parts, record, end, server)
         following = parts.runs.after(record, told.left)
         say("info", "saved", run=record.number, calls=end.calls, offered=end.offered, given=end.given, left=end.left,
             lost_jobs=end.lost_jobs or None, cut=end.cut or None)
@@ -164,9 +163,12 @@ def _lost(parts: Parts, record: Run, why: str) -> Next:
     return parts.runs.again(record, record.calls)
 
 
-def _write_end(parts: Parts, record: Run, end: End) -> None:
-    """Writes down how a run ended. Which jobs are lost is said before, as a service is killed at any moment."""
+def _write_end(parts: Parts, record: Run, end: End, server: Server | None = None) -> None:
+    """Writes down how a run ended, behind the history that its server has left. Which jobs are lost is said before, as
+    a service is killed at any moment."""
     if end.lost_jobs:
         say("error", "lost-jobs", run=record.number, jobs=end.lost_jobs,
             text="they failed when the run was full, and could not come back")
-    parts.until_written(f"run-{record.number}.json", lambda: parts.runs.write(replace(record, end=end)))
+    name = f"run-{record.number}.txt" if server else f"run-{record.number}.json"
+    parts.until_written(name, lambda: parts.runs.write(
+        replace(record, end=end), {name: server.text()} if server else {}), server)

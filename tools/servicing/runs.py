@@ -10,13 +10,13 @@ import subprocess
 import threading
 import time
 from dataclasses import dataclass, field, replace
+from typing import Iterable, Mapping
 
 from rb_broker_formats.files import open_history
 from servicing.clock import Reading, elapsed, is_same_boot, read_clock
 from servicing.deciding import Misfit, digest_of, misfit_in, runs_to_drop
 from servicing.folder import Folder, Unusable, record_of
 from servicing.opening import Elements, Left, Opening, left_in, opening_after
-from servicing.server import Server
 from servicing.settings import Keep, Settings
 from servicing.state import Run
 
@@ -73,10 +73,8 @@ class Runs:
                      settings.calls, settings.policy, lost_before=lost, lost_jobs_before=lost_jobs,
                      follows=digest_of(self.last))
         self.folder.remove(f"aside-{number}.txt")
-        if opening.aside:
-            self.folder.write(f"aside-{number}.txt", replace(opening, elements=opening.aside).text)
-        self.folder.write(f"opening-{number}.txt", opening.text)
-        self.write(record)
+        aside = {f"aside-{number}.txt": replace(opening, elements=opening.aside).text} if opening.aside else {}
+        self.write(record, {**aside, f"opening-{number}.txt": opening.text})
         return record, opening
 
     def drop(self, record: Run) -> None:
@@ -101,11 +99,6 @@ class Runs:
         if (next_id, elements) != (record.next_id, record.opening):
             raise Unusable(f"{path} is not what run {record.number} began with: restore it")
         return self.after(record, left, given)
-
-    def save_history(self, server: Server, name: str = "run") -> None:
-        """Writes a run's history, unless it is there. Raises an `OSError`."""
-        if self.folder.history(server.run) is None:
-            self.folder.write(f"{name}-{server.run}.txt", server.text())
 
     def misfit(self) -> Misfit | None:
         """What does not fit in the folder, which has a record."""
@@ -133,8 +126,9 @@ class Runs:
         self.folder.write(ACKNOWLEDGED, [b"%d %d\n" % self.lost])
         self._acknowledged = self.lost
 
-    def write(self, record: Run) -> None:
-        self.folder.write(f"run-{record.number}.json", [record_of(record)])
+    def write(self, record: Run, before: Mapping[str, Iterable[bytes]] | None = None) -> None:
+        """Writes a record, and what has to be there before it. Raises an `OSError`."""
+        self.folder.write_all({**(before or {}), f"run-{record.number}.json": [record_of(record)]})
         self.records[record.number] = record
 
     def tidy(self, keep: Keep) -> None:

@@ -5,12 +5,23 @@ import os
 import shutil
 import signal
 import subprocess
+import threading
 import time
 from pathlib import Path
+from typing import Any
+from unittest import mock
 
+from checking.testing import RoomTest
 from common.program import tested_program
+from serving import PATIENCE
+from servicing.folder import Folder
 from servicing.http import asked
+from servicing.opening import Left
+from servicing.runs import Next, Runs
+from servicing.settings import parser, settings_of
+from servicing.state import End, Reason
 from servicing.tests.process import Service, ServiceTest, until
+from servicing.tests.support import reading, record
 
 JOBS = 2000
 
@@ -92,6 +103,26 @@ class FullDiskTest(ServiceTest):
         with self.serving(folder=self.small) as again:
             self.assertEqual(again.all("resume")[0]["how"], "collect")
             self.has_left(JOBS)
+
+
+class SlowDiskTest(RoomTest):
+    def test_what_belongs_together_is_waited_for_at_once(self) -> None:
+        """What a run has left, and what the next one begins with: for both files at once, and then for their names."""
+        runs, settings = Runs(Folder(self.path("runs"), 1)), settings_of(parser("").parse_args([]), "program")
+        both, waits = threading.Barrier(2), list[set[str]]()
+
+        def fsync(file: Any) -> None:
+            if not isinstance(file, int):  # the folder
+                both.wait(PATIENCE)
+            waits.append(set(os.listdir(self.path("runs"))))
+
+        with mock.patch("os.fsync", fsync):
+            runs.write(record(1, End(1.0, Reason.TIME)), {"run-1.txt": [b"history"]})
+            runs.prepare(2, Next(Left(0, 0, {}), 0), reading(), settings)
+        usual, left = {"id", "lock"}, {"run-1.txt", "run-1.json"}
+        begins = {"opening-2.txt", "run-2.json"}
+        self.assertEqual(waits, [*[usual | {f"{it}.new" for it in left}] * 2, usual | left,
+                                 *[usual | left | {f"{it}.new" for it in begins}] * 2, usual | left | begins])
 
 
 class FolderTest(ServiceTest):
