@@ -40,6 +40,8 @@ def resumed(parts: Parts) -> Current | Next:
         parts.publisher.run = current.record
         return saved(parts, current)
     following = _following(parts, last, start, server)
+    if last.end is not None and last.end.is_followed:
+        following = _without_record(parts, last.number + 1, following)
     if start is Start.AGAIN and last.end is None:
         parts.runs.drop(last)
     if server is not None:
@@ -85,6 +87,14 @@ def _following(parts: Parts, last: Run, start: Start, server: Server | None) -> 
         _accept(parts, Misfit(last.number, f"run {last.number} ended in good order, and has no history"))
         return _lost(parts, last, "it had no history any more, which was accepted")
     return _lost(parts, last, "its server was gone, and what it had left in memory")
+
+
+def _without_record(parts: Parts, number: int, before: Next) -> Next:
+    """What follows a run that has served, and has no record any more: it is lost. Raises an `Unusable`."""
+    _accept(parts, Misfit(number, f"run {number} continued run {number - 1}, and has no record"))
+    now = before.known_at()  # the date may be wrong now, by which no job may come early
+    record, _ = parts.until_written("opening", lambda: parts.runs.prepare(number, before, now, parts.settings))
+    return _lost(parts, record, "it had no record any more, which was accepted")
 
 
 def _accept(parts: Parts, misfit: Misfit) -> None:

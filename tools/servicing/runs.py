@@ -13,7 +13,7 @@ from dataclasses import dataclass, field, replace
 from typing import Iterable, Mapping
 
 from rb_broker_formats.files import open_history
-from servicing.clock import Reading, elapsed, is_same_boot, read_clock
+from servicing.clock import Reading, elapsed, is_same_boot
 from servicing.deciding import Misfit, digest_of, misfit_in, runs_to_drop
 from servicing.folder import Folder, Unusable, record_of
 from servicing.opening import Elements, Left, Opening, left_in, opening_after
@@ -37,6 +37,11 @@ class Next:
     def at(self, now: Reading) -> Opening:
         passed = elapsed(self.since, now) if self.since else 0
         return opening_after(self.left, self.aside, self.moment + passed, self.given)
+
+    def known_at(self) -> Reading:
+        """The clocks when the last event came of the run before, whatever the machine's date says now."""
+        assert self.since
+        return self.since.after(max(self.left.moment - self.moment, 0))
 
     def off_at(self, now: Reading) -> int:
         """For how many nanoseconds the machine was off, as far as its date tells."""
@@ -65,10 +70,9 @@ class Runs:
     def past(self) -> tuple[Run, ...]:
         return tuple(it for _, it in sorted(self.records.items(), reverse=True) if it.end)
 
-    def prepare(self, number: int, following: Next, settings: Settings) -> tuple[Run, Opening]:
+    def prepare(self, number: int, following: Next, now: Reading, settings: Settings) -> tuple[Run, Opening]:
         """Writes down the next run, whose clock goes from now on. Raises an `OSError` if the disk is full."""
-        now, (lost, lost_jobs) = read_clock(), self.lost
-        opening = following.at(now)
+        opening, (lost, lost_jobs) = following.at(now), self.lost
         record = Run(number, now, opening.moment, opening.next_id, len(opening.elements), len(opening.aside),
                      settings.calls, settings.policy, lost_before=lost, lost_jobs_before=lost_jobs,
                      follows=digest_of(self.last))

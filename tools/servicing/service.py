@@ -69,10 +69,10 @@ def _say_serving(parts: Parts, current: Current, before: Current | None) -> None
     publisher.enter(Phase.SERVING, None, port=parts.settings.port, elements=record.opening, aside=record.aside or None,
                   process=process.pid if process else None, closed=None if closed is None else f"{closed:.3f}s")
     notify(READY=1)
-    last = parts.runs.records.get(before.record.number) if before else None
+    last = parts.runs.records.get(record.number - 1)
     if last is not None and last.end is not None:
         with contextlib.suppress(OSError):  # it is no harm if that can't be written
-            parts.runs.write(replace(last, end=replace(last.end, closed=closed)))
+            parts.runs.write(replace(last, end=replace(last.end, closed=closed or last.end.closed, is_followed=True)))
 
 
 def _started(parts: Parts, door: socket.socket, following: Next, before: Current | None) -> Current | None:
@@ -107,7 +107,8 @@ def _listening(
     parts: Parts, door: socket.socket, server: Server, following: Next, before: Current | None
 ) -> Current:
     """A run whose server listens. Raises a `NotStarted`."""
-    record, opening = parts.until_written("opening", lambda: parts.runs.prepare(server.run, following, parts.settings))
+    record, opening = parts.until_written("opening", lambda: parts.runs.prepare(
+        server.run, following, read_clock(), parts.settings))
     words, file = parts.settings.serve_words(record, door.fileno()), parts.folder.file(f"opening-{record.number}.txt")
     try:
         server.start(words, door.fileno(), file)

@@ -96,6 +96,7 @@ class End:
     sessions: int | None = None  # as the server counts them
     cut: int = 0  # sessions that were cut
     digest: str | None = None  # the SHA-256 of its history
+    is_followed: bool = False  # whether the next run has begun to serve
 
 
 @dataclass(frozen=True)

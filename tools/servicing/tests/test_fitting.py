@@ -92,6 +92,10 @@ class ChangedTest(ServiceTest):
             ("another record", self.change_record, 2, 6, "run 3 continued run 2, of which there is another record. "),
             ("no record", lambda it: shutil.copy(it / "run-3.txt", it / "run-4.txt"), 4, 6,
              "run 4 has a history and no record. "),
+            ("a record alone is missing", lambda it: os.unlink(it / "run-3.json"), 3, 5,
+             "run 3 has a history and no record. "),
+            ("the last run is missing", lambda it: [os.unlink(path) for path in it.glob("*-3.*")], 3, 5,
+             "run 3 continued run 2, and has no record. "),
         ):
             with self.subTest(name):
                 self.try_change(self.change(change), run, size, says)
