@@ -36,6 +36,17 @@ class Ledger:
     served: dict[int, list[float]] = field(default_factory=lambda: defaultdict(list))  # when each run was heard
 
 
+class Gap(NamedTuple):
+    """When somebody was served for the last time by a run, and for the first time by the next."""
+
+    begin: float
+    end: float
+
+    @property
+    def seconds(self) -> float:
+        return self.end - self.begin
+
+
 class Judgement(NamedTuple):
     """Jobs that no service in good order explains."""
 
@@ -70,13 +81,13 @@ def lateness(ledgers: Sequence[Ledger]) -> list[tuple[int, int, float]]:
     return sorted((it.run, it.run - offer.run, it.at - offer.most) for it, offer in known)
 
 
-def gaps(ledgers: Sequence[Ledger], lost: Collection[int]) -> dict[int, float]:
-    """For how many seconds nobody was served behind each run: from its last reply to the first greeting of the next. A
-    job in hand is time in which its client is served. Runs that were lost have no end in good order."""
+def gaps(ledgers: Sequence[Ledger], lost: Collection[int]) -> dict[int, Gap]:
+    """When nobody was served behind each run: from its last reply to the first greeting of the next. A job in hand is
+    time in which its client is served. Runs that were lost have no end in good order."""
     first, last = dict[int, float](), dict[int, float]()
     for run, heard in ((run, it) for one in ledgers for run, it in one.served.items()):
         first[run], last[run] = min(heard[0], first.get(run, heard[0])), max(heard[-1], last.get(run, heard[-1]))
-    return {run: first[run + 1] - it for run, it in last.items() if run + 1 in first and run not in lost}
+    return {run: Gap(it, first[run + 1]) for run, it in last.items() if run + 1 in first and run not in lost}
 
 
 def spread(seconds: Sequence[float]) -> str:
@@ -94,6 +105,6 @@ def told(ledgers: Sequence[Ledger], lost: Collection[int]) -> str:
               **{f" behind {first} to {last - 1} rollovers": [it for it in late if first <= it[1] < last]
                  for first, last in ((0, 2), (2, 6), (6, 21), (21, 1000))}}
     return (f"{sum(len(it.offered) for it in ledgers)} offered, {len(doubts)} in doubt of which {len(doubts & done)} "
-            f"done, {len(lost)} runs lost; gaps {spread([*gaps(ledgers, lost).values()])}; "
+            f"done, {len(lost)} runs lost; gaps {spread([it.seconds for it in gaps(ledgers, lost).values()])}; "
             f"waits {spread([it for one in ledgers for it in one.waits])}; faults {dict(faults)}"
             + "".join(f"\nlate{name}: {len(them)}, {spread([it for *_, it in them])}" for name, them in groups.items()))

@@ -52,5 +52,6 @@ class JudgeTest(unittest.TestCase):
         one, other = Ledger(), Ledger()
         one.served |= {1: [0, 5, 10], 2: [10.5, 20], 3: [20.25, 30]}
         other.served |= {1: [1, 9.75], 3: [21, 31], 5: [40]}
-        self.assertEqual(gaps([one, other], ()), {1: 0.5, 2: 0.25})
-        self.assertEqual(gaps([one, other], LOST), {1: 0.5})
+        self.assertEqual(gaps([one, other], ()), {1: (10, 10.5), 2: (20, 20.25)})
+        self.assertEqual(gaps([one, other], LOST), {1: (10, 10.5)})
+        self.assertEqual(gaps([one, other], LOST)[1].seconds, 0.5)
