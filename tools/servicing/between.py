@@ -42,8 +42,6 @@ def resumed(parts: Parts) -> Current | Next:
     following = _following(parts, last, start, server)
     if last.end is not None and last.end.is_followed:
         following = _without_record(parts, last.number + 1, following)
-    if start is Start.AGAIN and last.end is None:
-        parts.runs.drop(last)
     if server is not None:
         server.close()
     return following
@@ -82,7 +80,7 @@ def _following(parts: Parts, last: Run, start: Start, server: Server | None) -> 
     if start is Start.CONTINUE:
         return _continued(parts, last, server)
     if start is Start.AGAIN:
-        return parts.runs.again(last, last.calls if last.end is not None else 0)
+        return parts.runs.again(last, last.calls)
     if start is Start.MISSING:
         _accept(parts, Misfit(last.number, f"run {last.number} ended in good order, and has no history"))
         return _lost(parts, last, "it had no history any more, which was accepted")

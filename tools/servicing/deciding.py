@@ -24,7 +24,7 @@ class Start(Enum):
     GO_ON = "go on"  # the server of the last run is still there
     COLLECT = "collect"  # it has ended, or is about to, and its history is kept
     CONTINUE = "continue"  # the last run ended in good order, and its history is a file
-    AGAIN = "again"  # the last run is known to be lost, or its server served nobody
+    AGAIN = "again"  # the last run is known to be lost
     MISSING = "missing"  # the last run ended in good order, and has no history
     LOST = "lost"  # the last run is lost
 
@@ -37,9 +37,7 @@ def how_to_start(last: Run, has_history: bool, found: Server | None) -> Start:
         return Start.AGAIN if last.is_lost else Start.MISSING
     if found is None:
         return Start.LOST
-    if not found.has_ended:
-        return Start.GO_ON
-    return Start.COLLECT if found.listens or found.size else Start.AGAIN
+    return Start.COLLECT if found.has_ended else Start.GO_ON
 
 
 def why_to_end(looks: Looks, run: Run, settings: Settings, age: int, first_aside: int) -> Reason | None:

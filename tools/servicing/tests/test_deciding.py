@@ -43,7 +43,7 @@ class DecidingTest(unittest.TestCase):
             (Start.GO_ON, going, False, served), (Start.GO_ON, going, False, found(False, False, 0)),
             (Start.COLLECT, going, False, ended),
             (Start.COLLECT, going, False, found(True, True, 0)),  # its server was killed, which is found then
-            (Start.AGAIN, going, False, found(True, False, 0)),  # it served nobody
+            (Start.COLLECT, going, False, found(True, False, 0)),  # it served nobody, likewise
             (Start.CONTINUE, going, True, ended),  # killed before the memory was let go
             (Start.CONTINUE, record(7, WELL), True, None), (Start.MISSING, record(7, WELL), False, None),
             (Start.AGAIN, record(7, LOST), False, None), (Start.AGAIN, record(7, LOST), False, ended),

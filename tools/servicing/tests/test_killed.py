@@ -249,7 +249,7 @@ class ServerKilledTest(ServiceTest):
         service.kill_all()
         os.unlink(self.path("slow"))
         with self.serving(program=program) as again:
-            self.assertEqual((again.all("resume")[0]["how"], again.all("serving")[0]["run"]), ("again", "2"))
+            self.assertEqual((again.all("resume")[0]["how"], again.all("serving")[0]["run"]), ("collect", "2"))
             self.has_left(3)
 
 
