@@ -8,15 +8,13 @@ from dataclasses import dataclass, field
 from itertools import zip_longest
 from typing import NamedTuple
 
+from .alarm import Alarm
 from .calls import Calls
 from .protocol import SECOND
 from .waiting import Waiting
 
 LATER = b"LATER"
 STOPPED = b"STOPPED\n"
-
-EARLY = 0.0005
-"""A loop's timer may run this many seconds early, since it counts milliseconds."""
 
 MOST_BEHIND = SECOND
 """A timed poll whose deadline is further away by the node's clock, when it has come by the gateway's, is given up."""
@@ -71,8 +69,8 @@ class Waits:
         self._queues, self.longest, self._front_of, self._seen = queues, longest, front_of, seen
         self._waiting: Waiting[Wait] = Waiting()
         self._loop = asyncio.get_event_loop()
-        self._timer: asyncio.TimerHandle | None = None
-        self._timed_for: int | None = None
+        self._alarm = Alarm(self._loop, self._wake)
+        self._set_for: int | None = None
         self.order = self._waiting.order
         """Who waits, first come first: others that may have to wait come behind them."""
 
@@ -120,12 +118,12 @@ class Waits:
         self._waiting.add(wait)
 
     def _look(self) -> None:
-        """Tries, or sets the timer for the next try. A queue that is away is looked at when it is back."""
+        """Tries, or sets the alarm for the next try. A queue that is away is looked at when it is back."""
         while (due := self._waiting.next_due) and not self._queues[due.queue].is_connected:
             self._waiting.forget(due.queue)
         tried = self._waiting.start_tries(time.monotonic_ns())
         if not tried:
-            self._set_timer(due and due.moment)
+            self._set_alarm(due and due.moment)
             return
         queue = self._waiting.tried_queue
         for wait in tried:
@@ -133,16 +131,13 @@ class Waits:
         calls = [wait.calls[queue] for wait in tried]
         self._queues[queue].submit(calls, lambda replies: self._tried(tried, replies), len(tried))
 
-    def _set_timer(self, moment: int | None) -> None:
-        if moment is None or moment == self._timed_for:
-            return
-        if self._timer:
-            self._timer.cancel()
-        self._timed_for = moment
-        self._timer = self._loop.call_later(max(moment - time.monotonic_ns(), 0) / SECOND + EARLY, self._wake)
+    def _set_alarm(self, moment: int | None) -> None:
+        if moment is not None and moment != self._set_for:
+            self._set_for = moment
+            self._alarm.set(moment)
 
     def _wake(self) -> None:
-        self._timer = self._timed_for = None
+        self._set_for = None
         self._look()
 
     def _tried(self, tried: list[Wait], replies: list[bytes] | None) -> None:
