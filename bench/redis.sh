@@ -6,6 +6,7 @@
 #   ROUNDS   rounds (offer, take and done) of each run, of all its clients together (default 20000, at most 330000)
 #   RUNS     runs of each kind, one of each in turn, of which the median by rounds a second counts (default 3)
 #   CLIENTS  how many clients at the same time (default "16 1 256 2000")
+#   GATEWAYS how many gateways share them (default "1 2 3")
 #   WAKES    jobs that are waited for, to measure how late they come (default 500)
 #   MINUTES  how long it takes at most: then runs are left out (default 8)
 #   OTHER    a command that is given a port and that of a Redis, and serves the protocol from it, to compare with
@@ -13,11 +14,12 @@
 # Each run has a Redis of its own, without persistence. Beside the rounds and the times of a request are the processor
 # times of a round, in microseconds, of the first gateway or server and of the Redis, and the share of a processor that
 # the Redis takes. A client alone makes no more than 3,000 rounds. Only gateways are tried with more than 256 clients,
-# and `rb_broker serve` with no more than 16.
+# and `rb_broker serve` with no more than 16. Wakes are measured by themselves, and beside 16 clients that make rounds.
 set -euo pipefail
 export LC_ALL=C
 
-ROUNDS=${ROUNDS:-20000} RUNS=${RUNS:-3} CLIENTS=${CLIENTS:-16 1 256 2000} WAKES=${WAKES:-500} MINUTES=${MINUTES:-8}
+ROUNDS=${ROUNDS:-20000} RUNS=${RUNS:-3} CLIENTS=${CLIENTS:-16 1 256 2000} GATEWAYS=${GATEWAYS:-1 2 3}
+WAKES=${WAKES:-500} MINUTES=${MINUTES:-8}
 if ((ROUNDS < 1000 || ROUNDS > 330000 || RUNS < 1 || WAKES < 100 || MINUTES < 1)); then
     echo "bench: ROUNDS is 1000 to 330000, RUNS from 1, WAKES from 100, MINUTES from 1" >&2 && exit 2
 fi
@@ -65,14 +67,14 @@ start_redis() {
     start "$redis" redis-server --port "$redis" --bind 127.0.0.1 --save '' --appendonly no --dir "$room"
 }
 
-# Starts so many gateways. Their ports, with commas between them, are $ports.
+# Starts so many gateways of a queue. Their ports, with commas between them, are $ports.
 start_gateways() {
-    local count=$1 port
+    local count=$1 queue=${2:-bench} port
     ports=
     for ((; count > 0; count--)); do
         port=$(free_port)
-        start "$port" /usr/bin/python3 -m rb_broker_redis serve --redis "redis://127.0.0.1:$redis" --queue bench \
-            --port "$port" --wait 10s
+        start "$port" /usr/bin/python3 -m rb_broker_redis serve --redis "redis://127.0.0.1:$redis" \
+            --queue "$queue" --port "$port" --wait 10s
         ports+=${ports:+,}$port
     done
 }
@@ -87,7 +89,7 @@ run_once() {
         broker) ports=$(free_port) first=0 && start "$ports" "$program" serve --port "$ports" --workers 16 --sessions 10000 --calls 1000000 ;;
         other) ports=$(free_port) && start "$ports" $OTHER "$ports" "$redis" ;;
         scripts) start_gateways 1 && ports=$redis peer=redis ;;
-        *) start_gateways "${kind%% *}" ;;
+        *) start_gateways "${kind%%-*}" ;;
     esac
     before=("$(spent "${processes[first]}")" "$(spent "${processes[0]}")")
     line=$("$room/clients" measure "$peer" "$ports" "$clients" "$batches" 1) || exit 1
@@ -109,7 +111,7 @@ print_median() {
         }'
 }
 
-kinds=(${OTHER:+other} "1 gateway" "3 gateways" scripts broker)
+kinds=(${OTHER:+other} $(printf '%d-gateways ' $GATEWAYS) scripts broker)
 last=0
 for ((run = 0; run < RUNS; run++)); do
     for clients in $CLIENTS; do
@@ -117,7 +119,7 @@ for ((run = 0; run < RUNS; run++)); do
             [[ $kind != broker ]] || ((clients <= 16)) || continue
             [[ $kind == *gateway* ]] || ((clients <= 256)) || continue
             begun=$SECONDS
-            if ((begun + last + 20 > MINUTES * 60)); then # the wakes take some time too
+            if ((begun + last + 30 > MINUTES * 60)); then # the wakes take some time too
                 echo "left out for want of time: $kind, $clients clients, run $((run + 1))"
                 continue
             fi
@@ -135,8 +137,19 @@ for clients in $CLIENTS; do
     done
 done
 
+# Prints how late the jobs come of 16 clients that wait, at these ports.
+print_wakes() {
+    local median late
+    read -r median late < <("$room/clients" wake "$1" 16 "$WAKES")
+    echo "from an expiry until a client that waits has the job, beside 15 that wait$2: median $median us, 99th percentile $late us"
+}
+
 start_redis
-start_gateways 1
-read -r median late < <("$room/clients" wake "$ports" 16 "$WAKES")
-echo "from an expiry until a client that waits has the job, beside 15 that wait: median $median us, 99th percentile $late us"
+start_gateways 2 && loaded=$ports
+start_gateways 1 waits && waiting=$ports
+print_wakes "$waiting" ""
+"$room/clients" measure broker "$loaded" 16 $((25 * WAKES)) 1 > "$room/rate" & load=$! # for as long, at 25,000 a second
+print_wakes "$waiting" " and 16 of another queue and gateways"
+wait "$load"
+echo "these made $(cut -d ' ' -f 1 "$room/rate") rounds a second"
 end_all
