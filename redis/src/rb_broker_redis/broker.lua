@@ -113,9 +113,9 @@ local ENDED = '0' -- in the place of a score: the gateway's sessions are ended
 local ZEROS = { [20] = '' }
 for digits = 19, 0, -1 do ZEROS[digits] = ZEROS[digits + 1] .. '0' end
 
-local call, sub, find -- redis.call and functions of `string`, which a library has only once it is loaded
+local call, sub, find, match -- redis.call and functions of `string`, which a library has only once it is loaded
 
-local function prepare() call, sub, find = redis.call, string.sub, string.find end
+local function prepare() call, sub, find, match = redis.call, string.sub, string.find, string.match end
 
 local function pad(number) return ZEROS[#number] .. number end
 local function whole(number) return string.format('%d', number) end
@@ -223,6 +223,7 @@ local done, done_at, done_count = {}, {}, 0 -- jobs that are done, and which rep
 local counts = {} -- how many jobs a session holds, for those of which it was counted
 local replies = {}
 local known_here -- the members of held that are known
+local seat_gap -- where a gateway's calls have the space behind their seat
 
 local function learn_most(text)
     most_text = text
@@ -255,6 +256,7 @@ local function open(keys, moment, gateway)
     heads, first, ahead, is_all = {}, 1, 1, nil
     if next(counts) then counts = {} end
     known_here = gateway ~= '' and known_of(keys, gateway)
+    seat_gap = known_here and #gateway + 10
 end
 
 -- Lets the oldest events go, an eighth of those that there may be.
@@ -418,12 +420,11 @@ local function fetch(seat)
     local expiry = head and sub(head, 1, 20)
     if not head or expiry > at then return nil end
     local id, rest = sub(head, 22, 41), sub(head, 43)
-    local gap = find(rest, ' ', 1, true)
-    local attempt = find(rest, ' ', gap + 1, true) + 1
-    local shown, item = sub(rest, 1, gap - 1), rest
-    if pad(shown) ~= id or pad(sub(rest, gap + 1, attempt - 2)) ~= expiry then -- it is not the first of its job
+    local shown, first_expiry, behind = match(rest, '^(%d+) (%d+) ()')
+    local item = rest
+    if pad(shown) ~= id or pad(first_expiry) ~= expiry then -- it is not the first of its job
         shown = plain(id)
-        item = shown .. ' ' .. plain(expiry) .. ' ' .. sub(rest, attempt)
+        item = shown .. ' ' .. plain(expiry) .. ' ' .. sub(rest, behind)
     end
     if place then
         take_new(place)
@@ -636,12 +637,11 @@ end
 
 -- The same, where the member of held is known, for the reply at this place.
 local function done_known(text, member, place)
-    local gap = find(text, ' ', 1, true)
     done_count = done_count + 1
     done[done_count], done_at[done_count] = member, place
     known_here[text], known_count = nil, known_count - 1
-    if next(counts) then count_held(sub(text, 1, gap - 1), -1) end
-    return sub(text, gap + 1) .. '\n'
+    if next(counts) then count_held(sub(text, 1, seat_gap - 1), -1) end
+    return sub(text, seat_gap + 1) .. '\n'
 end
 
 function requests.FAIL(seat, id)
@@ -682,16 +682,12 @@ end
 local function carry_out(text)
     local seat = seats[text]
     if seat then return words[text](seat, '', '') end
-    local behind_seat = find(text, ' ', 1, true)
-    local behind_word = find(text, ' ', behind_seat + 1, true)
-    seat = sub(text, 1, behind_seat - 1)
-    if not behind_word then
-        remember(text, seat, sub(text, behind_seat + 1))
-        return words[text](seat, '', '')
-    end
-    local behind_number = find(text, ' ', behind_word + 1, true)
-    return requests[sub(text, behind_seat + 1, behind_word - 1)](seat,
-        sub(text, behind_word + 1, behind_number and behind_number - 1), behind_number and sub(text, behind_number + 1) or '')
+    local gap = seat_gap or find(text, ' ', 1, true)
+    local word, number, payload = match(text, '^(%a+) (%d+) ?(.*)$', gap + 1)
+    seat = sub(text, 1, gap - 1)
+    if word then return requests[word](seat, number, payload) end
+    remember(text, seat, sub(text, gap + 1))
+    return words[text](seat, '', '')
 end
 
 -- Whether a step has taken its time.
@@ -894,7 +890,7 @@ local function spare(keys, args) return perform(keys, args, true) end
 
 local function register(name, callback, ...)
     local function prepared(keys, args)
-        prepare()
+        if not call then prepare() end
         return callback(keys, args)
     end
     redis.register_function { function_name = name .. '_' .. VERSION, callback = prepared, flags = { ... } }
