@@ -89,8 +89,9 @@ def is_of(path: str, change: Change) -> bool:
 
 
 def is_refused(change: Change, said: str) -> bool:
-    """Whether a check says that the changed function is not proved."""
-    return any(is_of(path, change) and not verdict.startswith("proved") for path, verdict in SAID_OF_FUNCTION.findall(said))
+    """Whether a check says that the changed function is not proved, and not only that it calls one that is not."""
+    return any(is_of(path, change) and not verdict.startswith(("proved", "no proof: it calls"))
+               for path, verdict in SAID_OF_FUNCTION.findall(said))
 
 
 def says_little(change: Change | None, said: str) -> bool:

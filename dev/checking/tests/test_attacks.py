@@ -79,6 +79,17 @@ def test_the_functions_of_a_source() -> None:
     assert [*grouping.functions_of(text)] == [("one", 0, 0), ("three", 5, 11)]
 
 
+@pytest.mark.parametrize("verdict, is_refused", [
+    ("proved, may abort", False),
+    ("not proved; it calls `rb_a::b::g`, which is not proved", True),
+    ("no proof: expected answers in ./proofs/b/B/f/Answers.antt; `search` did not prove `returns`", True),
+    ("no proof: it calls `rb_a::b::g`, which is not proved", False),  # another attack of the group is refused
+])
+def test_what_a_check_says_of_a_function(verdict: str, is_refused: bool) -> None:
+    change = grouping.Change("src/b.rt", "f", range(9), {})
+    assert grouping.is_refused(change, f"fn rb_a::b::B::f: {verdict}\nfn rb_a::c::C::f: not proved\n") is is_refused
+
+
 def test_attacks_of_one_function_are_apart() -> None:
     changes = {str(at): grouping.Change("src/a.rt", "fgf"[at % 3], range(9), {at: ""}) for at in range(6)}
     assert grouping.groups_of(changes) == [["0", "1"], ["2", "4"], ["3"], ["5"]]
