@@ -1,12 +1,16 @@
 -- A pass closes the queue, or is refused: the lock is taken, and the totals are compared.
-use Rattle.std.proofs.Common.{◌≡◌, ◌≤◌, ◌<◌, [], ◌∷◌, length, refl, ap, sym, subst, ◌∙◌, arith}
+use Rattle.std.proofs.Common.{◌≡◌, ℕ, ◌≤◌, ◌<◌, [], ◌∷◌, length, refl, ap, sym, subst, ◌∙◌, arith, lt_of_not-le}
+use mathlib.Core.Logic.{dite}
+use native.Mathlib.Decide.{dec_le}
 use Rattle.std.specs.Prelude.{Some}
 use Rattle.atomic_table.specs.Seated.{TableId}
 use Rattle.rb_ledger.specs.declared.totals.Totals.{Totals}
+use Rattle.rb_queue.specs.Counts.{events_of}
 use Rattle.rb_queue.specs.History.{IsLegal}
 use Rattle.rb_kept.specs.Log.{Log}
 use Rattle.rb_kept.specs.Shares.{totals_of}
-use Rattle.rb_lock.specs.Records.{names_of, AreDifferent}
+use Rattle.rb_lock.specs.Parts.{all_parts}
+use Rattle.rb_lock.specs.Records.{times_in, names_of, AreDifferent}
 use Rattle.rb_lock.specs.Passes.{PassState, all_records, tally_of}
 use Rattle.rb_lock.specs.ClosedQueues.{HasCallsOf, IsNotAll, AreCounts}
 use Rattle.rb_lock.specs.Views.{idle, pass_of, holder_of, caught_up}
@@ -16,7 +20,7 @@ use Rattle.rb_lock.specs.declared.pair.Pair.{Pair}
 use Rattle.rb_lock.specs.declared.stage.Stage.TheVariants.{Idle}
 use Rattle.rb_lock.proofs.Sums.{times_in-append}
 use Rattle.rb_lock.proofs.LongerHistories.{grown_none}
-use Rattle.rb_lock.proofs.CountedCalls.{all_counted, not_counted}
+use Rattle.rb_lock.proofs.CountedCalls.{all_counted, counts_all, not_counted}
 use Rattle.rb_lock.proofs.RestingPasses.{learned, seen_as, found_pair, HasLooked, looked_counted}
 
 -- the pass took the lock, took the pair out of its slot, and has its share of the totals beside those of the books
@@ -61,6 +65,18 @@ module _ {T : Type 0} {pass : PassState} {seat0 seat1 : LockSeat T} {pair : Pair
     different = different;
     all = all_counted pair.kept.history (all_records pass) looked.found.fits.records different counts (sym has.share_is ∙ same ∙ has.books_are);
   }
+
+  -- A pass with all parts has all names that are given, so all events are its calls.
+  others_silent : pass.parts ≡ all_parts → (name : ℕ) → times_in name (names_of (all_records pass)) ≡ 0 → events_of pair.kept.history name ≡ []
+  others_silent all name out =
+      dite (dec_le got.names name) (λ above. looked.found.not_given name above)
+      (λ below. absurd (omega (arith, looked.found.whole all name (lt_of_not-le below), times_in-append name (names_of (all_records pass)) [], out)))
+
+  pub has_whole : pass.parts ≡ all_parts → share ≡ books
+  has_whole all =
+      has.share_is
+      ∙ counts_all pair.kept.history (all_records pass) looked.found.fits.records different counts (others_silent all)
+      ∙ sym has.books_are
 
   -- the pair is in its slot again
   module _ (seat2 : LockSeat T) (back : seat2 ≡ (seat1.0, (0, Some pair) ∷ [])) where

@@ -119,6 +119,25 @@ weigh_sum : (f : Event → ℕ) (events : List Event) → weigh f events ≡ sum
 weigh_sum f [] = omega arith
 weigh_sum f (event ∷ events) = omega (arith, weigh_sum f events, sum_by-cons f event events)
 
+-- where each seat that is not among them has no event, no event is left out
+none_outside : (history : List Event) (names : List ℕ) → ((name : ℕ) → times_in name names ≡ 0 → weigh (λ event. 1) (events_of history name) ≡ 0)
+    → left_out (λ event. 1) history names ≡ 0
+none_outside [] names none = refl
+none_outside (event ∷ history) names none = by_times (times_in event.seat names) refl (none_outside history names rest)
+  where
+    rest : (name : ℕ) → times_in name names ≡ 0 → weigh (λ event. 1) (events_of history name) ≡ 0
+    rest name out =
+        dite (ℕ_discrete name event.seat)
+        (λ (is : name ≡ event.seat). absurd (omega (arith, same_seat (λ event. 1) event history name is, none name out)))
+        (λ (apart : name ≢ event.seat). omega (arith, other_seat (λ event. 1) event history name apart, none name out))
+
+    by_times : (often : ℕ) → times_in event.seat names ≡ often → left_out (λ event. 1) history names ≡ 0
+        → left_if (times_in event.seat names) 1 + left_out (λ event. 1) history names ≡ 0
+    by_times zero is later = absurd (omega (arith, same_seat (λ event. 1) event history event.seat refl, none event.seat is))
+    by_times (suc often) is later =
+        let left : left_if (times_in event.seat names) 1 ≡ 0 = ap (λ (k : ℕ). left_if k 1) is in
+        omega (arith, left, later)
+
 -- how many elements an event offered, and gave out
 abbrev offers_of : Event → ℕ
 offers_of event = length (inserted (effect_of event.act))
@@ -144,6 +163,13 @@ module _ (history : List Event) (records : List PassRecord) (all : AreRecords hi
   same_of_long long =
       same_totals (totals_of (calls_of records)) (totals_of history) long (same_weight long offers_of) (same_weight long gives_of)
 
+  -- they have as many where no other seat has an event
+  pub long_of_names : ((name : ℕ) → times_in name (names_of records) ≡ 0 → events_of history name ≡ []) → length (calls_of records) ≡ length history
+  long_of_names none =
+      let out : left_out (λ event. 1) history (names_of records) ≡ 0 =
+      none_outside history (names_of records) (λ name apart. ap (weigh (λ event. 1)) (none name apart)) in
+      omega (arith, split_weight (λ event. 1), weigh_one (calls_of records), weigh_one history, out)
+
 capped_same : (totals : Totals) → AreCounts totals → capped totals ≡ totals
 capped_same totals fits = same_totals (capped totals) totals (omega (arith, fits.calls)) (omega (arith, fits.offered)) (omega (arith, fits.given))
 
@@ -161,3 +187,8 @@ module _ (history : List Event) (records : List PassRecord) (all : AreRecords hi
       let apart : length (calls_of records) ≢ length history =
       λ long. other (ap capped (same_of_long history records all different long) ∙ capped_same (totals_of history) fits) in
       omega (arith, few, apart)
+
+  -- where no other seat has an event, the share comes to the books
+  pub counts_all : ((name : ℕ) → times_in name (names_of records) ≡ 0 → events_of history name ≡ []) → capped (totals_of (calls_of records)) ≡ totals_of history
+  counts_all none =
+      ap capped (same_of_long history records all different (long_of_names history records all different none)) ∙ capped_same (totals_of history) fits

@@ -2,7 +2,8 @@
 pub mod Sums
 pub mod Beginnings
 pub mod LongerHistories
-pub mod HeldPairs
+pub mod Halvings
+mod HeldPairs
 pub mod CallTotals
 pub mod MadeCalls
 pub mod Openings

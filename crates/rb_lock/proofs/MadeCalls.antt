@@ -139,6 +139,7 @@ module _ (pass : PassState) (try : Try) (step : Result Outcome CallFault) (share
     opening = refl;
     folded = refl;
     noted = made.found.fits.noted;
+    parts = refl;
     begins = prefix_trans pass.seen log.history new.history made.found.fits.begins (made.grows.more, sym grown.is);
     sound = record {
       legal = subst (λ o. IsLegal o new.history) same_opening (legal_after log new try step made.steps made.legal);

@@ -50,13 +50,13 @@ is_longer (x ∷ one) (y ∷ other) (z ∷ whole) p q =
 pub notes : {T : Type 0} (id : ℕ) (pass : PassState) → Splits (Locked {T = T}) id (idle pass) (idle pass) (note_of (idle pass))
 notes id pass s law at =
     let fits = law.fits id (idle pass) at in
-    cut_in_two s law id (idle pass) at (idle pass) (note_of (idle pass)) (λ n. omega arith) refl fits
-    (record { capacity = fits.capacity; opening = fits.opening; begins = fits.begins; records = tt; noted = fits.noted; stage = tt })
+    cut_in_two s law id (idle pass) at (idle pass) (note_of (idle pass)) (λ n. omega arith) refl (omega arith) fits
+    (record { capacity = fits.capacity; opening = fits.opening; begins = fits.begins; records = tt; noted = fits.noted; stage = tt; part = λ name. refl })
 
 -- a note of another pass is held beside what this one has seen
 pub meets : {T : Type 0} (id other : ℕ) (one two : PassState) → Joins (Locked {T = T}) id (idle one) other (note_of (idle two)) (meeting (idle one) (note_of (idle two))) nobody
 meets id other one two s law at apart there =
-    made_one s law id (idle one) at other (note_of (idle two)) (meeting (idle one) (note_of (idle two))) nobody apart there (λ n. omega arith) refl
+    made_one s law id (idle one) at other (note_of (idle two)) (meeting (idle one) (note_of (idle two))) nobody apart there (λ n. omega arith) refl refl
     (λ first second.
     let lists = is_longer one.seen two.seen law.log.history first.begins second.begins in
     let own = first.records.0 in
@@ -74,6 +74,7 @@ meets id other one two s law at apart there =
       );
       noted = first.noted;
       stage = (first.begins, second.begins, second.capacity tt, second.opening tt);
+      part = first.part;
     }) (spent_fits law.log law.names)
 
 -- the view of a pass that compares what it had seen with what another had, in a run like its own
@@ -93,8 +94,8 @@ compares {T} slots id pass other room start s law many at small =
       w,
       keeps,
       tt,
-      unmoved s law id v at (slice_set s.words 0 n) s.homes w (λ name. refl)
-          (record { capacity = fits.capacity; opening = fits.opening; begins = fits.begins; records = fits.records; noted = fits.noted; stage = tt })
+      unmoved s law id v at (slice_set s.words 0 n) s.homes w (λ name. refl) refl
+          (record { capacity = fits.capacity; opening = fits.opening; begins = fits.begins; records = fits.records; noted = fits.noted; stage = tt; part = fits.part })
           (⊎_elim (λ (free : IsFree law.log law.names s).
           inl (record {
             words = (λ i. slice_set (free.words i) 0 (slice_index (free.words i) 0));

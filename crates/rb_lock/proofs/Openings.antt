@@ -1,5 +1,6 @@
 -- The rule holds when the lock is made.
-use Rattle.std.proofs.Common.{◌≡◌, ℕ, zero, suc, ◌==◌, List, [], ◌∷◌, refl, sym, subst, arith, inl}
+use Rattle.std.proofs.Common.{◌≡◌, ℕ, zero, suc, ◌==◌, List, [], ◌∷◌, refl, ap, sym, subst, arith, eq-eqb, inl}
+use Rattle.rb_lock.specs.Records.{bit}
 use Rattle.std.specs.Prelude.{Some}
 use mathlib.Core.Option.{some, some-injective, some-ne-none}
 use lib.ListN.{get_elem?}
@@ -12,6 +13,7 @@ use Rattle.rb_lock.specs.Rule.{Fits, Locked, pair_of}
 use Rattle.rb_lock.specs.declared.view.View.{View}
 use Rattle.rb_lock.proofs.Sums.{bit_apart, bit_small}
 use Rattle.rb_lock.proofs.Beginnings.{prefix_none}
+use Rattle.rb_lock.proofs.Halvings.{first_part}
 
 first_fits : (start : Log) → start.history ≡ [] → Fits start 1 (newcomer start)
 first_fits start empty = record {
@@ -21,6 +23,7 @@ first_fits start empty = record {
   records = (record { begins = prefix_none start.history; known = refl; all = subst (λ (h : List Event). events_of h 0 ≡ []) (sym empty) refl }, tt);
   noted = omega arith;
   stage = tt;
+  part = omega (arith, first_part);
 }
 
 pub opens : {T : Type 0} (start : Log) → start.history ≡ [] → Locked {T = T} (opening (0 ∷ []) (Some (pair_of start 1) ∷ []) (newcomer start))
@@ -32,6 +35,8 @@ opens start empty = record {
   fits = λ by v at. only by v at;
   once = λ name. omega (arith, bit_small (0 == name));
   below = λ name above. omega (arith, bit_apart 0 name (λ e. omega arith));
+  all = λ name less. let here : bit (0 == name) ≡ 1 = ap bit (eq-eqb 0 name (omega arith)) in omega (arith, here);
+  whole = omega arith;
   not_given = λ name above. subst (λ (h : List Event). events_of h name ≡ []) (sym empty) refl;
 }
   where

@@ -1,5 +1,5 @@
 -- The step that gives the lock back keeps the rule.
-use Rattle.std.proofs.Common.{◌≡◌, ◌≢◌, ℕ, ◌+◌, ◌<◌, ◌≤◌, ◌==◌, List, [], ◌∷◌, ◌++◌, set, refl, ap, sym, subst, ◌∙◌, arith, ⊎_elim, inl, lt_of_not-le}
+use Rattle.std.proofs.Common.{◌≡◌, ◌≢◌, ℕ, ◌+◌, ◌<◌, ◌≤◌, ◌==◌, List, [], ◌∷◌, ◌++◌, set, refl, ap, sym, subst, ◌∙◌, arith, eq-eqb, ⊎_elim, inl, lt_of_not-le}
 use mathlib.Core.Logic.{dite}
 use native.Mathlib.Decide.{dec_le}
 use Rattle.std.specs.Prelude.{Option, Some, slice_set}
@@ -11,9 +11,10 @@ use Rattle.atomic_table.proofs.Lists.{at_set}
 use Rattle.rb_queue.specs.Counts.{events_of}
 use Rattle.rb_queue.specs.declared.event.Event.{Event}
 use Rattle.rb_kept.specs.Log.{Log}
+use Rattle.rb_lock.specs.Parts.{least_part}
 use Rattle.rb_lock.specs.Records.{bit, times_in, names_of}
 use Rattle.rb_lock.specs.Passes.{PassState}
-use Rattle.rb_lock.specs.Views.{idle, records_of, weight, holders, is_held, drawn, total, holder_of, caught_up}
+use Rattle.rb_lock.specs.Views.{idle, records_of, weight, holders, is_held, drawn, drawn_part, total, holder_of, caught_up}
 use Rattle.rb_lock.specs.Rule.{AtStage, IsThere, Fits, Locked, IsFree, IsHeld, pair_of}
 use Rattle.rb_lock.specs.LockSteps.{LockSeat, MayGive, MayDraw, Grown, gave, drew}
 use Rattle.rb_lock.specs.declared.pair.Pair.{Pair}
@@ -23,6 +24,7 @@ use Rattle.rb_lock.specs.declared.stage.Stage.TheVariants.{Idle, Holds, Drew, Me
 use Rattle.rb_lock.specs.declared.view.View.{View}
 use Rattle.rb_lock.proofs.Sums.{total_set, total_at, total_two, bit_same, bit_other, bit_small, bit_apart, times_in-append}
 use Rattle.rb_lock.proofs.Beginnings.{prefix_self}
+use Rattle.rb_lock.proofs.Halvings.{halved, part_stays}
 use Rattle.rb_lock.proofs.LongerHistories.{grown_none, others_stay, begins_stay, records_stay}
 
 -- what the seat may be about to do, where the names go on from `names` to `after`
@@ -33,6 +35,8 @@ pub record IsNext (names after : ℕ) (log : Log) (next : Stage) : Type 0 where
   pub once : (n : ℕ) → times_in n (drawn next) ≤ 1
   pub old : (n : ℕ) → n < names → times_in n (drawn next) ≡ 0
   pub below : (n : ℕ) → after ≤ n → times_in n (drawn next) ≡ 0
+  pub new : (n : ℕ) → names ≤ n → n < after → 1 ≤ times_in n (drawn next)
+  pub part : least_part after + drawn_part next ≤ least_part names
   pub there : IsThere next
   pub stage : ((n : ℕ) → names ≤ n → events_of log.history n ≡ []) → AtStage log after after next
 
@@ -115,6 +119,7 @@ module _ {T : Type 0} (pass : PassState) (found new : Log) (names after : ℕ) (
         records = records_stay pass.name law.log.history new.history grown_now (records_of u) (omega (arith, split, away)) fits.records;
         noted = omega (arith, fits.noted, goes.more, own.stage.1);
         stage = stage_stays u.noted u.stage (not_held by u other there) (omega (arith, split, away)) fits.stage;
+        part = part_stays u.live u law.names after (omega (arith, goes.more, own.stage.1)) fits.part;
       }
 
   -- no event has a name that was not given
@@ -142,6 +147,7 @@ module _ {T : Type 0} (pass : PassState) (found new : Log) (names after : ℕ) (
         );
         noted = omega arith;
         stage = (goes.stage (λ n above. strangers_stay n (subst (λ (m : ℕ). m ≤ n) names_is above)));
+        part = omega (arith, goes.part, own.part, ap least_part names_is);
       }
 
   -- how often a name stands in the view now
@@ -162,6 +168,11 @@ module _ {T : Type 0} (pass : PassState) (found new : Log) (names after : ℕ) (
   now_below : (n : ℕ) → after ≤ n → total (weight n) (set s.views id (after_it pass found.history names after new.history next)) ≡ 0
   now_below n above = omega (arith, now_total n, law.below n, goes.below n above, goes.more, names_is)
 
+  now_all : (n : ℕ) → n < after → 1 ≤ total (weight n) (set s.views id (after_it pass found.history names after new.history next))
+  now_all n less = dite (dec_le names n)
+      (λ above. omega (arith, now_total n, goes.new n above less))
+      (λ below. omega (arith, now_total n, law.all n (omega (arith, names_is, lt_of_not-le below))))
+
   -- the rule holds again
   pub given : Locked (stepped s 0 0 id ((0, Some (pair_of new after)) ∷ []) (after_it pass found.history names after new.history next) gives)
   given = record {
@@ -177,6 +188,8 @@ module _ {T : Type 0} (pass : PassState) (found new : Log) (names after : ℕ) (
         (λ (else : (by ≢ id) × (get_elem? s.views by ≡ some u)). fits_stay by u else.0 else.1) (at_set s.views id by (after_it pass found.history names after new.history next) u there);
     once = now_once;
     below = now_below;
+    all = now_all;
+    whole = omega (arith, total_set (λ v. v.parts) s.views id (before pass found.history names) (after_it pass found.history names after new.history next) at, law.whole);
     not_given = λ n above. strangers_stay n (omega (arith, goes.more, names_is, above));
   }
 
@@ -189,6 +202,8 @@ next_idle names log few = record {
   once = λ n. omega arith;
   old = λ n less. refl;
   below = λ n above. refl;
+  new = λ n above less. absurd (omega arith);
+  part = omega arith;
   there = tt;
   stage = λ not_given. tt;
 }
@@ -202,6 +217,8 @@ next_drew names log few = record {
   once = λ n. omega (arith, bit_small (names == n));
   old = λ n less. omega (arith, bit_apart names n (λ e. omega arith));
   below = λ n above. omega (arith, bit_apart names n (λ e. omega arith));
+  new = λ n above less. let here : bit (names == n) ≡ 1 = ap bit (eq-eqb names n (omega arith)) in omega (arith, here);
+  part = omega (arith, halved names few);
   there = tt;
   stage = λ not_given. (omega arith, not_given names (omega arith));
 }

@@ -14,8 +14,8 @@ use Rattle.rb_lock.proofs.Sums.{total_set, total_snoc}
 module _ {T : Type 0} (s : State (Option (Pair T)) View) (law : Locked s) where
   -- all views change at once
   shared_out : (views : List View) → ((name : ℕ) → total (weight name) views ≡ total (weight name) s.views) → total holders views ≡ total holders s.views
-      → ((by : ℕ) (u : View) → get_elem? views by ≡ some u → Fits law.log law.names u) → Locked (record { words = s.words; homes = s.homes; views = views })
-  shared_out views same held fits = record {
+      → total (λ v. v.parts) views ≡ total (λ v. v.parts) s.views → ((by : ℕ) (u : View) → get_elem? views by ≡ some u → Fits law.log law.names u) → Locked (record { words = s.words; homes = s.homes; views = views })
+  shared_out views same held parts fits = record {
     log = law.log;
     names = law.names;
     few = law.few;
@@ -25,17 +25,20 @@ module _ {T : Type 0} (s : State (Option (Pair T)) View) (law : Locked s) where
     once = λ name. omega (arith, same name, law.once name);
     below = λ name above. same name ∙ law.below name above;
     not_given = law.not_given;
+    all = λ name less. omega (arith, same name, law.all name less);
+    whole = parts ∙ law.whole;
   }
 
   module _ (id : ℕ) (v : View) (at : get_elem? s.views id ≡ some v) where
     -- a view is cut in two
     pub cut_in_two : (left right : View) → ((name : ℕ) → weight name left + weight name right ≡ weight name v) → holders left + holders right ≡ holders v
-        → Fits law.log law.names left → Fits law.log law.names right → Locked (record { words = s.words; homes = s.homes; views = set s.views id left ++ right ∷ [] })
-    cut_in_two left right weighs held fits_left fits_right =
+        → left.parts + right.parts ≡ v.parts → Fits law.log law.names left → Fits law.log law.names right → Locked (record { words = s.words; homes = s.homes; views = set s.views id left ++ right ∷ [] })
+    cut_in_two left right weighs held parts fits_left fits_right =
         let views : List View = set s.views id left ++ right ∷ [] in
         shared_out views
         (λ name. omega (arith, total_snoc (weight name) (set s.views id left) right, total_set (weight name) s.views id v left at, weighs name))
         (omega (arith, total_snoc holders (set s.views id left) right, total_set holders s.views id v left at, held))
+        (omega (arith, total_snoc (λ v. v.parts) (set s.views id left) right, total_set (λ v. v.parts) s.views id v left at, parts))
         (λ by u there.
         ⊎_elim (λ (old : get_elem? (set s.views id left) by ≡ some u).
         ⊎_elim (λ (here : (by ≡ id) × (left ≡ u)). subst (Fits law.log law.names) here.1 fits_left)
@@ -45,14 +48,16 @@ module _ {T : Type 0} (s : State (Option (Pair T)) View) (law : Locked s) where
     -- two views are made one, and the other is spent
     pub made_one : (other : ℕ) (w both spent : View) → ¬ (other ≡ id) → get_elem? (set s.views id both) other ≡ some w
         → ((name : ℕ) → weight name both + weight name spent ≡ weight name v + weight name w) → holders both + holders spent ≡ holders v + holders w
+        → both.parts + spent.parts ≡ v.parts + w.parts
         → (Fits law.log law.names v → Fits law.log law.names w → Fits law.log law.names both) → Fits law.log law.names spent
         → Locked (record { words = s.words; homes = s.homes; views = set (set s.views id both) other spent })
-    made_one other w both spent apart there weighs held fits_both fits_spent =
+    made_one other w both spent apart there weighs held parts fits_both fits_spent =
         let was : get_elem? s.views other ≡ some w =
         ⊎_elim (λ (here : (other ≡ id) × (both ≡ w)). absurd (apart here.0)) (λ (else : (other ≢ id) × (get_elem? s.views other ≡ some w)). else.1) (at_set s.views id other both w there) in
         shared_out (set (set s.views id both) other spent)
         (λ name. omega (arith, total_set (weight name) (set s.views id both) other w spent there, total_set (weight name) s.views id v both at, weighs name))
         (omega (arith, total_set holders (set s.views id both) other w spent there, total_set holders s.views id v both at, held))
+        (omega (arith, total_set (λ v. v.parts) (set s.views id both) other w spent there, total_set (λ v. v.parts) s.views id v both at, parts))
         (λ by u now.
         ⊎_elim (λ (gone : (by ≡ other) × (spent ≡ u)). subst (Fits law.log law.names) gone.1 fits_spent)
         (λ (still : (by ≢ other) × (get_elem? (set s.views id both) by ≡ some u)).

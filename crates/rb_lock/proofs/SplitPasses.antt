@@ -1,13 +1,15 @@
 -- A pass splits another off: the lock is taken, a name is drawn as it is given back, and the seat is cut in two.
-use Rattle.std.proofs.Common.{◌≡◌, ℕ, ◌+◌, ◌<◌, [], ◌∷◌, ap, sym, subst, ◌∙◌}
+use Rattle.std.proofs.Common.{◌≡◌, ℕ, ◌+◌, ◌-◌, ◌<◌, [], ◌∷◌, ap, sym, subst, ◌∙◌, arith}
 use Rattle.std.specs.Prelude.{Option, Some, None}
 use Rattle.atomic_table.specs.Table.{Splits}
+use Rattle.rb_lock.specs.Parts.{least_part}
 use Rattle.rb_lock.specs.Passes.{PassState}
-use Rattle.rb_lock.specs.Views.{idle, holder_of, has_drawn, rested, cut_off}
+use Rattle.rb_lock.specs.Views.{idle, holder_of, has_drawn, cut_short, cut_off}
 use Rattle.rb_lock.specs.Rule.{pair_of, Locked}
 use Rattle.rb_lock.specs.LockSteps.{LockSeat, Noted, TakesLock, MayGive, MayDraw, NamesIn, in_hand}
 use Rattle.rb_lock.specs.declared.pair.Pair.{Pair}
 use Rattle.rb_lock.specs.declared.pair.TheConstants.{MOST_NAMES}
+use Rattle.rb_lock.proofs.Halvings.{halved}
 use Rattle.rb_lock.proofs.LongerHistories.{grown_none}
 use Rattle.rb_lock.proofs.Sharings.{drawing, cuts}
 use Rattle.rb_lock.proofs.RestingPasses.{learned, found_pair}
@@ -73,7 +75,15 @@ module _ {T : Type 0} (pass : PassState) (seat0 seat1 seat2 : LockSeat T) (rest 
       drawn_is : seat3 ≡ (drawing (learned pass (got.names + 1) got.log.history) got.names, [])
       drawn_is = drew ∙ ap (λ (m : LockSeat T). (has_drawn m.0 (in_hand m.1), [])) some_is
 
-      pub may_cut : (id : ℕ) → Splits (Locked {T = T}) id seat3.0 (rested seat3.0) (cut_off seat3.0)
+      -- the pass and the new one have the parts that the pass had
+      pub same_parts : (cut_short seat3.0).parts + (cut_off seat3.0).parts ≡ pass.parts
+      same_parts =
+          let few : got.names < MOST_NAMES = subst (λ (h : Pair T). h.names < MOST_NAMES) same_before naming.names.gives.1 in
+          let both : (pass.parts - least_part (got.names + 1)) + least_part (got.names + 1) ≡ pass.parts =
+          omega (arith, found_idle.fits.part, halved got.names few) in
+          ap (λ (m : LockSeat T). (cut_short m.0).parts + (cut_off m.0).parts) drawn_is ∙ both
+
+      pub may_cut : (id : ℕ) → Splits (Locked {T = T}) id seat3.0 (cut_short seat3.0) (cut_off seat3.0)
       may_cut id =
-          subst (λ (m : LockSeat T). Splits (Locked {T = T}) id m.0 (rested m.0) (cut_off m.0)) (sym drawn_is)
+          subst (λ (m : LockSeat T). Splits (Locked {T = T}) id m.0 (cut_short m.0) (cut_off m.0)) (sym drawn_is)
           (cuts id (learned pass (got.names + 1) got.log.history) got.names)

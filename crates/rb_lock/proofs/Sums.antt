@@ -28,6 +28,20 @@ module _ {V : Type 0} (f : V → ℕ) where
       let here : f x ≡ f w = ap f (some-injective x w there) in omega (arith, total_at views i v at)
   total_two (x ∷ views) (suc i) (suc j) v w apart at there = omega (arith, total_two views i j v w (λ e. apart (ap suc e)) at there)
 
+  -- nothing is summed up
+  total_none : (views : List V) → ((j : ℕ) (w : V) → get_elem? views j ≡ some w → f w ≡ 0) → total f views ≡ 0
+  total_none [] none = refl
+  total_none (x ∷ views) none = omega (arith, none zero x refl, total_none views (λ j w there. none (suc j) w there))
+
+  -- one summand alone
+  pub total_alone : (views : List V) (i : ℕ) (v : V) → get_elem? views i ≡ some v → ((j : ℕ) (w : V) → j ≢ i → get_elem? views j ≡ some w → f w ≡ 0) → total f views ≡ f v
+  total_alone [] i v at none = absurd (some-ne-none v (sym at))
+  total_alone (x ∷ views) zero v at none =
+      let here : f x ≡ f v = ap f (some-injective x v at) in
+      omega (arith, here, total_none views (λ j w there. none (suc j) w (λ e. absurd (omega arith)) there))
+  total_alone (x ∷ views) (suc i) v at none =
+      omega (arith, none zero x (λ e. absurd (omega arith)) refl, total_alone views i v at (λ j w apart there. none (suc j) w (λ e. apart (omega arith)) there))
+
   -- one summand more
   pub total_snoc : (views : List V) (v : V) → total f (views ++ v ∷ []) ≡ total f views + f v
   total_snoc [] v = omega arith

@@ -8,13 +8,15 @@ use prog.Atomic.{either}
 use Rattle.atomic_table.specs.Table.{State, Act, step, stepped, carried_after, Valid, keeps, takes, Allows}
 use Rattle.atomic_table.proofs.Lists.{at_set, exchanged}
 use Rattle.atomic_table.specs.Seated.{TableId}
+use Rattle.rb_lock.specs.Parts.{all_parts}
 use Rattle.rb_lock.specs.Passes.{PassState}
 use Rattle.rb_lock.specs.Views.{idle, pass_of, weight, holders, total, holder_of}
 use Rattle.rb_lock.specs.Rule.{Fits, Locked, IsFree, IsHeld, pair_of}
 use Rattle.rb_lock.specs.LockSteps.{LockSeat, AtRest, Noted, taken}
 use Rattle.rb_lock.specs.declared.pair.Pair.{Pair}
 use Rattle.rb_lock.specs.declared.view.View.{View}
-use Rattle.rb_lock.proofs.Sums.{total_set, total_at}
+use Rattle.rb_lock.proofs.Halvings.{nameless}
+use Rattle.rb_lock.proofs.Sums.{total_set, total_at, total_two, total_alone}
 
 module _ {T : Type 0} (s : State (Option (Pair T)) View) (law : Locked s) (id : ℕ) (v : View) (at : get_elem? s.views id ≡ some v) where
   -- what the rule tells of the view
@@ -25,13 +27,19 @@ module _ {T : Type 0} (s : State (Option (Pair T)) View) (law : Locked s) (id : 
     once = λ name. omega (arith, total_at (weight name) s.views id v at, law.once name);
     below = λ name above. omega (arith, total_at (weight name) s.views id v at, law.below name above);
     not_given = law.not_given;
+    whole = λ all name less. omega (arith, law.all name less, total_alone (weight name) s.views id v at (λ by u apart there. others all by u apart there name));
   }
+    where
+      others : v.parts ≡ all_parts → (by : ℕ) (u : View) → by ≢ id → get_elem? s.views by ≡ some u → (name : ℕ) → weight name u ≡ 0
+      others all by u apart there =
+          nameless u.live u law.names (law.fits by u there).part
+          (omega (arith, total_two (λ v. v.parts) s.views by id u v apart there at, law.whole, all))
 
   -- a view changes in which each name stands as often as before, and the log and the names stay
-  pub unmoved : (words : List ℕ) (homes : List (maybe.Option (Option (Pair T)))) (w : View) → ((name : ℕ) → weight name w ≡ weight name v) → Fits law.log law.names w
+  pub unmoved : (words : List ℕ) (homes : List (maybe.Option (Option (Pair T)))) (w : View) → ((name : ℕ) → weight name w ≡ weight name v) → w.parts ≡ v.parts → Fits law.log law.names w
       → (let s' : State (Option (Pair T)) View = record { words = words; homes = homes; views = set s.views id w } in IsFree law.log law.names s' ⊎ IsHeld s')
       → Locked (record { words = words; homes = homes; views = set s.views id w })
-  unmoved words homes w same own place = record {
+  unmoved words homes w same parts own place = record {
     log = law.log;
     names = law.names;
     few = law.few;
@@ -41,6 +49,8 @@ module _ {T : Type 0} (s : State (Option (Pair T)) View) (law : Locked s) (id : 
     once = λ name. omega (arith, total_set (weight name) s.views id v w at, law.once name, same name);
     below = λ name above. omega (arith, total_set (weight name) s.views id v w at, law.below name above, same name);
     not_given = law.not_given;
+    all = λ name less. omega (arith, total_set (weight name) s.views id v w at, law.all name less, same name);
+    whole = omega (arith, total_set (λ v. v.parts) s.views id v w at, law.whole, parts);
   }
 
 module _ {T : Type 0} (s : State (Option (Pair T)) View) (law : Locked s) (id : ℕ) (pass : PassState) (at : get_elem? s.views id ≡ some (idle pass)) (f : ℕ → ℕ) (busy : (n : ℕ) → 0 < f n) where
@@ -60,8 +70,8 @@ module _ {T : Type 0} (s : State (Option (Pair T)) View) (law : Locked s) (id : 
         w,
         takes 0 pair,
         ap (λ (hs : List (maybe.Option (Option (Pair T)))). get_elem? hs 0) free.homes,
-        unmoved s law id (idle pass) at (slice_set s.words 0 (f n)) (slice_set s.homes 0 none) w (λ name. refl)
-            (record { capacity = fits.capacity; opening = fits.opening; begins = fits.begins; records = fits.records; noted = omega arith; stage = (refl, refl) })
+        unmoved s law id (idle pass) at (slice_set s.words 0 (f n)) (slice_set s.homes 0 none) w (λ name. refl) refl
+            (record { capacity = fits.capacity; opening = fits.opening; begins = fits.begins; records = fits.records; noted = omega arith; stage = (refl, refl); part = fits.part })
             (inr (record {
               word = f n;
               words = ap (λ ws. slice_set ws 0 (f n)) free.words;
@@ -84,7 +94,7 @@ module _ {T : Type 0} (s : State (Option (Pair T)) View) (law : Locked s) (id : 
         idle pass,
         keeps,
         tt,
-        unmoved s law id (idle pass) at (slice_set s.words 0 (f n)) s.homes (idle pass) (λ name. refl) (law.fits id (idle pass) at)
+        unmoved s law id (idle pass) at (slice_set s.words 0 (f n)) s.homes (idle pass) (λ name. refl) refl (law.fits id (idle pass) at)
             (inr (record {
               word = f n;
               words = ap (λ ws. slice_set ws 0 (f n)) held.words;

@@ -14,6 +14,7 @@ use Rattle.rb_kept.specs.Shares.{Grows}
 use Rattle.rb_kept.specs.declared.tries.Try.{Try}
 use Rattle.rb_kept.specs.declared.outcome.Outcome.{Outcome}
 use Rattle.rb_kept.specs.declared.fault.CallFault.{CallFault}
+use Rattle.rb_lock.specs.Parts.{all_parts}
 use Rattle.rb_lock.specs.Passes.{PassState, IsSoundPass, tally_of}
 use Rattle.rb_lock.specs.Views.{weight, idle, pass_of, holder_of, caught_up, has_drawn, rested, note_of, longer}
 use Rattle.rb_lock.specs.Rule.{Fits, pair_of}
@@ -30,6 +31,8 @@ pub record Noted (log : Log) (names : ℕ) (v : View) : Type 0 where
   pub once : (name : ℕ) → weight name v ≤ 1
   pub below : (name : ℕ) → names ≤ name → weight name v ≡ 0
   pub not_given : (name : ℕ) → names ≤ name → events_of log.history name ≡ []
+  -- a view that has all parts has all names
+  pub whole : v.parts ≡ all_parts → (name : ℕ) → name < names → 1 ≤ weight name v
 
 -- the history has grown by events of this name alone
 pub record Grown (name : ℕ) (found new : List Event) : Type 0 where

@@ -1,5 +1,5 @@
 -- What contracts see of a pass: its queue, its name, what it has seen and made, and what was folded into it.
-use Rattle.std.specs.Prelude.{◌≡◌, ℕ, ◌≤◌, min, List, [], ◌∷◌, ◌++◌, length, refl}
+use Rattle.std.specs.Prelude.{◌≡◌, ℕ, ◌+◌, ◌≤◌, min, List, [], ◌∷◌, ◌++◌, length, refl}
 use Rattle.std.specs.Coded.{Coded, code_by, coded×, coded_ℕ, coded_list}
 use mathlib.Core.List.{IsPrefix}
 use Rattle.atomic_table.specs.Seated.{TableId, table_id_coded}
@@ -14,6 +14,7 @@ use Rattle.rb_queue.specs.contracts.opening.Opening as opening
 use Rattle.rb_kept.specs.Log.{Log}
 use Rattle.rb_kept.specs.Shares.{totals_of}
 use Rattle.rb_kept.specs.declared.kept.TheConstants.{MOST_CALLS}
+use Rattle.rb_lock.specs.Parts.{all_parts}
 use Rattle.rb_lock.specs.Records.{calls_of}
 use Rattle.rb_lock.specs.declared.pass_record.PassRecord.{PassRecord}
 use Rattle.rb_lock.specs.contracts.pass_record.PassRecord as entry
@@ -26,6 +27,8 @@ pub record PassState : Type 0 where
   pub opening : Opening
   -- how many names had been given when it last took the lock, its own draw among them
   pub noted : ℕ
+  -- its parts of the whole, which all passes of the queue have together
+  pub parts : ℕ
   -- the history, as far as it has seen it
   pub seen : List Event
   -- the events of its own calls
@@ -37,21 +40,22 @@ pub record PassState : Type 0 where
 abbrev pub seen_code : Coded PassState
 seen_code =
     code_by
-    (TableId × (ℕ × (ℕ × (Opening × (ℕ × (List Event × (List Event × List PassRecord)))))))
-    (coded× table_id_coded (coded× coded_ℕ (coded× coded_ℕ (coded× opening.the_row.coded (coded× coded_ℕ
+    (TableId × (ℕ × (ℕ × (Opening × (ℕ × (ℕ × (List Event × (List Event × List PassRecord))))))))
+    (coded× table_id_coded (coded× coded_ℕ (coded× coded_ℕ (coded× opening.the_row.coded (coded× coded_ℕ (coded× coded_ℕ
     (coded× (coded_list event.the_row.coded)
-    (coded× (coded_list event.the_row.coded) (coded_list entry.the_row.coded))))))))
+    (coded× (coded_list event.the_row.coded) (coded_list entry.the_row.coded)))))))))
     (λ pass.
-    (pass.table, (pass.name, (pass.capacity, (pass.opening, (pass.noted, (pass.seen, (pass.mine, pass.folded))))))))
+    (pass.table, (pass.name, (pass.capacity, (pass.opening, (pass.noted, (pass.parts, (pass.seen, (pass.mine, pass.folded)))))))))
     (λ p. record {
       table = p.0;
       name = p.1.0;
       capacity = p.1.1.0;
       opening = p.1.1.1.0;
       noted = p.1.1.1.1.0;
-      seen = p.1.1.1.1.1.0;
-      mine = p.1.1.1.1.1.1.0;
-      folded = p.1.1.1.1.1.1.1;
+      parts = p.1.1.1.1.1.0;
+      seen = p.1.1.1.1.1.1.0;
+      mine = p.1.1.1.1.1.1.1.0;
+      folded = p.1.1.1.1.1.1.1.1;
     })
     (λ _. refl)
 
@@ -103,7 +107,7 @@ pub record IsSoundPass (pass : PassState) : Type 0 where
   pub own : events_of pass.seen pass.name ≡ pass.mine
 
 -- The pass has seen a history that begins with all that it had seen, and noted at least as many names. Its
--- queue, its name and what was folded into it are as before.
+-- queue, its name, its parts and what was folded into it are as before.
 pub record Learns (old new : PassState) : Type 0 where
   pub table : new.table ≡ old.table
   pub name : new.name ≡ old.name
@@ -111,10 +115,11 @@ pub record Learns (old new : PassState) : Type 0 where
   pub opening : new.opening ≡ old.opening
   pub folded : new.folded ≡ old.folded
   pub noted : old.noted ≤ new.noted
+  pub parts : new.parts ≡ old.parts
   pub begins : IsPrefix old.seen new.seen
   pub sound : IsSoundPass new
 
--- the first pass of a queue: it has name 0, and has seen nothing
+-- the first pass of a queue: it has name 0 and all parts, and has seen nothing
 abbrev pub first_pass : TableId → Log → PassState
 first_pass table start = record {
   table = table;
@@ -122,15 +127,21 @@ first_pass table start = record {
   capacity = start.capacity;
   opening = start.opening;
   noted = 1;
+  parts = all_parts;
   seen = [];
   mine = [];
   folded = [];
 }
 
--- a pass split off under this name: it has seen the same, and made no call
-abbrev pub split_from : PassState → ℕ → PassState
-split_from pass name = record pass { name = name; mine = []; folded = [] }
+-- a pass with so many parts
+abbrev pub with_parts : PassState → ℕ → PassState
+with_parts pass parts = record pass { parts = parts }
 
--- a pass with another folded into it: the other's record and those folded into that follow its own
+-- a pass split off under this name, with so many parts: it has seen the same, and made no call
+abbrev pub split_from : PassState → ℕ → ℕ → PassState
+split_from pass name parts = record pass { name = name; parts = parts; mine = []; folded = [] }
+
+-- a pass with another folded into it: the other's record and those folded into that follow its own, and the parts are
+-- added up
 abbrev pub folded_with : PassState → PassState → PassState
-folded_with pass other = record pass { folded = pass.folded ++ all_records other }
+folded_with pass other = record pass { parts = pass.parts + other.parts; folded = pass.folded ++ all_records other }

@@ -1,13 +1,14 @@
 -- The rule of the lock: what holds of the word, of the pair at home and of all views, between any two steps.
-use Rattle.std.specs.Prelude.{◌≡◌, ℕ, ◌<◌, ◌≤◌, ◌⊎◌, [], ◌∷◌, Option, Some}
+use Rattle.std.specs.Prelude.{◌≡◌, ℕ, ◌+◌, ◌<◌, ◌≤◌, ◌⊎◌, Bool, true, false, [], ◌∷◌, Option, Some}
 use mathlib.Core.Option.{none, some}
 use mathlib.Core.List.{IsPrefix}
 use lib.ListN.{get_elem?}
 use Rattle.atomic_table.specs.Table.{State}
 use Rattle.rb_queue.specs.Counts.{events_of}
 use Rattle.rb_kept.specs.Log.{Log}
+use Rattle.rb_lock.specs.Parts.{all_parts, least_part}
 use Rattle.rb_lock.specs.Records.{AreRecords}
-use Rattle.rb_lock.specs.Views.{records_of, weight, holders, total}
+use Rattle.rb_lock.specs.Views.{records_of, weight, drawn_part, holders, total}
 use Rattle.rb_lock.specs.declared.pair.Pair.{Pair}
 use Rattle.rb_lock.specs.declared.pair.TheConstants.{MOST_NAMES}
 use Rattle.rb_lock.specs.declared.stage.Stage.{Stage}
@@ -31,9 +32,15 @@ IsThere (Drew name) = Unit {0}
 IsThere (Meets one other room start) = Unit {0}
 IsThere Gone = ⊥
 
+-- A view of a pass has at least the part that is left once so many names are given, beside that of a name that it
+-- has drawn; another view has no name.
+abbrev pub HasPart : Bool → ℕ → View → Type 0
+HasPart true names v = least_part names + drawn_part v.stage ≤ v.parts
+HasPart false names v = (name : ℕ) → weight name v ≡ 0
+
 -- A view fits the current log and the number of names: one that is not spent has this run's capacity and
--- opening, the history begins with what it has seen, all its records are of this history, and it has noted no
--- more names than are given.
+-- opening, the history begins with what it has seen, all its records are of this history, it has noted no
+-- more names than are given, and has a part.
 pub record Fits (log : Log) (names : ℕ) (v : View) : Type 0 where
   pub capacity : IsThere v.stage → v.capacity ≡ log.capacity
   pub opening : IsThere v.stage → v.opening ≡ log.opening
@@ -41,6 +48,7 @@ pub record Fits (log : Log) (names : ℕ) (v : View) : Type 0 where
   pub records : AreRecords log.history (records_of v)
   pub noted : v.noted ≤ names
   pub stage : AtStage log names v.noted v.stage
+  pub part : HasPart v.live names v
 
 module _ {T : Type 0} where
   abbrev pub pair_of : Log → ℕ → Pair T
@@ -61,8 +69,8 @@ module _ {T : Type 0} where
     pub one : total holders s.views ≡ 1
 
   -- The current log and the number of names are those of the pair at home or, while a seat holds, what that
-  -- seat noted. Each view fits them. No name occurs twice among all records and drawn names; each of these
-  -- is below the number, and so is each event's seat.
+  -- seat noted. Each view fits them. Among all records and drawn names, each given name occurs once and no other
+  -- does; each event's seat was given. The parts of all views are the whole.
   pub record Locked (s : State (Option (Pair T)) View) : Type 0 where
     pub log : Log
     pub names : ℕ
@@ -70,5 +78,7 @@ module _ {T : Type 0} where
     pub place : IsFree log names s ⊎ IsHeld s
     pub fits : (by : ℕ) (v : View) → get_elem? s.views by ≡ some v → Fits log names v
     pub once : (name : ℕ) → total (weight name) s.views ≤ 1
+    pub all : (name : ℕ) → name < names → 1 ≤ total (weight name) s.views
     pub below : (name : ℕ) → names ≤ name → total (weight name) s.views ≡ 0
     pub not_given : (name : ℕ) → names ≤ name → events_of log.history name ≡ []
+    pub whole : total (λ v. v.parts) s.views ≡ all_parts

@@ -1,5 +1,5 @@
 -- What the view of a seat has, and how the steps of the lock change it.
-use Rattle.std.specs.Prelude.{ℕ, ◌+◌, Bool, true, false, List, [], ◌∷◌, ◌++◌}
+use Rattle.std.specs.Prelude.{ℕ, ◌+◌, ◌-◌, Bool, true, false, List, [], ◌∷◌, ◌++◌}
 use Rattle.std.proofs.Math.Bridge.{no_suc-le-zero}
 use Prim.Native.Nat.{zero-le}
 use Rattle.atomic_table.specs.Seated.{TableId}
@@ -7,6 +7,7 @@ use Rattle.rb_queue.specs.Counts.{events_of}
 use Rattle.rb_queue.specs.declared.event.Event.{Event}
 use Rattle.rb_queue.specs.Opening.{IsOpening}
 use Rattle.rb_kept.specs.Log.{Log}
+use Rattle.rb_lock.specs.Parts.{all_parts, least_part}
 use Rattle.rb_lock.specs.Records.{times_in, names_of}
 use Rattle.rb_lock.specs.Passes.{PassState}
 use Rattle.rb_lock.specs.declared.pass_record.PassRecord.{PassRecord}
@@ -21,6 +22,7 @@ idle pass = record {
   capacity = pass.capacity;
   opening = pass.opening;
   noted = pass.noted;
+  parts = pass.parts;
   name = pass.name;
   seen = pass.seen;
   mine = pass.mine;
@@ -36,6 +38,7 @@ pass_of table v = record {
   capacity = v.capacity;
   opening = v.opening;
   noted = v.noted;
+  parts = v.parts;
   seen = v.seen;
   mine = v.mine;
   folded = v.folded;
@@ -79,13 +82,14 @@ abbrev pub total : {V : Type 0} → (V → ℕ) → List V → ℕ
 total f [] = 0
 total f (v ∷ views) = f v + total f views
 
--- the first pass of a queue: it has name 0, and has seen nothing
+-- the first pass of a queue: it has name 0 and all parts, and has seen nothing
 abbrev pub newcomer : Log → View
 newcomer start = record {
   live = true;
   capacity = start.capacity;
   opening = start.opening;
   noted = 1;
+  parts = all_parts;
   name = 0;
   seen = [];
   mine = [];
@@ -117,13 +121,25 @@ drawn_name (Holds found) = 0
 drawn_name (Meets one other room start) = 0
 drawn_name Gone = 0
 
--- the view of a new pass, under the name that was drawn: it has seen the same, and made no call
-abbrev pub cut_off : View → View
-cut_off v = record v { name = drawn_name v.stage; mine = []; folded = []; stage = Idle }
+-- the part of the pass that gets the drawn name
+abbrev pub drawn_part : Stage → ℕ
+drawn_part (Drew name) = least_part (name + 1)
+drawn_part Idle = 0
+drawn_part (Holds found) = 0
+drawn_part (Meets one other room start) = 0
+drawn_part Gone = 0
 
--- the other view's records after its own
+-- what a seat keeps when the new pass is cut off it
+abbrev pub cut_short : View → View
+cut_short v = record v { parts = v.parts - drawn_part v.stage; stage = Idle }
+
+-- the view of the new pass, under the name that was drawn: it has seen the same, and made no call
+abbrev pub cut_off : View → View
+cut_off v = record v { name = drawn_name v.stage; parts = drawn_part v.stage; mine = []; folded = []; stage = Idle }
+
+-- the other view's records after its own, and the parts of both
 abbrev pub folding : View → View → View
-folding v w = record v { folded = v.folded ++ records_of w }
+folding v w = record v { parts = v.parts + w.parts; folded = v.folded ++ records_of w }
 
 -- no elements, and ids from 0 on, are an opening
 pub empty_is_opening : IsOpening [] 0
@@ -143,6 +159,7 @@ nobody = record {
   capacity = 0;
   opening = record { elements = []; next_id = 0; last_at = 0; opening = empty_is_opening };
   noted = 0;
+  parts = 0;
   name = 0;
   seen = [];
   mine = [];
@@ -152,7 +169,7 @@ nobody = record {
 
 -- a note of what a seat has seen
 abbrev pub note_of : View → View
-note_of v = record v { live = false; mine = []; folded = []; stage = Idle }
+note_of v = record v { live = false; parts = 0; mine = []; folded = []; stage = Idle }
 
 -- the longer of two lists, if one of them begins the other
 abbrev pub longer : List Event → List Event → List Event

@@ -10,7 +10,8 @@ use std::marker::Model;
 /// The right of one thread to call a shared queue, under a name of its own.
 ///
 /// It stores its calls' share of the totals. Contracts see what it has seen of the history, its own
-/// calls, and the passes that were folded into it; none of that is stored.
+/// calls, the passes that were folded into it, and its parts of the whole, by which a pass knows that no other is left;
+/// none of that is stored.
 #[derive(Drop)]
 pub struct Pass<T: Timer> {
     pub(crate) seat: PassSeat<T>,

@@ -1,8 +1,9 @@
-ghost use Rattle.std.specs.Prelude.{◌≡◌, ◌≤◌, ◌<◌, ◌⊎◌, [], ◌∷◌, ℕ, Some, IfOk, IfErr, OnErr};
+ghost use Rattle.std.specs.Prelude.{◌≡◌, ◌≢◌, ◌+◌, ◌≤◌, ◌<◌, ◌⊎◌, [], ◌∷◌, ℕ, Some, IfOk, IfErr, OnErr};
 ghost use mathlib.Core.List.{IsPrefix};
 ghost use Rattle.rb_ledger.specs.Totals.{nothing};
 ghost use Rattle.rb_queue.specs.Counts.{events_of, audit_of};
-ghost use Rattle.rb_lock.specs.Passes.{first_pass, split_from, folded_with, all_records, tally_of, Learns};
+ghost use Rattle.rb_lock.specs.Parts.{all_parts};
+ghost use Rattle.rb_lock.specs.Passes.{first_pass, split_from, with_parts, folded_with, all_records, tally_of, Learns};
 ghost use Rattle.rb_kept.specs.Shares.{totals_of};
 ghost use Rattle.rb_lock.specs.SharedCalls.{Answered};
 ghost use Rattle.rb_lock.specs.ClosedQueues.{HasCallsOf, IsRefused, AreCounts};
@@ -53,7 +54,7 @@ impl<T: Timer> Model for Shared<T> {
 }
 
 impl<T: Timer> Shared<T> {
-    /// Shares a queue that has not been called yet, and returns its first pass, of name 0.
+    /// Shares a queue that has not been called yet, and returns its first pass, of name 0, which has all parts.
     ///
     /// It takes memory only for the lock. If there is not enough, the fault is `Memory`, and the queue and
     /// its share are handed back.
@@ -94,12 +95,14 @@ impl<T: Timer> Shared<T> {
     /// The new pass has seen what this one has, and has made no call. Its name is below 65,536, and none
     /// of those that this pass knew to be given; this pass now knows it to be given. The fault is `Names`,
     /// only if all 65,536 names are given.
-    /// Either way this pass may have seen more of the history than before.
+    /// Either way this pass may have seen more of the history than before. Together they have the parts that it had.
     pub fn split<R: Wait>(&self, rt: &R, pass: &mut Pass<T>) -> Result<Pass<T>, SplitFault>
         requires pass { pass.old.table ≡ self.now }
-        ensures learns { Learns pass.old pass.new }
+        ensures learns { Learns (with_parts pass.old pass.new.parts) pass.new }
         ensures mine { pass.new.mine ≡ pass.old.mine }
-        ensures child { IfOk result (λ child. child ≡ split_from pass.new child.name) }
+        ensures parts { IfOk result (λ child. pass.new.parts + child.parts ≡ pass.old.parts) }
+        ensures whole { OnErr result (pass.new.parts ≡ pass.old.parts) }
+        ensures child { IfOk result (λ child. child ≡ split_from pass.new child.name child.parts) }
         ensures unheard { IfOk result (λ child. events_of child.seen child.name ≡ []) }
         ensures later { IfOk result (λ child. pass.old.noted ≤ child.name) }
         ensures noted { IfOk result (λ child. child.name < pass.new.noted) }
@@ -118,8 +121,8 @@ impl<T: Timer> Shared<T> {
         Ok(Pass { seat, name, tally })
     }
 
-    /// Folds another pass, and all that were folded into it, into this one, which counts their calls from
-    /// now on. It does not wait.
+    /// Folds another pass, and all that were folded into it, into this one, which counts their calls, and has their
+    /// parts, from now on. It does not wait.
     pub fn fold(&self, pass: &mut Pass<T>, other: Pass<T>)
         requires pass { pass.old.table ≡ self.now }
         requires other { other.table ≡ self.now }
@@ -213,7 +216,8 @@ impl<T: Timer> Shared<T> {
     /// another pass calls, and takes no memory.
     ///
     /// The history that comes back consists of the calls of these passes. The fault is `NotAll` if the
-    /// pass's totals are not those of the whole history; it hands everything back.
+    /// pass's totals are not those of the whole history; it hands everything back. A pass with all parts is not
+    /// refused: each one that was split off has been folded again.
     pub fn close<R: Wait>(
         self,
         rt: &R,
@@ -230,6 +234,7 @@ impl<T: Timer> Shared<T> {
         ensures learns { IfErr result (λ refused. Learns pass refused.1) }
         ensures mine { IfErr result (λ refused. refused.1.mine ≡ pass.mine) }
         ensures not_all { IfErr result (λ refused. IsRefused refused.1 refused.2) }
+        ensures missing { OnErr result (pass.parts ≢ all_parts) }
     {
         let Pass {
             mut seat,

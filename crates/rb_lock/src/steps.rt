@@ -32,13 +32,13 @@ impl<T: Timer> Play<Option<Pair<T>>, View> for Draw {
     ghost then = { drew };
 }
 
-/// A new seat is cut off, and gets the drawn name.
+/// A new seat is cut off, and gets the drawn name and its part.
 pub(crate) struct Cut;
 
 impl Split<View> for Cut {
-    ghost use Rattle.rb_lock.specs.Views.{rested, cut_off};
+    ghost use Rattle.rb_lock.specs.Views.{cut_short, cut_off};
 
-    ghost left = { rested };
+    ghost left = { cut_short };
 
     ghost right = { cut_off };
 }

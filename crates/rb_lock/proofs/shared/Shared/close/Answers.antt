@@ -5,7 +5,7 @@ use Rattle.rb_queue.specs.declared.audit.Audit.{Audit}
 use Rattle.rb_lock.specs.LockSteps.{LockSeat}
 use Rattle.rb_lock.specs.Passes.{PassState, tally_of}
 use Rattle.rb_lock.specs.Views.{idle, pass_of}
-use Rattle.rb_lock.proofs.Closings.{HasTotals, has_all_calls, back_may_give, refused}
+use Rattle.rb_lock.proofs.Closings.{HasTotals, has_all_calls, has_whole, back_may_give, refused}
 use Rattle.rb_lock.proofs.EqualTotals.{equal_totals, other_totals}
 use Rattle.rb_lock.proofs.RestingPasses.{found_in_hand}
 use Rattle.rb_lock.proofs.shared.Shared.close.Given.{Over}
@@ -46,3 +46,8 @@ returns-clause-not_all g c =
     let table = c.give.ensures.table ∙ (c.put_back.ensures.table ∙ (c.take_out-pair.ensures.table ∙ (c.take.ensures.table ∙ ap (λ (p : PassState). p.table) c.pass.view_is))) in
     refused (has_totals g at.After-totals-counted) c.put_back.new.seat.me (back_in_hand g at.After-put_back) c.give.new.seat.table_id c.give.new.seat.me table c.give.ensures.seen
     (other_totals c.totals-counted.result c.totals_in-booked.result c.if-eq.ensures)
+
+pub returns-clause-missing : goal.returns-clause-missing
+returns-clause-missing g c all =
+    let at = goal.at.returns-clause-missing g c in
+    other_totals c.totals-counted.result c.totals_in-booked.result c.if-eq.ensures (has_whole (has_totals g at.After-totals-counted) all)

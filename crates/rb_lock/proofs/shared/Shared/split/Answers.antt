@@ -1,9 +1,9 @@
 -- With a name left it is drawn and the seat cut in two; with none the lock is just given back.
-use Rattle.std.proofs.Common.{arith, sym, ap, ◌∙◌}
+use Rattle.std.proofs.Common.{◌+◌, arith, sym, ap, ◌∙◌}
 use Rattle.rb_lock.specs.Passes.{PassState}
 use Rattle.rb_lock.specs.Views.{pass_of}
 use Rattle.rb_lock.proofs.RestingPasses.{found_in_hand}
-use Rattle.rb_lock.proofs.SplitPasses.{none_may_give, may_draw, may_cut}
+use Rattle.rb_lock.proofs.SplitPasses.{none_may_give, may_draw, may_cut, same_parts}
 use Rattle.rb_lock.proofs.shared.Shared.split.Goals as goal
 
 pub next_name-requires-clause-hand : goal.next_name-requires-clause-hand
@@ -27,3 +27,11 @@ split_seat-seat-requires g c = (
   may_cut {T = g.row.T.Denot} (pass_of c.pass.inside.seat.table_id c.pass.inside.seat.me.0) c.pass.inside.seat.me c.take.new.seat.me c.next_name.new.seat.me
       c.pass.invariant.rest c.take.ensures.taken c.in-Some.name c.in-Some.ensures.names c.give_and_draw.new.seat.me c.give_and_draw.ensures.drawn c.give_and_draw.new.seat.id,
 )
+
+pub returns-clause-parts : goal.returns-clause-parts
+returns-clause-parts g c =
+    let cut = c.split_seat-seat in
+    (λ i. (cut.ensures.2 i).0.parts + (cut.ensures.4 i).0.parts)
+    ∙ same_parts {T = g.row.T.Denot} (pass_of c.pass.inside.seat.table_id c.pass.inside.seat.me.0) c.pass.inside.seat.me c.take.new.seat.me c.next_name.new.seat.me
+    c.pass.invariant.rest c.take.ensures.taken c.in-Some.name c.in-Some.ensures.names c.give_and_draw.new.seat.me c.give_and_draw.ensures.drawn
+    ∙ ap (λ (p : PassState). p.parts) c.pass.view_is
