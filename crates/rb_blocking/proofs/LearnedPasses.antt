@@ -16,6 +16,7 @@ learns_nothing pass sound = record {
   opening = refl;
   folded = refl;
   noted = omega arith;
+  parts = refl;
   begins = ([], append-nil pass.seen);
   sound = sound;
 }
@@ -30,6 +31,7 @@ module _ (first old new : PassState) (before : Learns first old) where
     opening = call.opening ∙ before.opening;
     folded = call.folded ∙ before.folded;
     noted = omega (arith, before.noted, call.noted);
+    parts = call.parts ∙ before.parts;
     begins = prefix_trans first.seen old.seen new.seen before.begins call.begins;
     sound = call.sound;
   }

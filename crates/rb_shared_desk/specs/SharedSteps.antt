@@ -26,13 +26,14 @@ pub record SharedState (C G : Type 0) : Type 0 where
   pub before : ℕ
 
 -- What no call changes: which reference the desk holds, and of the pass its queue with what that began
--- with and may hold, its name, and what was folded into it.
+-- with and may hold, its name, its parts, and what was folded into it.
 pub record SharedName : Type 0 where
   pub reference : ℕ
   pub table : TableId
   pub name : ℕ
   pub capacity : ℕ
   pub opening : Opening
+  pub parts : ℕ
   pub folded : List PassRecord
 
 -- The gate said no before the first try, and the pass has made no further call.
@@ -49,6 +50,7 @@ module _ {C G : Type 0} where
     name = state.pass.name;
     capacity = state.pass.capacity;
     opening = state.pass.opening;
+    parts = state.pass.parts;
     folded = state.pass.folded;
   }
 
