@@ -2,7 +2,7 @@
 use Rattle.std.proofs.Common.{◌≡◌, ℕ, ◌+◌, ◌-◌, ◌<◌, List, [], ◌∷◌, ◌++◌, refl, sym, subst, ap, ap₂, ◌∙◌}
 use Rattle.std.proofs.Common.{arith, length-append, append_assoc}
 use Rattle.std.proofs.lemmas.List.{append-nil, flat_map_more}
-use Rattle.rb_lock.specs.Passes.{PassState, Learns, record_of, folded_with}
+use Rattle.rb_lock.specs.Passes.{PassState, Learns, record_of, with_parts, folded_with}
 use Rattle.rb_lock.specs.declared.pass_record.PassRecord.{PassRecord}
 use Rattle.rb_serving.specs.DoorSteps.{DoorStep, Gathers, all_steps}
 use Rattle.rb_serving.specs.Terms.{Terms}
@@ -24,6 +24,7 @@ module _ {I O G C : Type 0} (terms : Terms I O G C) where
     counted = uncounted;
     folded = sym (append-nil pass.folded);
     table = refl;
+    parts = refl;
     capacity = refl;
     opening = refl;
     mine = refl;
@@ -32,10 +33,10 @@ module _ {I O G C : Type 0} (terms : Terms I O G C) where
   -- one worker more is folded in last
   pub folds_one_more : (count : ℕ) (logs : List (List (DoorStep I O G))) (log : List (DoorStep I O G))
       (old cut rest done new : PassState) (counts more : VisitCounts) → 0 < count
-      → Learns old cut → cut.mine ≡ old.mine → FoldsWorkers terms (count - 1) logs cut rest more
+      → Learns (with_parts old cut.parts) cut → cut.mine ≡ old.mine → cut.parts + done.parts ≡ old.parts → FoldsWorkers terms (count - 1) logs cut rest more
       → IsWorkerResult terms cut.capacity cut.opening log done counts → new ≡ folded_with rest done
       → FoldsWorkers terms count (logs ++ log ∷ []) old new (both_counts more counts)
-  folds_one_more count logs log old cut rest done new counts more some learns mine others worked is =
+  folds_one_more count logs log old cut rest done new counts more some learns mine parts others worked is =
       let last : List PassRecord = record_of done ∷ [] in record {
         records = others.records ++ last;
         many = omega (arith, some, others.many, length-append others.records last);
@@ -51,6 +52,7 @@ module _ {I O G C : Type 0} (terms : Terms I O G C) where
             (others.folded ∙ ap (λ (front : List PassRecord). front ++ others.records) learns.folded) worked.alone
             ∙ append_assoc old.folded others.records last;
         table = ap (λ (pass : PassState). pass.table) is ∙ others.table ∙ learns.table;
+        parts = ap (λ (pass : PassState). pass.parts) is ∙ ap (λ (parts : ℕ). parts + done.parts) others.parts ∙ parts;
         capacity = ap (λ (pass : PassState). pass.capacity) is ∙ others.capacity ∙ learns.capacity;
         opening = ap (λ (pass : PassState). pass.opening) is ∙ others.opening ∙ learns.opening;
         mine = ap (λ (pass : PassState). pass.mine) is ∙ others.mine ∙ mine;

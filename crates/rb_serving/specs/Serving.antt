@@ -21,10 +21,11 @@ use Rattle.rb_serving.specs.Visits.{AllServed, IsWorker, AreWorkers, counts_of, 
 use Rattle.rb_serving.specs.declared.serve_report.ServeReport.{ServeReport}
 use Rattle.rb_serving.specs.declared.visit_counts.VisitCounts.{VisitCounts}
 
--- The pass called for visitors: it is of the same queue, has the same name, and nothing was folded into it.
+-- The pass called for visitors: it is of the same queue, has the same name and parts, and nothing was folded into it.
 pub record IsWorked (old new : PassState) : Type 0 where
   pub table : new.table ≡ old.table
   pub name : new.name ≡ old.name
+  pub parts : new.parts ≡ old.parts
   pub folded : new.folded ≡ old.folded
   pub capacity : new.capacity ≡ old.capacity
   pub opening : new.opening ≡ old.opening
@@ -53,8 +54,8 @@ module _ {I O G C : Type 0} (terms : Terms I O G C) where
     pub works : IsWorker terms room begun log visits pass
     pub counted : counts ≡ counts_of visits
 
-  -- The passes of this many workers were folded into the pass, which made no call itself. These are the counts of
-  -- all visits.
+  -- The passes of this many workers were split off the pass and folded into it again; it made no call itself. These are
+  -- the counts of all visits.
   pub record FoldsWorkers (workers : ℕ) (logs : List (List (DoorStep I O G))) (old new : PassState) (counts : VisitCounts)
       : Type 0 where
     pub records : List PassRecord
@@ -64,6 +65,7 @@ module _ {I O G C : Type 0} (terms : Terms I O G C) where
     pub counted : counts ≡ counts_of (all_visits visits)
     pub folded : new.folded ≡ old.folded ++ records
     pub table : new.table ≡ old.table
+    pub parts : new.parts ≡ old.parts
     pub capacity : new.capacity ≡ old.capacity
     pub opening : new.opening ≡ old.opening
     pub mine : new.mine ≡ old.mine
@@ -100,18 +102,12 @@ module _ {I O G C : Type 0} (terms : Terms I O G C) where
       (begun : Opening) (options : ServerRunOptions) (report : ServeReport T)
       → (run : IsServersRun begun options report) → AllServed terms (all_steps run.logs)
 
--- the faults that may end a server
-abbrev pub EndsServing : BrokerFault → Type 0
-EndsServing Broker.Worker = Unit {0}
-EndsServing Broker.NotGathered = Unit {0}
-EndsServing _ = ⊥
-
--- the same where the run has a recorder, and what became of that: it has not begun, or could not, or has
-abbrev pub EndsRecorded : {B : Type 0} → (B → B → Type 0) → (B → B → Type 0) → B → B → BrokerFault → Type 0
-EndsRecorded has_begun has_failed old new Broker.Worker = new ≡ old
-EndsRecorded has_begun has_failed old new Broker.WriteHistory = has_failed old new
-EndsRecorded has_begun has_failed old new Broker.NotGathered = has_begun old new
-EndsRecorded _ _ _ _ _ = ⊥
+-- what became of the recorder of a server that served nobody, for this fault: a worker is missing and it has not begun, or
+-- it could not
+abbrev pub EndsRecorded : {B : Type 0} → (B → B → Type 0) → B → B → BrokerFault → Type 0
+EndsRecorded has_failed old new Broker.Worker = new ≡ old
+EndsRecorded has_failed old new Broker.WriteHistory = has_failed old new
+EndsRecorded _ _ _ _ = ⊥
 
 -- the history was written to the recorder, if that keeps it; otherwise nothing was to be done
 abbrev pub RecordsIn : {B : Type 0} → (B → Bool) → (B → Option (List ℕ)) → Log → Result (Unit {0}) HistoryFault → B → B
@@ -138,10 +134,11 @@ module _ {I O G C : Type 0} (terms : Terms I O G C) where
     pub prints : Prints printed got (report_text report) got'
     pub outcome : ended ≡ first_fault recorded printed
 
--- no run was served, for this reason, and nothing was printed
-pub record FailsRun {B : Type 0} (has_begun has_failed : B → B → Type 0) (old new : B) (got got' : Option (List ℕ))
-    (ended : Result (Unit {0}) BrokerFault) : Type 0 where
+-- no run was served, for this reason: nothing happened at any entrance, and nothing was printed
+pub record FailsRun {D I O G B : Type 0} (has_joined : D → ℕ → List (DoorStep I O G) → Type 0) (has_failed : B → B → Type 0)
+    (old_door new_door : D) (old new : B) (got got' : Option (List ℕ)) (ended : Result (Unit {0}) BrokerFault) : Type 0 where
   pub fault : BrokerFault
-  pub reason : EndsRecorded has_begun has_failed old new fault
+  pub unused : Gathers has_joined old_door [] new_door
+  pub reason : EndsRecorded has_failed old new fault
   pub silent : got' ≡ got
   pub outcome : ended ≡ Err fault

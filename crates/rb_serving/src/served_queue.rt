@@ -1,4 +1,5 @@
 ghost use Rattle.std.specs.Prelude.{◌≡◌, IfOk, IfErr};
+ghost use Rattle.rb_lock.specs.Parts.{all_parts};
 ghost use Rattle.rb_serving.specs.Serving.{IsOpened};
 
 use rb_ending::BrokerFault;
@@ -15,6 +16,8 @@ pub struct ServedQueue<T: Timer> {
     pub(crate) shared: Shared<T>,
     pub(crate) pass: Pass<T>,
     ghost of: { pass.table ≡ shared },
+    // No other pass is left, so the queue can be closed.
+    ghost whole: { pass.parts ≡ all_parts },
 }
 
 impl<T: Timer> ServedQueue<T> {

@@ -52,7 +52,7 @@ pub fn serve_run<
         → EndsRun (terms_of D.Reader.Read D.Writer.Write D.Gate.Gate C.Clock clock.now options.now.policy (Delivery.Gathered HandsOn.BeforeReadsAndWaits) queue.shared)
         T D.has_joined B.has_begun B.keeps B.contents opening options.now door result.0 recorder result.1
         (W.contents writer.old) (W.contents writer.new) result.2
-        ⊎ FailsRun B.has_begun B.has_failed recorder result.1 (W.contents writer.old) (W.contents writer.new) result.2 }
+        ⊎ FailsRun D.has_joined B.has_failed door result.0 recorder result.1 (W.contents writer.old) (W.contents writer.new) result.2 }
 {
     let (door, mut recorder, served) = serve_door_gathered(
         rt, alloc, door, clock, options, queue, recorder,

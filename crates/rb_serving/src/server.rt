@@ -1,10 +1,12 @@
-ghost use Rattle.std.specs.Prelude.{◌≡◌, IfOk, IfErr, MatchResult};
+ghost use Rattle.std.specs.Prelude.{◌≡◌, ◌<◌, [], IfOk, IfErr, OnErr, MatchResult};
+ghost use Rattle.rb_lock.specs.Parts.{all_parts};
 ghost use Rattle.rb_queue.specs.declared.opening.Opening.{Opening};
 ghost use Rattle.rb_serving.specs.DoorSteps.{Gathers, all_steps};
-ghost use Rattle.rb_serving.specs.Serving.{EndsRecorded, EndsServing, IsOpened, IsReport, IsServersRun};
+ghost use Rattle.rb_serving.specs.Serving.{EndsRecorded, IsOpened, IsReport, IsServersRun};
 ghost use Rattle.rb_serving.specs.Terms.{terms_of};
 ghost use Rattle.rb_serving.specs.Visits.{Satisfies};
 
+use crate::decision::{Decider, Deciding};
 use crate::door::Door;
 use crate::recorder::{NoRecorder, Recorder};
 use crate::serve_report::ServeReport;
@@ -19,6 +21,8 @@ use rb_options::ServerRunOptions;
 use rb_session::{Delivery, HandsOn};
 use rb_timer::Timer;
 use std::alloc::Global;
+use std::marker::Brand;
+use std::sync::ledger::Blank;
 use std::sync::{OnceLock, Wait};
 use std::thread::Threads;
 use std::time;
@@ -50,7 +54,8 @@ pub fn serve_door<
     ensures served { (opening : Opening) → IsOpened opening options.now queue.shared queue.pass → IfOk result.1 (λ report. (run : IsServersRun
         (terms_of D.Reader.Read D.Writer.Write D.Gate.Gate C.Clock clock.now options.now.policy Delivery.AtOnce queue.shared)
         opening options.now report) × Gathers D.has_joined door (all_steps run.logs) result.0) }
-    ensures fault { IfErr result.1 EndsServing }
+    ensures unused { OnErr result.1 (Gathers D.has_joined door [] result.0) }
+    ensures fault { IfErr result.1 (λ fault. fault ≡ BrokerFault.Worker) }
 {
     let at_once = Delivery::AtOnce;
     let (door, _, served) = serve_delivering(
@@ -89,8 +94,9 @@ pub fn serve_door_gathered<
     ensures served { (opening : Opening) → IsOpened opening options.now queue.shared queue.pass → IfOk result.2 (λ report. (run : IsServersRun
         (terms_of D.Reader.Read D.Writer.Write D.Gate.Gate C.Clock clock.now options.now.policy (Delivery.Gathered HandsOn.BeforeReadsAndWaits) queue.shared)
         opening options.now report) × Gathers D.has_joined door (all_steps run.logs) result.0) }
+    ensures unused { OnErr result.2 (Gathers D.has_joined door [] result.0) }
     ensures recorder { MatchResult result.2 (λ _. B.has_begun recorder result.1)
-        (EndsRecorded B.has_begun B.has_failed recorder result.1) }
+        (EndsRecorded B.has_failed recorder result.1) }
 {
     let delivery = Delivery::Gathered(HandsOn::BeforeReadsAndWaits);
     serve_delivering(rt, alloc, door, clock, options, delivery, queue, recorder)
@@ -119,8 +125,55 @@ fn serve_delivering<
     ensures served { (opening : Opening) → IsOpened opening options.now queue.shared queue.pass → IfOk result.2 (λ report. (run : IsServersRun
         (terms_of D.Reader.Read D.Writer.Write D.Gate.Gate C.Clock clock.now options.now.policy delivery queue.shared)
         opening options.now report) × Gathers D.has_joined door (all_steps run.logs) result.0) }
+    ensures unused { OnErr result.2 (Gathers D.has_joined door [] result.0) }
     ensures recorder { MatchResult result.2 (λ _. B.has_begun recorder result.1)
-        (EndsRecorded B.has_begun B.has_failed recorder result.1) }
+        (EndsRecorded B.has_failed recorder result.1) }
+{
+    decide_and_serve::<Brand, T, D, C, B, R>(
+        rt,
+        alloc,
+        Blank::new(1),
+        door,
+        clock,
+        options,
+        delivery,
+        queue,
+        recorder,
+    )
+}
+
+// The same, where the blank is that of the ledger by which the server decides whether its workers serve.
+fn decide_and_serve<
+    L: Deciding + Send + Sync,
+    T: Timer + Send,
+    D: Door + Drop + Send,
+    C: Clock + Sync,
+    B: Recorder + Drop,
+    R: Threads + Wait + time::Clock + Sync,
+>(
+    rt: &R,
+    alloc: Global,
+    blank: Blank,
+    door: D,
+    clock: &C,
+    options: &ServerRunOptions,
+    delivery: Delivery,
+    queue: ServedQueue<T>,
+    recorder: B,
+) -> (D, B, Result<ServeReport<T>, BrokerFault>)
+    requires name { blank.name ≡ L.name }
+    requires parts { blank.parts ≡ L.parts }
+    requires all { L.all ≡ L.parts }
+    requires some { 0 < L.all }
+    requires splits { D.may_split door options.now.workers }
+    requires honest { Satisfies
+        (terms_of D.Reader.Read D.Writer.Write D.Gate.Gate C.Clock clock.now options.now.policy delivery queue.shared) D.demands }
+    ensures served { (opening : Opening) → IsOpened opening options.now queue.shared queue.pass → IfOk result.2 (λ report. (run : IsServersRun
+        (terms_of D.Reader.Read D.Writer.Write D.Gate.Gate C.Clock clock.now options.now.policy delivery queue.shared)
+        opening options.now report) × Gathers D.has_joined door (all_steps run.logs) result.0) }
+    ensures unused { OnErr result.2 (Gathers D.has_joined door [] result.0) }
+    ensures recorder { MatchResult result.2 (λ _. B.has_begun recorder result.1)
+        (EndsRecorded B.has_failed recorder result.1) }
 {
     let ServedQueue { shared, pass } = queue;
     let bell = Bell::new();
@@ -134,32 +187,41 @@ fn serve_delivering<
         policy: &options.policy,
         delivery,
     };
-    let (door, recorder, served) = serve_all(rt, &service, recorder, door, pass, options.workers);
+    let decider = Decider::new(blank);
+    let (door, recorder, served) = serve_all::<L, T, D, C, B, R>(
+        rt,
+        &service,
+        decider,
+        recorder,
+        door,
+        pass,
+        options.workers,
+    );
     match served {
-        Ok((pass, visits)) => (door, recorder, report_of(rt, shared, pass, visits)),
+        Ok((pass, visits)) => (door, recorder, Ok(report_of(rt, shared, pass, visits))),
         Err(fault) => (door, recorder, Err(fault)),
     }
 }
 
-// Ends the sharing, and reports what there was.
+// Ends the sharing by the one pass that is left, and reports what there was.
 fn report_of<T: Timer, R: Wait>(
     rt: &R,
     shared: Shared<T>,
     pass: Pass<T>,
     visits: VisitCounts,
-) -> Result<ServeReport<T>, BrokerFault>
+) -> ServeReport<T>
     requires pass { pass.table ≡ shared }
-    ensures report { IfOk result (λ report. IsReport pass visits report) }
-    ensures fault { IfErr result (λ fault. fault ≡ BrokerFault.NotGathered) }
+    requires whole { pass.parts ≡ all_parts }
+    ensures { IsReport pass visits result }
 {
-    let (kept, _, audit) = shared
-        .close(rt, pass)
-        .map_err(|_| BrokerFault::NotGathered)?;
-    Ok(ServeReport {
+    let Ok((kept, _, audit)) = shared.close(rt, pass) else {
+        unreachable!()
+    };
+    ServeReport {
         sessions: visits.sessions,
         faults: visits.faults,
         lost: visits.lost,
         audit,
         kept,
-    })
+    }
 }

@@ -5,7 +5,7 @@ ghost use Rattle.rb_serving.specs.Terms.{service_terms};
 ghost use Rattle.rb_serving.specs.Visits.{IsUnused, LeftVisit, Satisfies};
 ghost use Rattle.rb_session.specs.Served.{Served};
 
-use crate::decision::{Decision, decided};
+use crate::decision::{Decision, wait_for_decision};
 use crate::door::{Door, DoorFault};
 use crate::service::Service;
 use crate::visit::Visit;
@@ -34,6 +34,7 @@ pub(crate) fn work_with_all<'a, T: Timer, D: Door, C: Clock, V: Decision, R: Wai
     requires honest { Satisfies
         (service_terms D.Reader.Read D.Writer.Write D.Gate.Gate C.Clock service.now) D.demands }
     ensures pass { result.0.table ≡ service.now.shared.now }
+    ensures parts { result.0.parts ≡ pass.parts }
     ensures token { result.3.of ≡ service.now.serves.now.id }
     ensures served { V.serves result.3.value ≡ true → (log : List (DoorStep D.Reader D.Writer D.Gate))
         × D.has_seen result.2 log × IsWorkerResult
@@ -41,7 +42,7 @@ pub(crate) fn work_with_all<'a, T: Timer, D: Door, C: Clock, V: Decision, R: Wai
         pass.capacity pass.opening log result.0 result.1 }
     ensures left { V.serves result.3.value ≡ false → (result.0 ≡ pass) × D.has_seen result.2 [] }
 {
-    let token = decided(rt, service.serves);
+    let token = wait_for_decision(rt, service.serves);
     if service.serves.value(&token).serves() {
         let (pass, counts, door) = work(rt, service, door, pass);
         (pass, counts, door, token)
@@ -66,6 +67,7 @@ pub(crate) fn work<T: Timer, D: Door, C: Clock, V, R: Wait + time::Clock>(
     requires honest { Satisfies
         (service_terms D.Reader.Read D.Writer.Write D.Gate.Gate C.Clock service.now) D.demands }
     ensures pass { result.0.table ≡ service.now.shared.now }
+    ensures parts { result.0.parts ≡ pass.parts }
     ensures worked { (log : List (DoorStep D.Reader D.Writer D.Gate)) × D.has_seen result.2 log × IsWorkerResult
         (service_terms D.Reader.Read D.Writer.Write D.Gate.Gate C.Clock service.now)
         pass.capacity pass.opening log result.0 result.1 }

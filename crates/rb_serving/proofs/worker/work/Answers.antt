@@ -17,6 +17,7 @@ loop-preserved g c = record {
             rw w.pass-is (record {
               table = worked.table ∙ before.table;
               name = worked.name ∙ before.name;
+              parts = worked.parts ∙ before.parts;
               folded = worked.folded ∙ before.folded;
               capacity = worked.capacity ∙ before.capacity;
               opening = worked.opening ∙ before.opening;

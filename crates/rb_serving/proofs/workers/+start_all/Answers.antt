@@ -1,6 +1,6 @@
 -- The last worker that ends is folded in behind the others, and its visits are counted with theirs.
-use Rattle.std.proofs.Common.{rules, ◌≡◌, ◌<◌, ◌+◌, ◌-◌, ◌++◌, ◌∷◌, [], sym, subst, ap, arith, ◌∙◌}
-use Rattle.std.specs.Prelude.{is_some}
+use Rattle.std.proofs.Common.{rules, ◌≡◌, ◌<◌, ◌+◌, ◌-◌, ◌++◌, ◌∷◌, [], ℕ, sym, subst, ap, arith, ◌∙◌}
+use Rattle.std.specs.Prelude.{is_ok, is_some}
 use Rattle.rb_lock.specs.Passes.{PassState}
 use Rattle.std.proofs.lemmas.Bool.Decides.{nat_tests}
 use Rattle.rb_serving.specs.Serving.{FoldsWorkers, IsWorkerResult}
@@ -23,21 +23,24 @@ returns-clause-folds g t c =
     let done = c.join-done.result in
     let rest = c.in-Ok-others.folded in
     let others = of_ok _ c.in-Ok-others.folded _ c.in-Ok-others.is c.start_all-door.ensures.folds in
-    let serve = of_ok _ c.in-Ok-others.folded _ c.in-Ok-others.is c.start_all-door.ensures.serve in
-    let kept = c.join-done.ensures.2 (ap is_some (sym c.agrees.ensures) ∙ serve) in
+    let serve = c.start_all-door.ensures.serve ∙ ap is_ok c.in-Ok-others.is in
+    let kept = c.join-done.ensures.3 (ap (λ decided. is_some decided.begun) (sym c.agrees-2.ensures) ∙ serve) in
     let as_promised = subst (λ promise. IsWorkerResult (terms promise.service.now) promise.start.value.capacity
     promise.start.value.opening kept.0 done.0 done.1) c.in-Ok-spawn_with.ensures.ok kept.2 in
+    let parts = subst (λ promise. done.0.parts ≡ promise.start.value.parts) c.in-Ok-spawn_with.ensures.ok c.join-done.ensures.1
+    ∙ ap (λ (start : PassState). start.parts) c.of-start.ensures in
     let worked = subst (λ (start : PassState). IsWorkerResult of start.capacity start.opening kept.0 done.0 done.1)
     (c.of-start.ensures ∙ c.in-Ok.ensures.child) as_promised in
     record {
       logs = others.logs ++ kept.0 ∷ [];
       gathers = gathers_more of g.D.Door.has_joined g.D.Door.has_seen c.args.door c.split-entrance.new.self
-          c.start_all-door.result.0 c.join.new.self done.2 others.logs kept.0 c.split-entrance.ensures.out
-          others.gathers kept.1 c.join.ensures;
+          c.start_all-door.result.0 c.join-2.new.self done.2 others.logs kept.0 c.split-entrance.ensures.out
+          others.gathers kept.1 c.join-2.ensures;
       folds = subst (FoldsWorkers of c.args.count (others.logs ++ kept.0 ∷ []) c.args.pass c.fold.new.pass)
           (sym c.with.ensures)
           (folds_one_more of c.args.count others.logs kept.0 c.args.pass c.split.new.pass rest.0 done.0 c.fold.new.pass
-          done.1 rest.1 some c.in-Ok.ensures.learns c.in-Ok.ensures.mine others.folds worked c.fold.ensures);
+          done.1 rest.1 some c.in-Ok.ensures.learns c.in-Ok.ensures.mine
+          (ap (λ (parts : ℕ). c.split.new.pass.parts + parts) parts ∙ c.in-Ok.ensures.parts) others.folds worked c.fold.ensures);
     }
 
 pub split-entrance-requires : goal.split-entrance-requires
@@ -45,3 +48,22 @@ split-entrance-requires g t c =
     let some : 0 < c.args.count = grind (arith, nat_tests, c.if-count-eq0.false) in
     let is : c.args.count ≡ (c.args.count - 1) + 1 = omega (arith, some) in
     record { more = (c.args.count - 1, subst (g.D.Door.may_split c.args.door) is c.requires.splits) }
+
+-- What a thread would have been started with is what comes back.
+pub call_here-entrance-requires : goal.call_here-entrance-requires
+call_here-entrance-requires g t c =
+    let split = c.in-Ok.ensures in
+    rw c.in-Err-spawn_with.ensures.err (
+      (
+        ap (λ (pass : PassState). pass.table) split.child ∙ (split.learns.table ∙ c.requires.pass),
+        record {
+          idle = ap (λ (pass : PassState). pass.mine) split.child;
+          unheard = split.unheard;
+          alone = ap (λ (pass : PassState). pass.folded) split.child;
+        },
+        c.split-entrance.ensures.begun,
+        c.split-entrance.ensures.ready,
+        c.requires.honest,
+      ),
+      search rules,
+    )

@@ -1,22 +1,18 @@
 -- The report is that of the workers' passes and counts, and their entrances are back.
 use Rattle.std.proofs.Common.{ap}
-use Rattle.std.proofs.lemmas.Result.{IfOk-weaker}
 use Rattle.rb_lock.specs.Passes.{PassState}
 use Rattle.rb_serving.specs.Terms.{terms_of}
 use Rattle.rb_serving.proofs.ServedRuns.{of_ok, server_run}
-use Rattle.rb_serving.proofs.server.serve_delivering.Goals as goal
+use Rattle.rb_serving.proofs.server.decide_and_serve.Goals as goal
 
 pub returns-in-Ok-clause-served : goal.returns-in-Ok-clause-served
 returns-in-Ok-clause-served g c opening fresh =
     let terms = terms_of g.D.Reader.Read g.D.Writer.Write g.D.Gate.Gate g.C.Clock c.args.clock.now
     c.args.options.now.policy c.args.delivery c.args.queue.shared in
-    let workers = of_ok _ _ _ c.in-Ok.is c.serve_all-door.ensures.folds in
-    IfOk-weaker c.report_of.result _ _
-    (λ report is. (
-      server_run terms opening c.args.options.now report c.args.queue.pass c.in-Ok.pass
+    let workers = of_ok _ _ _ c.in-Ok.is c.serve_all-door.ensures.folds in (
+      server_run terms opening c.args.options.now c.report_of.result c.args.queue.pass c.in-Ok.pass
           c.in-Ok.visits workers.logs (ap (λ (pass : PassState). pass.opening) fresh)
           (ap (λ (pass : PassState). pass.capacity) fresh) (ap (λ (pass : PassState). pass.mine) fresh)
-          (ap (λ (pass : PassState). pass.folded) fresh) workers.folds is,
+          (ap (λ (pass : PassState). pass.folded) fresh) workers.folds c.report_of.ensures,
       workers.gathers,
-    ))
-    c.report_of.ensures.report
+    )
