@@ -131,6 +131,17 @@ class UsersTest(RedisTest):
             self.node.ask("HSET", "{jobs}:state", "most", "1000 refuse")
             self.ran_by("dead", "dead", 2, "--offer")
 
+    def test_a_redis_without_functions(self) -> None:
+        """These users may not load them. `archive --every` tries again, so it may start before the first gateway."""
+        for words in (("archive", self.room / "archive"), ("dead",)):
+            words = *words, "--redis", self.url(words[0])
+            self.node.ask("FUNCTION", "FLUSH")
+            status, said, errors = self.ran(*words)
+            self.assertEqual((status, said), (3, []))
+            self.assertIn("which this user may not load: start a gateway first", errors)
+            self.serve_once("OFFER 0 a")
+            self.assertEqual(self.ran(*words)[::2], (0, ""))
+
     def test_nobody_but_a_gateway_takes_a_job(self) -> None:
         self.serve_once("OFFER 0 a")
         queue = self.queue()

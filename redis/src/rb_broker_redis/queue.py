@@ -6,6 +6,7 @@ from typing import Any, Union
 
 import redis
 from redis.cluster import ClusterNode, RedisCluster
+from redis.exceptions import NoPermissionError
 from redis.sentinel import Sentinel
 
 from rb_broker_formats.queue import FollowedQueue
@@ -64,7 +65,11 @@ class Queue:
         except redis.ResponseError as fault:
             if "not found" not in str(fault):
                 raise
-            self.command("FUNCTION", "LOAD", "REPLACE", SOURCE)
+            try:
+                self.command("FUNCTION", "LOAD", "REPLACE", SOURCE)
+            except NoPermissionError:
+                raise redis.RedisError("the Redis does not have the functions of this version, which this user may not "
+                                       "load: start a gateway first") from None
 
     def call(self, function: str, *args: bytes | str | int) -> Any:
         """Calls one function with the queue's keys and these arguments."""
