@@ -1,7 +1,7 @@
 """What is lost when a Redis dies, with each setting of its durability: offers that were answered, and are not there.
 
 A node is killed by SIGKILL. The system still writes what the node had handed to it, so a machine that loses its power is
-played as well: what was not synced is cut off the node's file.
+played as well: what was not synced is cut off the node's file. A disk is slow where the machine's may not be.
 """
 from __future__ import annotations
 
@@ -34,7 +34,7 @@ SECONDS = 2.0  # before the kill
 ON_THE_WAY = 0.5  # seconds in which replies that the Redis has given reach the producers
 MOST_TRIES = 10
 QUEUE = "jobs"
-SHIM = Path(__file__).with_name("power_cut.c")
+SHIM = Path(__file__).with_name("disk.c")
 
 
 class Offers:
@@ -107,13 +107,13 @@ class LostTest(RoomTest):
         lost = [when for payload, when in offers.answered.items() if payload not in there]
         return Lost(len(offers.answered), len(lost), max((killed - it for it in lost), default=0.0))
 
-    def killed(self, options: Sequence[str]) -> Callable[[Path], Lost]:
+    def killed(self, options: Sequence[str], kill: Callable[[Node], None] = Node.kill) -> Callable[[Path], Lost]:
         """Rounds in which a node is killed."""
 
         def round_of(room: Path) -> Lost:
             node = Node(room / "node", options, self.environment())
             try:
-                offers, killed = self.offered_until(room, node.url, node.kill)
+                offers, killed = self.offered_until(room, node.url, lambda: kill(node))
                 self.lose_more(room / "node")
                 node.start()
                 return self.missing(offers, killed, node)
@@ -130,25 +130,74 @@ class LostTest(RoomTest):
         """Takes away what else is lost with the node: nothing."""
 
 
+def unwritten(node: Node) -> tuple[int, int]:
+    """How many syncs a node with `everysec` has under way, and how many bytes of calls are not written. Those that it
+    answers while a sync is under way are written once that is over, or in two seconds."""
+    with node.client() as client:
+        said = client.info("persistence")
+    return said["aof_pending_bio_fsync"], said["aof_buffer_length"]
+
+
+def kill_in_a_sync(node: Node) -> None:
+    """Kills a node with `everysec` that has answered calls and not written them."""
+    wait_until(lambda: all(unwritten(node)), "it never syncs")
+    node.kill()
+
+
+def kill_between_syncs(node: Node) -> None:
+    """Kills a node with `everysec` that has written all that it answered: it has synced in this second of its clock, in
+    which it begins no other sync."""
+
+    def is_between() -> bool:
+        second = int(time.time())
+        node.ask("SET", "mark", second)
+        if any(unwritten(node)):
+            return False
+        node.pause()
+        if int(time.time()) > second:
+            node.go_on()
+            return False
+        return True
+
+    wait_until(is_between, "it always syncs")
+    node.kill()
+
+
 class OneNodeTest(LostTest):
     def test_always_and_a_kill(self) -> None:
         self.assertEqual(self.tried("always, kill", self.killed(ALWAYS)).lost, 0)
 
-    def test_everysec_and_a_kill(self) -> None:
-        self.assertEqual(self.tried("everysec, kill", self.killed(EVERYSEC)).lost, 0)
+    def test_everysec_and_a_kill_between_two_syncs(self) -> None:
+        total = self.tried("everysec, kill between two syncs", self.killed(EVERYSEC, kill_between_syncs))
+        self.assertEqual(total.lost, 0)
 
     def test_no_file_and_a_kill(self) -> None:
         total = self.tried("no file, kill", self.killed(FORGETFUL))
         self.assertEqual(total.lost, total.answered)
 
 
-@unittest.skipUnless(shutil.which("cc"), "there is no cc, with which power_cut.c is compiled")
-class PowerCutTest(LostTest):
+@unittest.skipUnless(shutil.which("cc"), "there is no cc, with which disk.c is compiled")
+class DiskTest(LostTest):
     def environment(self) -> dict[str, str]:
-        shim = self.room / "power_cut.so"
+        shim = self.room / "disk.so"
         subprocess.run(["cc", "-shared", "-fPIC", "-o", shim, SHIM, "-ldl"], check=True)
         return {"LD_PRELOAD": str(shim)}
 
+
+class SlowDiskTest(DiskTest):
+    """Each sync takes 0.4 seconds."""
+
+    def environment(self) -> dict[str, str]:
+        return {**super().environment(), "SYNC_TAKES": "400000"}
+
+    def test_always(self) -> None:
+        self.assertEqual(self.tried("always, slow disk, kill", self.killed(ALWAYS)).lost, 0)
+
+    def test_everysec(self) -> None:
+        self.assert_loses_last(1, "everysec, slow disk, kill in a sync", self.killed(EVERYSEC, kill_in_a_sync))
+
+
+class PowerCutTest(DiskTest):
     def lose_more(self, folder: Path) -> None:
         for file in (folder / "appendonlydir").glob("*.incr.aof"):
             note = Path(f"{file}.synced")
