@@ -57,6 +57,7 @@ class ComposeTest(RoomTest):
     def test_a_job_outlives_the_redis(self) -> None:
         """The user `default` is off, and has all rights: without them Redis 7.0 refuses, at its start, what is in its
         own file of calls. But nobody can be that user."""
+        self.assertEqual([*self.services], ["redis", "gateway-1", "gateway-2", "archive"])
         redis = self.begun("redis")
         wait_until(lambda: "Ready to accept" in redis.said, "the Redis is not ready")
         gateways = [self.begun(it) for it in ("gateway-1", "gateway-2")]
