@@ -202,7 +202,8 @@ class Replicas(Nodes):
 
 
 class Sentinels(Nodes):
-    """Three Sentinels that watch a primary with its replicas, under a name."""
+    """Three Sentinels that watch a primary with its replicas, under a name. They are told of each other, which they would
+    find out within two seconds."""
 
     def __init__(self, folder: Path, watched: Replicas, name: str = "main") -> None:
         self.name, self.watched, self.nodes = name, watched, []
@@ -212,9 +213,10 @@ class Sentinels(Nodes):
             place = folder / f"sentinel-{port}"
             place.mkdir(parents=True)
             (place / "conf").write_text(
-                f"port {port}\nbind {HOST}\ndir {place}\n"
+                f"port {port}\nbind {HOST}\ndir {place}\nsentinel myid {port:040x}\n"
                 f"sentinel monitor {name} {HOST} {watched.primary.port} 2\n"
-                f"sentinel down-after-milliseconds {name} 1000\nsentinel failover-timeout {name} 5000\n")
+                f"sentinel down-after-milliseconds {name} 1000\nsentinel failover-timeout {name} 5000\n" + "".join(
+                    f"sentinel known-sentinel {name} {HOST} {it} {it:040x}\n" for it in self.ports if it != port))
             process = Process(["redis-sentinel", str(place / "conf")], place / "log")
             process.start()
             self.nodes.append(process)
