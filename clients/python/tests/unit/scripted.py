@@ -1,4 +1,4 @@
-"""A server that plays a script, for what the real one does rarely or at no stated moment."""
+"""Servers that play scripts, for what the real one does rarely or at no stated moment; and workers of such servers."""
 import contextlib
 import logging
 import multiprocessing
@@ -12,10 +12,15 @@ import unittest
 from concurrent.futures import ThreadPoolExecutor
 from pathlib import Path
 
+from rb_broker_client import Pauses, Report, Worker
+
 PATIENCE = 10  # seconds after which a client that does not go on is given up
 
 SAID = {"AT 0": "ERR 1 syntax", "QUIT": "BYE"}  # replies that go without saying; that to `DONE 7` is the same line
 SHORT = {"WAIT": "POLLFOR 1000000000", "BRIEF": "POLLFOR 200000000"}  # a worker's waits
+GIVES_A, GIVES_B = "WAIT > ITEM 0 0 1 a", "WAIT > ITEM 1 0 1 b"
+A, LAST = f"{GIVES_A}; DONE 0", "WAIT > stops: NONE; QUIT"  # a job that is done, and the end of a worker
+Awaitable = type("Awaitable", (), {"__await__": iter})  # which nobody has awaited
 
 
 class ScriptedServer:
@@ -33,14 +38,8 @@ class ScriptedServer:
         self.port = self._listener.getsockname()[1]
         self.faults = []
         self.ended = threading.Semaphore(0)
-        self._thread = threading.Thread(target=self._serve_all, args=[sessions], daemon=True)
-        self._thread.start()
-
-    def end(self):
-        """Waits until all sessions have ended."""
-        self._thread.join(2 * PATIENCE)
-        if self._thread.is_alive():
-            self.faults.append("a session does not end")
+        self.thread = threading.Thread(target=self._serve_all, args=[sessions], daemon=True)
+        self.thread.start()
 
     def _serve_all(self, sessions):
         with self._listener:
@@ -70,8 +69,7 @@ class ScriptedServer:
 
 
 class ScriptedTest(unittest.TestCase):
-    """A test whose servers play scripts. At its end each script has to be played to its last step. What clients log is
-    not shown.
+    """A test whose servers play scripts. At its end each script has to be played to its last step.
 
     A session may be a text, such as `WAIT > ITEM 0 0 1 a; DONE 0; WAIT > stop: NONE; QUIT; > hangs up`. Commas separate
     the lines of a reply. A word before a colon is a method of the test, which is called before the reply is sent, with
@@ -79,11 +77,7 @@ class ScriptedTest(unittest.TestCase):
     """
 
     def setUp(self):
-        logging.disable(logging.CRITICAL)
-        self.addCleanup(logging.disable, logging.NOTSET)
-        room = tempfile.TemporaryDirectory()
-        self.addCleanup(room.cleanup)
-        self.path = os.path.join(room.name, "file.jsonl")
+        self.path = Path(self.enterContext(tempfile.TemporaryDirectory()), "file.jsonl")
         super().setUp()
 
     def play(self, *sessions):
@@ -110,28 +104,141 @@ class ScriptedTest(unittest.TestCase):
 
         return request, answer if calls else reply
 
+    def late(self, _, seconds):
+        """The reply comes so many seconds later."""
+        time.sleep(float(seconds))
+
     def assert_played(self, server):
-        server.end()
-        self.assertEqual(server.faults, [])
+        server.thread.join(2 * PATIENCE)  # which ends with the last session
+        self.assertEqual((server.faults, server.thread.is_alive()), ([], False))
 
     @contextlib.contextmanager
     def logged(self, level=logging.ERROR):
         """What is logged of this level meanwhile, of which there is one text at least: `LEVEL:NAME:MESSAGE`."""
-        logging.disable(logging.NOTSET)
         with self.assertLogs("rb_broker_client", level) as said:
             yield said.output
-        logging.disable(logging.CRITICAL)
 
-    def in_threads(self, *functions):
-        """Runs these functions at the same time, to their ends. None may raise anything."""
-        with ThreadPoolExecutor(len(functions)) as threads:
-            for it in [threads.submit(it) for it in functions]:
-                it.result(PATIENCE)
+
+class WorkerCase(ScriptedTest):
+    """A worker of one scripted server. The payload `b` fails, and `stop` stops the worker."""
+
+    kind = Worker
+
+    def work(self, *sessions, handler=None, **options):
+        """Makes a worker for these sessions, each of which begins with the greeting."""
+        self.server = self.play(*[it if it[:4] == "AT 0" else f"AT 0; {it}" for it in sessions])
+        return self.make(handler or self.handle, self.server.port, **options)
+
+    def make(self, handler, port, pause=0.01, **options):
+        """Makes a worker, which is stopped in the end whatever comes."""
+        self.handled = []
+        self.worker = self.kind(handler, port, **{"pauses": Pauses(first=pause, longest=2 * pause), **options})
+        self.stop_later(PATIENCE)
+        return self.worker
+
+    def stop_later(self, seconds):
+        timer = threading.Timer(seconds, self.worker.stop)
+        timer.start()
+        self.addCleanup(timer.cancel)
+
+    def assert_reports(self, report, *sessions, **options):
+        """A worker of these sessions makes this report, and plays each to its end."""
+        self.assertEqual(self.work(*sessions, **options).run(), report)
+        self.assert_played(self.server)
+
+    def assert_scripts(self, name, **options):
+        """The workers of this table, with these options too, make the reports that it says."""
+        for why, own, report, sessions in paragraphs(name):
+            with self.subTest(why):
+                sessions = [it.removeprefix("- ") for it in sessions]
+                self.assert_reports(Report(**report), *sessions, **options, **own)
+
+    def handle(self, job):
+        self.handled.append(job)
+        if job.payload == "stop":
+            self.worker.stop()
+        if job.payload == "b":
+            raise ValueError("the payload is b")
+
+    def stops(self, _):
+        """Before the reply the worker is asked to stop."""
+        self.worker.stop()
+
+
+class Jobs:
+    """A handler whose jobs end when they are told to. The payload `b` fails."""
+
+    def __init__(self):
+        self._may_end = {it: threading.Event() for it in "abcdef"}
+        self._has_begun = {it: threading.Event() for it in "abcdef"}
+        self._lock = threading.Lock()
+        self.running = self.most = 0
+
+    def __call__(self, job):
+        with self._lock:
+            self.running += 1
+            self.most = max(self.most, self.running)
+        self._has_begun[job.payload].set()
+        is_told = self._may_end[job.payload].wait(PATIENCE)
+        with self._lock:
+            self.running -= 1
+        if job.payload == "b" or not is_told:
+            raise ValueError(job.payload)
+
+    def end(self, payload):
+        self._may_end[payload].set()
+
+    def end_once_begun(self, payload, other):
+        self._has_begun[other].wait(PATIENCE)
+        self.end(payload)
+
+
+class ConcurrencyCase(WorkerCase):
+    """A worker that runs several jobs at the same time."""
+
+    def work(self, *sessions, handler=None, concurrency=2, **options):
+        self.jobs = Jobs()
+        return super().work(*sessions, handler=handler or self.jobs, concurrency=concurrency, **options)
+
+    def assert_reports(self, report, *sessions, most=None, **options):
+        """If `most` is given, so many jobs ran at the same time."""
+        super().assert_reports(report, *sessions, **options)
+        self.assertIn(most, (None, self.jobs.most))
+
+    def ends(self, more, payload):
+        """This job ends, which is told behind the wait."""
+        self.jobs.end(payload)
+        more()
+
+    def beside(self, _, other, payload):
+        """Another job begins by the reply, whereupon this one ends."""
+        threading.Thread(target=self.jobs.end_once_begun, args=(payload, other), daemon=True).start()
 
 
 def table(name):
     """The text of a table of rows or cases, behind what is said about it."""
     return Path(__file__).with_name(name).read_text("ascii").partition("\n\n")[2]
+
+
+def values(words):
+    """Numbers by name, of `done=1 again=2`."""
+    pairs = [it.split("=") for it in words.split()]
+    return {name: float(it) if "." in it else int(it) for name, it in pairs}
+
+
+def paragraphs(name):
+    """The cases of a text table: the name of each, its options, the report behind `=>`, and its lines."""
+    for it in table(name).split("\n\n"):
+        title, *lines = it.strip().splitlines()
+        name, options, report = re.fullmatch(r"(.*?)(?: \[(.*)\])?(?: => (.*))?", title).groups("")
+        yield name, values(options), values(report), lines
+
+
+def in_threads(*functions):
+    """Runs these functions at the same time, to their ends. None may raise anything."""
+    with ThreadPoolExecutor(len(functions)) as threads:
+        for it in [threads.submit(it) for it in functions]:
+            it.result(PATIENCE)
 
 
 def wait_for(is_so, seconds=PATIENCE):

@@ -3,14 +3,14 @@ import asyncio
 import contextvars
 import threading
 import unittest
+from unittest.mock import AsyncMock
 
-from scripted import PATIENCE, ScriptedTest, free_port
-from worker_case import A, GIVES_A
+from scripted import A, GIVES_A, PATIENCE, ScriptedTest, free_port
 from rb_broker_client import AsyncBroker, AsyncProducer, AsyncWorker, Offered, Report
 
 
-class CancelTest(ScriptedTest, unittest.IsolatedAsyncioTestCase):
-    """Tasks that are cancelled."""
+class LoopTest(ScriptedTest, unittest.IsolatedAsyncioTestCase):
+    """Tasks that are cancelled, and those of jobs."""
 
     async def test_nothing_can_be_asked_while_the_reply_to_another_is_due(self):
         async with AsyncBroker(self.play("TAKE > nothing").port, patience=PATIENCE) as broker:
@@ -53,15 +53,11 @@ class CancelTest(ScriptedTest, unittest.IsolatedAsyncioTestCase):
         self.assertEqual(self.ended, ["a"])
 
     async def test_a_handler_that_is_cancelled_has_failed(self):
-        async def handle(job):
-            worker.stop()
-            raise asyncio.CancelledError
-
-        worker = AsyncWorker(handle, self.play(f"AT 0; {GIVES_A}; FAIL 0 > AGAIN 1 5; QUIT").port)
+        self.stops = lambda _: worker.stop()
+        server = self.play(f"AT 0; {GIVES_A}; FAIL 0 > stops: AGAIN 1 5; QUIT")
+        worker = AsyncWorker(AsyncMock(side_effect=asyncio.CancelledError), server.port)
         self.assertEqual(await worker.run(), Report(again=1))
 
-
-class TaskTest(ScriptedTest, unittest.IsolatedAsyncioTestCase):
     async def test_each_job_is_a_task_of_its_own_in_the_context_of_the_worker(self):
         """What a handler sets is not seen by the next, though that begins when this one ends."""
         seen, word, tasks = [], contextvars.ContextVar("word", default="unset"), []

@@ -6,29 +6,25 @@ import select
 import socket
 import threading
 import time
-import unittest.mock
+from contextlib import closing
+from unittest.mock import DEFAULT, Mock, patch
 
 from from_threads import for_both_kinds, settle
-from scripted import PATIENCE, ScriptedTest, fork, free_port, status_of
+from scripted import PATIENCE, ScriptedTest, fork, free_port, in_threads, status_of
 from rb_broker_client import (
     Again, AsyncBroker, AsyncProducer, Broker, DisconnectedError, FullError, Job, NotHeldError, Offered, Producer,
     Request, StoppedError, UnknownReplyError, Worker,
 )
 from rb_broker_client.answers import EndedError
 
-DRAINED_LATE = "DRAIN 2 > DRAINED 2, ITEM 0 0 1 a; SIZE > late: ITEM 1 0 1 b, SIZE 0"
+DRAINED_LATE = "DRAIN 2 > DRAINED 2, ITEM 0 0 1 a; SIZE > late 0.3: ITEM 1 0 1 b, SIZE 0"
 
 
 class BrokerCase(ScriptedTest):
     kind = Broker
 
     def connect(self, steps, **options):
-        broker = self.kind(self.play(steps).port, **{"patience": PATIENCE, **options})
-        self.addCleanup(broker.close)
-        return broker
-
-    def late(self, _):
-        time.sleep(0.3)
+        return self.enterContext(closing(self.kind(self.play(steps).port, **{"patience": PATIENCE, **options})))
 
 
 @for_both_kinds
@@ -44,7 +40,7 @@ class BrokerTest(BrokerCase):
         self.assertEqual(answers, [[Job(0, 0, 1, "a"), Job(1, 0, 1, "b")], 0])
 
     def test_nothing_can_be_asked_while_a_reply_is_late(self):
-        broker = self.connect("SIZE > late: SIZE 3", patience=0.05)
+        broker = self.connect("SIZE > late 0.3: SIZE 3", patience=0.05)
         self.assertRaises(TimeoutError, broker.size)
         self.assertRaises(RuntimeError, broker.size)
         self.assertRaises(RuntimeError, broker.ask_all, [Request.size()])
@@ -113,7 +109,7 @@ class BrokerTest(BrokerCase):
     def test_a_client_that_finds_itself_has_found_nobody(self):
         port = free_port()
         connect = functools.partial(socket.create_connection, source_address=("127.0.0.1", port))
-        with unittest.mock.patch("socket.create_connection", connect):
+        with patch("socket.create_connection", connect):
             self.assertRaises(ConnectionRefusedError, self.kind, port)
 
     def test_a_lost_connection_is_known_once_its_end_has_come(self):
@@ -123,6 +119,16 @@ class BrokerTest(BrokerCase):
         broker.close()
         self.assertTrue(broker.is_lost())
 
+    def test_a_piece_of_any_size_waits_for_nobody(self):
+        """A server keeps no more of the requests than it answers."""
+        greatest, count = 2**64 - 1, 80_000
+        server = self.play([(f"OFFER 0 {'a' * 64}", f"OFFERED {greatest} {greatest}")] * count)
+        for size in (socket.SO_RCVBUF, socket.SO_SNDBUF):  # small, so that the system keeps little of what is sent
+            server._listener.setsockopt(socket.SOL_SOCKET, size, 32_768)
+        with self.kind(server.port, patience=PATIENCE) as broker:
+            answers = broker.ask_all([Request.offer("a" * 64)] * count)
+        self.assertEqual(answers, [Offered(greatest, greatest)] * count)
+
 
 @for_both_kinds
 class RecordTest(BrokerCase):
@@ -130,13 +136,11 @@ class RecordTest(BrokerCase):
 
     def setUp(self):
         super().setUp()
-        self.file = open(self.path, "a", encoding="ascii")
-        self.addCleanup(self.file.close)
+        self.file = self.enterContext(open(self.path, "a", encoding="ascii"))
 
     def lines(self):
         """The lines of the record, which have the keys that they must have."""
-        with open(self.path, encoding="ascii") as file:
-            lines = [json.loads(it) for it in file]
+        lines = [*map(json.loads, self.path.read_text("ascii").splitlines())]
         for it in lines:
             self.assertEqual([*it], ["session", "sent", "received", "request", "reply"])
         return lines
@@ -199,28 +203,15 @@ class RecordTest(BrokerCase):
                 broker.ask_all([Request.size()] * 10)
 
         steps = "; ".join(["SIZE > SIZE 3"] * count)
-        self.in_threads(*[functools.partial(ask, self.connect(steps, record=self.file)) for _ in range(4)])
+        in_threads(*[functools.partial(ask, self.connect(steps, record=self.file)) for _ in range(4)])
         names = [it["session"] for it in self.lines()]
         self.assertEqual(sorted(names.count(it) for it in {*names}), [count] * 4)
 
     def test_a_process_that_is_forked_while_a_line_is_written(self):
         """It writes lines of its own, and not that one again."""
-        record, is_written = unittest.mock.Mock(wraps=self.file), threading.Event()
-        record.flush.side_effect = lambda: is_written.set() or time.sleep(0.3) or unittest.mock.DEFAULT
+        record, is_written = Mock(wraps=self.file), threading.Event()
+        record.flush.side_effect = lambda: is_written.set() or time.sleep(0.3) or DEFAULT
         port, broker = self.play("SIZE > SIZE 3").port, self.connect("SIZE > SIZE 4", record=record)
         other = lambda: status_of(fork(lambda: Broker(port, record=self.file).size()))
-        self.in_threads(broker.size, lambda: self.assertEqual((is_written.wait(PATIENCE), other()), (True, 3)))
+        in_threads(broker.size, lambda: self.assertEqual((is_written.wait(PATIENCE), other()), (True, 3)))
         self.assertEqual(sorted(it["reply"][0] for it in self.lines()), ["SIZE 3", "SIZE 4"])
-
-
-@for_both_kinds
-class ManyTest(BrokerCase):
-    def test_a_piece_of_any_size_waits_for_nobody(self):
-        """A server keeps no more of the requests than it answers."""
-        greatest, count = 2**64 - 1, 80_000
-        server = self.play([(f"OFFER 0 {'a' * 64}", f"OFFERED {greatest} {greatest}")] * count)
-        for size in (socket.SO_RCVBUF, socket.SO_SNDBUF):  # small, so that the system keeps little of what is sent
-            server._listener.setsockopt(socket.SOL_SOCKET, size, 32_768)
-        with self.kind(server.port, patience=PATIENCE) as broker:
-            answers = broker.ask_all([Request.offer("a" * 64)] * count)
-        self.assertEqual(answers, [Offered(greatest, greatest)] * count)

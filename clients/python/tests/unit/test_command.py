@@ -1,9 +1,8 @@
 """The package as a command, over scripted servers."""
-import contextlib
 import io
 import json
 import shlex
-import unittest.mock
+from unittest.mock import patch
 
 import rb_broker_client
 from scripted import ScriptedTest, free_port, table
@@ -27,8 +26,7 @@ async def handle_async(job):
 def run(*words, lines=""):
     """Runs the command in this process. Its status, and what it wrote to standard output and standard error."""
     said, errors = io.StringIO(), io.StringIO()
-    with contextlib.redirect_stdout(said), contextlib.redirect_stderr(errors), \
-            unittest.mock.patch("sys.stdin", io.StringIO(lines)):
+    with patch.multiple("sys", stdin=io.StringIO(lines), stdout=said, stderr=errors):
         try:
             status = main([str(it) for it in words])
         except SystemExit as ended:
@@ -90,8 +88,7 @@ class CommandTest(ScriptedTest):
     def test_a_record(self):
         server = self.play("AT 0; SIZE > SIZE 3; QUIT")
         self.assertEqual(run("size", "--port", server.port, "--record", self.path)[0], 0)
-        with open(self.path, encoding="ascii") as file:
-            lines = [json.loads(it) for it in file]
+        lines = map(json.loads, self.path.read_text("ascii").splitlines())
         self.assertEqual([(it["request"], it["reply"]) for it in lines],
                          [("AT 0", ["ERR 1 syntax"]), ("SIZE", ["SIZE 3"]), ("QUIT", ["BYE"])])
 

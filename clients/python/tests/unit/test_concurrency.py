@@ -4,11 +4,10 @@ import logging
 import sys
 import threading
 import time
-import unittest.mock
+from unittest.mock import patch
 
 from from_threads import for_both_kinds
-from scripted import PATIENCE, wait_for
-from worker_case import A, GIVES_A, GIVES_B, LAST, ConcurrencyCase, WorkerCase
+from scripted import A, GIVES_A, GIVES_B, LAST, PATIENCE, ConcurrencyCase, WorkerCase, wait_for
 from rb_broker_client import AsyncWorker, Job, Report
 
 LIMIT = 0.5  # seconds of a handler
@@ -79,7 +78,7 @@ class TimeoutTest(ConcurrencyCase):
 
 
 @for_both_kinds
-@unittest.mock.patch("rb_broker_client.worker.LONG", LIMIT)
+@patch("rb_broker_client.worker.LONG", LIMIT)
 class LongTest(WorkerCase):
     """What runs for more than a minute, which is half a second here."""
 

@@ -3,12 +3,10 @@ import asyncio
 import fcntl
 import functools
 import json
-import threading
 
 from from_threads import for_both_kinds
-from scripted import PATIENCE, ScriptedTest, free_port
+from scripted import LAST, PATIENCE, ScriptedTest, WorkerCase, free_port, in_threads
 from test_command import run
-from worker_case import LAST, WorkerCase
 from rb_broker_client import AsyncWorker, DeadLetters, Job, Producer, Report
 from rb_broker_client.dead_letters import read_letters
 
@@ -43,7 +41,7 @@ class KeptTest(FileCase, WorkerCase):
 
     def test_several_threads_have_one_file(self):
         keep = lambda number: self.keep(*[f"{number}-{it}" for it in range(50)])
-        self.in_threads(*[functools.partial(keep, it) for it in range(4)])
+        in_threads(*[functools.partial(keep, it) for it in range(4)])
         self.assertEqual(sorted(self.payloads()), sorted(f"{n}-{it}" for n in range(4) for it in range(50)))
 
     def test_a_file_that_can_not_be_written(self):
@@ -65,7 +63,6 @@ class LoopTest(FileCase):
             fcntl.flock(held, fcntl.LOCK_EX)
             server = self.play("AT 0; WAIT > ITEM 2 1000 3 b; FAIL 2 > DEAD 2; BRIEF > ITEM 0 0 1 a; DONE 0; QUIT")
             worker = AsyncWorker(handle, server.port, concurrency=2, on_dead=DeadLetters(self.path))
-            threading.Timer(PATIENCE, worker.stop).start()
             self.assertEqual(asyncio.run(asyncio.wait_for(worker.run(), PATIENCE)), Report(done=1, dead=1))
         self.assertEqual(self.payloads(), ["b"])
 
@@ -73,8 +70,7 @@ class LoopTest(FileCase):
 class CommandTest(FileCase):
     def test_they_are_shown_and_offered_and_taken_out_of_the_file(self):
         self.keep("a", "b")
-        with open(self.path, encoding="ascii") as file:
-            self.assertEqual(run("dead", self.path), (0, file.read(), ""))
+        self.assertEqual(run("dead", self.path), (0, self.path.read_text("ascii"), ""))
         self.assertEqual(self.payloads(), ["a", "b"])
         server = self.play("AT 0; OFFER 0 b > OFFERED 0 5; OFFER 0 a > OFFERED 1 5")
         self.assertEqual(run("dead", self.path, "--offer", "--port", server.port), (0, "offered 2\n", ""))
@@ -89,8 +85,7 @@ class CommandTest(FileCase):
 
     def test_what_is_no_dead_letter(self):
         for text in ("letter\n", '{"payload"\n', "[]\n", '{"id": 3}\n'):
-            with open(self.path, "w", encoding="ascii") as file:
-                file.write(text)
+            self.path.write_text(text, "ascii")
             for words in ((), ("--offer", "--port", free_port())):
                 status, said, errors = run("dead", self.path, *words)
                 self.assertEqual((status, said), (2, ""))

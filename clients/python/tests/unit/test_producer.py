@@ -2,10 +2,11 @@
 import functools
 import threading
 import time
-import unittest.mock
+from contextlib import closing
+from unittest.mock import patch
 
 from from_threads import for_both_kinds
-from scripted import PATIENCE, ScriptedTest, fork, free_port, status_of
+from scripted import PATIENCE, ScriptedTest, fork, free_port, in_threads, status_of
 from rb_broker_client import (
     FullError, InDoubtError, NotOfferedError, Offered, OutOfMemoryError, Pauses, Producer, RefusedError,
 )
@@ -23,13 +24,11 @@ class ProducerCase(ScriptedTest):
 
     kind = Producer
 
-    def produce(self, *sessions, patience=PATIENCE, **options):
+    def produce(self, *sessions, **options):
         """A producer of these sessions, each of which begins with the greeting."""
         self.server = self.play(*[it if it[:4] == "AT 0" else f"AT 0; {it}" for it in sessions])
-        options = {"pauses": Pauses(first=0.01, longest=0.02), **options}
-        producer = self.kind(self.server.port, patience=patience, **options)
-        self.addCleanup(producer.close)
-        return producer
+        options = {"patience": PATIENCE, "pauses": Pauses(first=0.01, longest=0.02), **options}
+        return self.enterContext(closing(self.kind(self.server.port, **options)))
 
     def assert_session_ends(self):
         self.assertTrue(self.server.ended.acquire(timeout=PATIENCE))
@@ -45,8 +44,7 @@ class ProducerTest(ProducerCase):
 
     def test_a_reply_that_is_not_heard_leaves_a_doubt_and_the_next_offer_connects_again(self):
         producer = self.produce(f"{OFFER} > hangs up", "OFFER 5 b > OFFERED 0 5")
-        with self.assertRaisesRegex(InDoubtError, OFFER):
-            offer(producer)
+        self.assertRaisesRegex(InDoubtError, OFFER, offer, producer)
         self.assert_session_ends()
         self.assertEqual(offer(producer, "b"), Offered(0, 5))
 
@@ -58,12 +56,10 @@ class ProducerTest(ProducerCase):
             self.assertRaises(NotOfferedError, offer, producer)
 
     def test_patience_is_that_of_all_that_an_offer_waits_for(self):
-        self.late = lambda _: time.sleep(0.7 * patience)
-        patience, began = 1.0, time.monotonic()
-        producer = self.produce(f"AT 0 > late: ERR 1 syntax; {OFFER} > nothing", patience=patience)
-        with self.assertRaisesRegex(InDoubtError, r"no reply came within 0\.[23] seconds$"):
-            offer(producer)
-        self.assertLess(time.monotonic() - began, 1.3 * patience)
+        began = time.monotonic()
+        producer = self.produce(f"AT 0 > late 0.7: ERR 1 syntax; {OFFER} > nothing", patience=1.0)
+        self.assertRaisesRegex(InDoubtError, r"no reply came within 0\.[23] seconds$", offer, producer)
+        self.assertLess(time.monotonic() - began, 1.3)
 
     def test_after_its_end_a_producer_offers_nothing(self):
         for sessions in ((), (FIRST,)):
@@ -133,7 +129,7 @@ class SessionTest(ProducerCase):
         self.goes_on = lambda _: is_asked.set() or may_answer.wait(PATIENCE)
         for steps in (f"AT 0 > goes_on: ERR 1 syntax; {FIRST}", f"{OFFER} > goes_on: OFFERED 0 5"):
             producer = self.produce(steps)
-            self.in_threads(lambda: told.append(offer(producer)), lambda: self.assertTrue(is_asked.wait(PATIENCE)) or
+            in_threads(lambda: told.append(offer(producer)), lambda: self.assertTrue(is_asked.wait(PATIENCE)) or
                             self.offer_in_fork(producer) or may_answer.set())
             self.assertEqual(told.pop(), Offered(0, 5))
             is_asked.clear()
@@ -155,13 +151,13 @@ class ThreadsTest(ProducerCase):
         sent = "; ".join(f"OFFER 5 {it} > sees {it}: nothing" for it in "abc")
         producer = self.produce(f"{sent}; OFFER 5 d > OFFERED 0 5, OFFERED 1 5, OFFERED 2 5, OFFERED 3 5; {OFFER} > "
                                 "OFFERED 4 5")
-        self.in_threads(*[functools.partial(offer_behind, *it) for it in zip("abcd", (None, *"abc"))])
+        in_threads(*[functools.partial(offer_behind, *it) for it in zip("abcd", (None, *"abc"))])
         self.assertEqual((told, offer(producer)), ({"a": 0, "b": 1, "c": 2, "d": 3}, Offered(4, 5)))
 
     def test_many_offers_at_the_same_time(self):
         count, told = 40, []
         producer = self.produce("; ".join(f"{OFFER} > OFFERED {id} 5" for id in range(count)))
-        self.in_threads(*[lambda: [told.append(offer(producer).id) for _ in range(count // 4)]] * 4)
+        in_threads(*[lambda: [told.append(offer(producer).id) for _ in range(count // 4)]] * 4)
         self.assertEqual(sorted(told), list(range(count)))
 
     def offer_beside(self, steps, fault, text, behind=""):
@@ -171,14 +167,14 @@ class ThreadsTest(ProducerCase):
 
         def offer_meanwhile():
             self.assertTrue(is_asked.wait(PATIENCE))
-            with unittest.mock.patch.object(getattr(producer, "thing", producer), "_patience", 0.2):
+            with patch.object(getattr(producer, "thing", producer), "_patience", 0.2):
                 self.assertRaisesRegex(fault, text, offer, producer, "b")
             told.append("given up")
             is_over.set()
             told.extend(offer(producer, it) for it in behind)
 
         producer = self.produce(*steps)
-        self.in_threads(lambda: told.append(offer(producer)), offer_meanwhile)
+        in_threads(lambda: told.append(offer(producer)), offer_meanwhile)
         self.assertEqual(told, ["given up", Offered(0, 5), *[Offered(2, 5)] * len(behind)])
         return producer
 
@@ -194,18 +190,17 @@ class ThreadsTest(ProducerCase):
         self.assertEqual(offer(producer, "c"), Offered(2, 5))
 
     def test_beside_one_that_has_given_up_another_goes_on_reading(self):
-        self.rests = lambda _: time.sleep(0.2)
-        self.offer_beside([f"{OFFER} > goes_on: nothing; OFFER 5 b > nothing; OFFER 5 c > rests: OFFERED 0 5; > rests: "
-                           "OFFERED 1 5, OFFERED 2 5"], InDoubtError, "^OFFER 5 b was accepted or not: ", behind="c")
+        self.offer_beside([f"{OFFER} > goes_on: nothing; OFFER 5 b > nothing; OFFER 5 c > late 0.2: OFFERED 0 5; "
+                           "> late 0.2: OFFERED 1 5, OFFERED 2 5"], InDoubtError, "^OFFER 5 b was accepted or not: ",
+                          behind="c")
 
     def test_all_that_wait_are_in_doubt_once_the_session_is_lost(self):
         doubts = []
 
         def be_in_doubt():
-            with self.assertRaisesRegex(InDoubtError, f"^{OFFER} was accepted or not: "):
-                offer(producer)
+            self.assertRaisesRegex(InDoubtError, f"^{OFFER} was accepted or not: ", offer, producer)
             doubts.append(OFFER)
 
         producer = self.produce("; ".join([f"{OFFER} > nothing"] * 3 + [f"{OFFER} > hangs up"]), SECOND)
-        self.in_threads(*[be_in_doubt] * 4)
+        in_threads(*[be_in_doubt] * 4)
         self.assertEqual((len(doubts), offer(producer)), (4, Offered(1, 5)))

@@ -4,9 +4,8 @@ import unittest
 from unittest.mock import Mock
 
 from from_threads import for_both_kinds
-from scripted import PATIENCE, wait_for
+from scripted import A, LAST, PATIENCE, WorkerCase, paragraphs, wait_for
 from test_producer import ProducerCase, offer
-from worker_case import A, LAST, WorkerCase, paragraphs
 from rb_broker_client import Greeting, InDoubtError, LostRun, NotOfferedError, Offered, Report, UnknownReplyError
 from rb_broker_client.run import Run
 
@@ -97,8 +96,8 @@ class ProducerTest(ProducerCase):
 
     def test_what_a_producer_says_that_waits(self):
         is_over = threading.Event()
-        self.late = lambda _: is_over.wait(PATIENCE)
-        producer = self.produce("AT 0 > late: ERR 1 syntax", patience=0.5)
+        self.goes_on = lambda _: is_over.wait(PATIENCE)
+        producer = self.produce("AT 0 > goes_on: ERR 1 syntax", patience=0.5)
         self.addCleanup(is_over.set)
         told = r"all workers of the server at .* were busy for 0\.[5-9] seconds$"
         self.assertRaisesRegex(NotOfferedError, told, producer.offer, "a")

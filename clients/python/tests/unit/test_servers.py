@@ -4,13 +4,13 @@ import socket
 import threading
 import time
 import unittest
-import unittest.mock
+from contextlib import closing
+from unittest.mock import Mock, patch
 
 from from_threads import for_both_kinds
-from scripted import PATIENCE, ScriptedTest, free_port
+from scripted import A, LAST, PATIENCE, ConcurrencyCase, Jobs, ScriptedTest, WorkerCase, free_port
 from test_command import run
-from test_producer import offer
-from worker_case import A, LAST, ConcurrencyCase, Jobs, WorkerCase
+from test_producer import ProducerCase, offer
 from rb_broker_client import Broker, InDoubtError, NotOfferedError, Offered, Pauses, Producer, Report, Worker
 from rb_broker_client.servers import read_addresses
 from rb_broker_client.tasks import Tasks
@@ -64,33 +64,29 @@ class WorkerTest(WorkerCase):
 
     def test_a_pause_follows_each_round_in_which_none_serves_and_no_other_try(self):
         tried = []
-        pauses = self.two_pauses(lambda: tried.append("pause"))
 
         def refuse(address, timeout):
             tried.append(address[1])
             raise ConnectionRefusedError
 
-        worker = self.make(self.handle, at(1, 2, 3), pauses=pauses)
-        with unittest.mock.patch.object(socket, "create_connection", refuse):
+        worker = self.make(self.handle, at(1, 2, 3), pauses=Mock(**{"next.side_effect": self.two_pauses(tried)}))
+        with patch.object(socket, "create_connection", refuse):
             worker.run()
         self.assertEqual(tried, [1, 2, 3, "pause", 1, 2, 3, "pause"])
 
     def test_servers_that_hang_up_are_no_endless_loop(self):
         servers = [self.play(*["AT 0; WAIT > hangs up"] * 2) for _ in range(2)]
-        pauses = self.two_pauses(lambda: None)
+        pauses = Mock(**{"next.side_effect": self.two_pauses([])})
         self.make(self.handle, at(*[it.port for it in servers]), pauses=pauses).run()
         self.assertEqual(pauses.next.call_count, 2)
 
-    def two_pauses(self, tell):
-        """Short pauses, each of which is told, and with the second the worker stops."""
-        def begin():
-            tell()
-            if pauses.next.call_count == 2:
-                self.worker.stop()
-            return 0.02
-
-        pauses = unittest.mock.Mock(**{"next.side_effect": begin})
-        return pauses
+    def two_pauses(self, told):
+        """Short pauses, each of which is told. In the second the worker stops."""
+        told.append("pause")
+        yield 0.02
+        told.append("pause")
+        self.worker.stop()
+        yield 0.02
 
     def test_a_log_names_the_one_that_it_is_about(self):
         away, server = free_port(), self.play(f"AT 0; {A}; {LAST}")
@@ -102,8 +98,6 @@ class WorkerTest(WorkerCase):
 @for_both_kinds
 class EndingTest(ConcurrencyCase):
     """A gateway that is asked to end gives waits up, and lets jobs in hand be told."""
-
-    kind = Worker
 
     def test_jobs_in_hand_are_told_there_while_the_next_one_gives_more(self):
         is_told = threading.Event()
@@ -120,13 +114,9 @@ class EndingTest(ConcurrencyCase):
 
 
 @for_both_kinds
-class ProducerTest(ScriptedTest):
-    kind = Producer
-
+class ProducerTest(ProducerCase):
     def produce(self, *servers, **options):
-        producer = self.kind(at(*servers), **{"patience": PATIENCE, "pauses": LONG, **options})
-        self.addCleanup(producer.close)
-        return producer
+        return self.enterContext(closing(self.kind(at(*servers), **{"patience": PATIENCE, "pauses": LONG, **options})))
 
     def test_an_offer_behind_the_end_of_a_session_goes_to_the_next(self):
         first = self.play("AT 0; OFFER 5 a > OFFERED 0 5; > hangs up")

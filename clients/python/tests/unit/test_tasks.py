@@ -6,18 +6,17 @@ import sqlite3
 import sys
 import threading
 import time
-import unittest.mock
 from concurrent.futures import ThreadPoolExecutor
 from datetime import datetime, timedelta, timezone
 from functools import partial
 from pathlib import Path
 from runpy import run_path
+from unittest.mock import Mock, patch
 
 import pytest
-from scripted import ScriptedTest, fork, free_port, wait_for
+from scripted import Awaitable, ScriptedTest, fork, free_port, wait_for
 from test_command import run
-from worker_case import Awaitable
-from rb_broker_client import Greeting, Job, RefusedError, Report, waiting
+from rb_broker_client import Greeting, Job, RefusedError, Report, task_store, tasks, waiting
 from rb_broker_client.task_runners import Processes
 from rb_broker_client.tasks import Middleware, RetryLater, Tasks, exponential
 
@@ -150,23 +149,21 @@ class TasksTest(ScriptedTest):
                          (2, {"7", "9"}))  # another service
 
     def test_coroutine_functions(self):
+        @self.app.task(name="wait", attempts=1, timeout=0.2)
         async def wait(seconds):
             self.seen.append(seconds)
             await asyncio.sleep(seconds)
 
-        waits = self.app.task(name="wait", attempts=1, timeout=0.2)(wait)
         with self.app.testing() as moments:
             for seconds in (0, 5):
-                waits.later(0, seconds)
+                wait.later(0, seconds)
             self.passes(moments, (0, 2))
             (dead,) = self.app.dead()
         self.assertEqual((sorted(self.seen), dead.arguments), ([0, 5], "[[5], {}]"))
         self.assertRegex(dead.error, "TimeoutError\n$")
 
     def test_what_leaves_its_work_to_nobody_or_exits_has_failed_and_a_back_off_that_raises_is_the_end(self):
-        async def forgets():
-            return Awaitable()
-
+        forgets = partial(asyncio.sleep, 0, Awaitable())  # which gives it
         with self.app.testing() as moments:
             self.app.task(name="4", backoff=lambda failures: [][failures])(lambda: 1 / 0).later(0)
             for number, it in enumerate((Awaitable, forgets, lambda: (it for it in ()), lambda: sys.exit(3))):
@@ -178,7 +175,7 @@ class TasksTest(ScriptedTest):
     def test_middleware_is_told_of_each_attempt_and_changes_nothing(self):
         told = []
         note = lambda name, what, task, *fault: told.append(" ".join([name, what, task.name, *map(str, fault)]))
-        tells = lambda name: unittest.mock.Mock(**{it: partial(note, name, it) for it in ("before", "after", "failed")})
+        tells = lambda name: Mock(**{it: partial(note, name, it) for it in ("before", "after", "failed")})
         self.app.use(tells("one"), Middleware(), tells("other"))
         self.raises = [ValueError("a")]
         with self.app.testing() as moments:
@@ -186,7 +183,7 @@ class TasksTest(ScriptedTest):
             self.passes(moments, (0, 1), (10, 2))
             self.assertEqual(told, ["one before note", "other before note", "other failed note a", "one failed note a",
                                     "one before note", "other before note", "other after note", "one after note"])
-            self.app.use(unittest.mock.Mock(spec=Middleware, before=unittest.mock.Mock(side_effect=OSError)))
+            self.app.use(Mock(spec=Middleware, before=Mock(side_effect=OSError)))
             self.note.later(0)
             with self.logged() as said:
                 self.passes(moments, (0, 3), ("1d", 3))
@@ -194,14 +191,11 @@ class TasksTest(ScriptedTest):
 
     def run_with(self, middleware):
         """Runs two tasks that are done, one of them a coroutine, and one that fails and then is done."""
-        async def waits():
-            pass
-
         self.app.use(middleware)
         self.raises = [ValueError("once")]
         with self.app.testing() as moments:
-            for name, function in (("fails", self.noted), ("waits", waits), ("<lambda>", lambda: None)):
-                self.app.task(name=name)(function).later(0)
+            for name, it in (("fails", self.noted), ("waits", partial(asyncio.sleep, 0)), ("<lambda>", lambda: None)):
+                self.app.task(name=name)(it).later(0)
             moments.pass_by("1h")
 
     def test_metrics_of_prometheus(self):
@@ -217,19 +211,18 @@ class TasksTest(ScriptedTest):
     def test_spans_of_a_tracer_that_has_the_one_method_of_opentelemetrys(self):
         spans = []
 
-        class Tracer:
-            @contextlib.contextmanager
-            def start_as_current_span(self, name, attributes):
-                fault = None
-                try:
-                    yield
-                except Exception as raised:
-                    fault = str(raised)
-                    raise
-                finally:
-                    spans.append((name, attributes["task.attempt"], fault))
+        @contextlib.contextmanager
+        def start(name, attributes):
+            fault = None
+            try:
+                yield
+            except Exception as raised:
+                fault = str(raised)
+                raise
+            finally:
+                spans.append((name, attributes["task.attempt"], fault))
 
-        self.run_with(EXAMPLES["Spans"](Tracer()))
+        self.run_with(EXAMPLES["Spans"](Mock(spec=["start_as_current_span"], start_as_current_span=start)))
         self.assertEqual(sorted(spans, key=str), [
             ("<lambda>", 1, None), ("fails", 1, "once"), ("fails", 2, None), ("waits", 1, None)])
 
@@ -245,9 +238,7 @@ class TasksTest(ScriptedTest):
             touches.later(0, it)
         is_done = lambda: len(self.app.dead()) == 5 and all(os.path.exists(f"{self.path}.{it}") for it in names)
         stop = lambda: (wait_for(is_done), self.app.stop())
-        with unittest.mock.patch.object(self.app, "_run", self.run_from_file), \
-                unittest.mock.patch("rb_broker_client.task_store.AT_ONCE", 1), \
-                unittest.mock.patch("rb_broker_client.task_store.UNSENT", 0):
+        with patch.object(self.app, "_run", self.run_from_file), patch.multiple(task_store, AT_ONCE=1, UNSENT=0):
             threading.Thread(target=stop, daemon=True).start()
             self.assertEqual(self.app.run(2, processes=2), Report(done=2))
         self.assertTrue(is_done())
@@ -256,7 +247,7 @@ class TasksTest(ScriptedTest):
             "TimeoutError: its process ended with status 3"})
 
     def test_a_coroutine_that_can_be_cancelled_is_not_ended_with_its_process(self):
-        child, store = unittest.mock.Mock(owner="one", process=unittest.mock.Mock(exitcode=None)), self.app._store
+        child, store = Mock(owner="one", process=Mock(exitcode=None)), self.app._store
         store.claim(self.app.task(name="waits", timeout=1)(asyncio.sleep).later(0, 60), 1, "one")
         for seconds, is_killed in ((2, False), (20, True)):
             self.moments(store)(seconds)
@@ -267,7 +258,7 @@ class TasksTest(ScriptedTest):
         """Whatever its tasks do."""
         pid = Path(f"{self.path}.pid")
         hangs = lambda threads, owner: (pid.write_text(f"{os.getpid()}\n"), time.sleep(60))
-        with unittest.mock.patch.object(self.app, "_run", hangs):
+        with patch.object(self.app, "_run", hangs):
             parent = fork(lambda: self.app.run(1, processes=1))
         self.assertTrue(wait_for(lambda: pid.exists() and pid.read_text()))
         parent.kill()
@@ -288,23 +279,16 @@ class TasksTest(ScriptedTest):
         return Report(done=1)
 
     def test_who_keeps_tasks_goes_on_when_the_file_can_not_be_used(self):
-        calls, full = [], sqlite3.OperationalError("database or disk is full")
+        full = sqlite3.OperationalError("database or disk is full")
         text = "ERROR:rb_broker_client.tasks:the file of tasks can't be used now"
-
-        def fail(*_):
-            calls.append(1)
-            if len(calls) % 2 == 0:
-                self.app._is_over.set()
-            raise full
-
-        for name, keep in (("beat", self.app._keep_alive), ("overdue", self.app._keep_offered)):
-            self.app._is_over.clear()
-            with unittest.mock.patch.object(self.app._store, name, fail), \
-                    unittest.mock.patch("rb_broker_client.tasks.STALE", 0.01), self.logged() as said:
+        for name, keep, is_over in (("beat", self.app._keep_alive, [False, False, True]),
+                                    ("overdue", self.app._keep_offered, [False, True])):
+            with patch.object(self.app._is_over, "wait", side_effect=is_over), \
+                    patch.object(self.app._store, name, side_effect=full), self.logged() as said:
                 keep()
             self.assertEqual([it.splitlines()[0] for it in said], [text] * 2)
-        child = unittest.mock.Mock(process=unittest.mock.Mock(exitcode=None))
-        with unittest.mock.patch.object(self.app._store, "running", side_effect=full), self.logged() as said:
+        child = Mock(process=Mock(exitcode=None))
+        with patch.object(self.app._store, "running", side_effect=full), self.logged() as said:
             Processes(self.app, 1, 1)._look_after(child)
         self.assertEqual([it.splitlines()[0] for it in said], [text])
 
@@ -313,20 +297,19 @@ class TasksTest(ScriptedTest):
             self.note.later(0, number)
         self.moments(self.app._store)(6)
         faults = [RefusedError("ERR 3 range"), ValueError("of a back-off that is infinite"), None]
-        with unittest.mock.patch.object(self.app, "_send", side_effect=faults) as send:
+        with patch.object(self.app, "_send", side_effect=faults) as send:
             threading.Timer(0.5, self.app._is_over.set).start()
             self.app._keep_offered()
         self.assertEqual(send.call_count, 3)
 
     def test_a_task_whose_end_could_not_be_written_is_run_again(self):
         store, id = self.app._store, self.note.later(0, 17)
-        with unittest.mock.patch.object(store, "done", side_effect=sqlite3.OperationalError("database is locked")):
+        with patch.object(store, "done", side_effect=sqlite3.OperationalError("database is locked")):
             self.assertRaises(sqlite3.OperationalError, waiting.run,
                               self.app._attempt(waiting.Blocking(), store.claim(id, 1, "one")))
-        now = time.time()
-        store.now = lambda: now + 60
+        self.moments(store)(60)
         self.app._owner = "one"
-        with unittest.mock.patch("rb_broker_client.tasks.STALE", 0.01):
+        with patch.object(tasks, "STALE", 0.01):
             threading.Timer(0.2, self.app._is_over.set).start()
             self.app._keep_alive()  # as long as it runs other tasks
         self.assertEqual([it.id for it in store.overdue(60)], [id])

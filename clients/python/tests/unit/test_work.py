@@ -2,11 +2,10 @@
 import functools
 import logging
 import math
-import unittest.mock
 from collections import deque
+from unittest.mock import Mock, patch
 
-from scripted import SHORT, ScriptedTest
-from worker_case import paragraphs, values
+from scripted import SHORT, ScriptedTest, paragraphs, values
 from rb_broker_client import BrokerError, Greeting, NotHeldError, Pauses, Report
 from rb_broker_client.run import Run
 from rb_broker_client.servers import Servers
@@ -17,9 +16,7 @@ class WorkTest(ScriptedTest):
     def setUp(self):
         super().setUp()
         self.moment = 1_000.0
-        patch = unittest.mock.patch("rb_broker_client.work.monotonic", lambda: self.moment)
-        patch.start()
-        self.addCleanup(patch.stop)
+        self.enterContext(patch("rb_broker_client.work.monotonic", lambda: self.moment))
 
     def test_each_turn(self):
         for name, options, _, lines in paragraphs("work.txt"):
@@ -34,7 +31,7 @@ class WorkTest(ScriptedTest):
         known = Run(logging.getLogger("rb_broker_client.worker"), "a place")
         self.report, self.concurrency, self.running, self.is_stopping = Report(), concurrency, 0, True
         self.dead = []
-        session = unittest.mock.Mock(greeting=Greeting(run, 0, 0) if run else None)
+        session = Mock(greeting=Greeting(run, 0, 0) if run else None)
         pauses = Pauses(first, longest)
         self.work = Work(session, Servers(7011), 1.0, self.report, pauses, known, self.dead.append, attempts)
         self.due, self.jobs = deque(), {}

@@ -6,11 +6,11 @@ import logging
 import os
 import signal
 import time
-import unittest.mock
+import unittest
+from unittest.mock import AsyncMock, Mock, patch
 
 from from_threads import for_both_kinds
-from scripted import PATIENCE, fork, free_port, status_of
-from worker_case import A, GIVES_A, GIVES_B, LAST, Awaitable, WorkerCase
+from scripted import A, GIVES_A, GIVES_B, LAST, PATIENCE, Awaitable, WorkerCase, fork, free_port, status_of
 from rb_broker_client import AsyncWorker, Job, Pauses, Report, UnknownReplyError, Worker
 
 FULL = "WAIT > ERR 6 full; QUIT"
@@ -47,7 +47,7 @@ class JobTest(WorkerCase):
             self.assertEqual((buried, errors), (dead, told))
 
     def test_a_fault_of_what_is_told_of_dead_jobs_is_logged_and_the_worker_goes_on(self):
-        refuse = unittest.mock.Mock(side_effect=OSError("the disk is full"))
+        refuse = Mock(side_effect=OSError("the disk is full"))
         steps = f"{GIVES_B}; FAIL 1 > DEAD 1; {A}; {LAST}"
         with self.logged() as said:
             self.assert_reports(Report(done=1, dead=1), steps, on_dead=refuse)
@@ -66,7 +66,7 @@ class JobTest(WorkerCase):
             self.assertRaises(UnicodeError, self.kind(self.handle, 7011, "a..b", concurrency=concurrency).run)
 
     def test_pauses_grow_until_a_wait_is_answered(self):
-        pauses = unittest.mock.Mock(**{"next.return_value": 0.01})
+        pauses = Mock(**{"next.return_value": 0.01})
         self.work(FULL, FULL, f"WAIT > STOPPED; WAIT > NONE; {LAST}", pauses=pauses).run()
         self.assertEqual([name for name, *_ in pauses.method_calls[:5]], ["next", "next", "next", "reset", "reset"])
 
@@ -75,7 +75,7 @@ class HandlerTest(WorkerCase):
     """No job may count as done whose handler has left its work to nobody."""
 
     def test_one_that_is_broken_off_ends_the_session_with_its_job(self):
-        interrupt = unittest.mock.Mock(side_effect=KeyboardInterrupt)
+        interrupt = Mock(side_effect=KeyboardInterrupt)
         self.assertRaises(KeyboardInterrupt, self.work("WAIT > ITEM 0 0 1 a", handler=interrupt).run)
 
     def test_a_coroutine_function_is_refused(self):
@@ -100,19 +100,14 @@ class HandlerTest(WorkerCase):
                 self.assert_fails(kind, it)
 
     def test_a_job_fails_whose_handler_gives_an_awaitable(self):
-        async def forgets(job):
-            return Awaitable()
-
         self.assert_fails(Worker, lambda job: Awaitable())
-        self.assert_fails(AsyncWorker, forgets)
+        self.assert_fails(AsyncWorker, AsyncMock(return_value=Awaitable()))
 
     def assert_fails(self, kind, handler):
         """Each job of such a worker fails."""
-        port = self.play(f"AT 0; {GIVES_A}; FAIL 0 > stops: DEAD 0; QUIT").port
-        self.worker = kind(handler, port)
-        self.stop_later(PATIENCE)
-        report = self.worker.run() if kind is Worker else asyncio.run(self.worker.run())
-        self.assertEqual(report, Report(dead=1))
+        self.kind = kind
+        worker = self.work(f"{GIVES_A}; FAIL 0 > stops: DEAD 0; QUIT", handler=handler)
+        self.assertEqual(worker.run() if kind is Worker else asyncio.run(worker.run()), Report(dead=1))
 
 
 @for_both_kinds
@@ -182,8 +177,7 @@ class ForkTest(WorkerCase):
         self.assertEqual((len(os.listdir("/proc/self/fd")), len(workers)), (len(before), 5))
 
     def test_nothing_is_said_of_one_that_gets_no_descriptor(self):
-        with unittest.mock.patch("socket.socketpair", side_effect=OSError), \
-                unittest.mock.patch("sys.unraisablehook") as says:
+        with patch("socket.socketpair", side_effect=OSError), patch("sys.unraisablehook") as says:
             self.assertRaises(OSError, lambda: Worker(self.handle, 7011).run())
             gc.collect()
         self.assertFalse(says.called)
