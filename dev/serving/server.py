@@ -6,6 +6,7 @@ import random
 import socket
 import subprocess
 import threading
+from subprocess import PIPE
 from typing import Any, NamedTuple, Self, Sequence
 
 from common.program import tested_program
@@ -27,11 +28,10 @@ class Ended(NamedTuple):
     errors: str
 
 
-def started(words: Sequence[str], folder: str = ".", **how: Any) -> subprocess.Popen[str]:
+def started(words: Sequence[str], folder: str = ".", stderr: Any = PIPE, **how: Any) -> subprocess.Popen[str]:
     """A process of these words in a folder, with pipes for what it writes, and what else it gets. It does not outlive
     this one."""
-    pipe = subprocess.PIPE
-    process = subprocess.Popen(words, cwd=folder, stdout=pipe, stderr=pipe, encoding="utf-8", **how)
+    process = subprocess.Popen(words, cwd=folder, stdout=PIPE, stderr=stderr, encoding="utf-8", **how)
     atexit.register(process.kill)
     return process
 

@@ -65,7 +65,7 @@ def classes(tmp_path_factory: pytest.TempPathFactory) -> str:
 
 def test_the_day() -> None:
     """The hostile day of the Python package with clients of this one."""
-    modules = os.pathsep.join(f"{PYTHON}/{folder}" for folder in ("src", "tests/served", "tests/day"))
+    modules = os.pathsep.join(f"{PYTHON}/{folder}" for folder in ("src", "tests/unit", "tests/served", "tests/day"))
     settings = {"RB_BROKER_JOBS": os.environ.get("RB_BROKER_JOBS", "2000"), "PYTHONPATH": modules}
     run(python_with_pytest(), "-B", "-m", "pytest", f"{CLIENT}/tests/day", cwd=TOP, env={**os.environ, **settings})
 

@@ -11,7 +11,8 @@ from pathlib import Path
 
 import test_hostile_day
 from recording_proxy import RecordingProxy
-from server import PATIENCE, start
+from server import PATIENCE
+from serving.server import started
 
 TOLD = {"took": "ITEM", "done": "DONE", "failed": "AGAIN", "back": "ERR", "gone": "ERR", "doubt": "nothing"}
 SAVING = ("-Xmx64m", "-XX:TieredStopAtLevel=1", "-XX:+UseSerialGC")
@@ -30,7 +31,7 @@ def classes():
 def start_java(name, *words):
     """Starts a class of the package's tests."""
     words = ["java", *SAVING, "-cp", classes().name, f"rbbroker.client.{name}", *map(str, words)]
-    return start(words, stdin=subprocess.PIPE, encoding="ascii")
+    return started(words, stderr=None, stdin=subprocess.PIPE)
 
 
 class JavaWorker(test_hostile_day.WorkerProcess):

@@ -21,8 +21,8 @@ from history import History
 from nuisance import Nuisance
 from rb_broker_client import AsyncProducer, Broker, FullError, InDoubtError, Pauses, Producer
 from records import ends_in
-from server import PATIENCE, ServedTest, start
-from serving.server import free_port
+from server import PATIENCE, ServedTest
+from serving.server import free_port, started
 from servicing.tests.process import Service
 
 JOBS = int(os.environ.get("RB_BROKER_JOBS", 1_000))
@@ -44,10 +44,9 @@ class WorkerProcess:
     def __init__(self, handler, port, record):
         self.record, self.handler = record, handler
         open(record, "ab").close()
-        words = ["worker", f"hostile_handlers:{handler}", "--port", port, "--concurrency", HELD, "--timeout", 1,
-                 "--record", record]
-        self._process = start([sys.executable, "-m", "rb_broker_client", *map(str, words)],
-                              cwd=os.path.dirname(os.path.realpath(__file__)), stderr=subprocess.DEVNULL)
+        words = [sys.executable, "-m", "rb_broker_client", "worker", f"hostile_handlers:{handler}", "--port", port,
+                 "--concurrency", HELD, "--timeout", 1, "--record", record]
+        self._process = started([*map(str, words)], os.path.dirname(os.path.realpath(__file__)), subprocess.DEVNULL)
 
     @property
     def has_begun(self):
@@ -238,11 +237,7 @@ class HostileDayTest(ServedTest):
 class AtService:
     """What of a day is another at a service, which has sessions of its own."""
 
-    verifying = []
-
-    @property
-    def port(self):
-        return self.server.port
+    verifying, port = [], HostileDayTest.port
 
     def serve_next(self, _):
         self.server = Service(self.path("service"), *AT_SERVICE, port=free_port())

@@ -14,8 +14,8 @@ from contextlib import closing, suppress
 from pathlib import Path
 
 from records import process_of
-from server import PATIENCE, ServedTest, start
-from serving.server import free_port
+from server import PATIENCE, ServedTest
+from serving.server import free_port, started
 from servicing.tests.process import Service
 
 TASKS = int(os.environ.get("RB_BROKER_TASKS", 150))
@@ -61,8 +61,8 @@ class HostileTasksTest(ServedTest):
         for name, words in {**{it: [*run, it] for it in PROCESSES}, "offers": offer}.items():
             if name not in self.processes:
                 with open(self.path(f"log-{name}"), "ab") as log:
-                    self.processes[name] = start([sys.executable, *map(str, words)], cwd=HERE, env=self.settings,
-                                                 stderr=log, start_new_session=True)
+                    self.processes[name] = started([sys.executable, *map(str, words)], HERE, log, env=self.settings,
+                                                   start_new_session=True)
 
     def kill(self, what):
         """Kills the process of this name with those that it began, or the server, the service, or all at once."""

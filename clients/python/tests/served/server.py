@@ -1,26 +1,18 @@
 """What tests have that run clients against servers: the program, or the one that RB_BROKER_PROGRAM names."""
 import asyncio
-import atexit
-import logging
 import subprocess
 import sys
 import threading
-import time
 
 from common.program import TOP, tested_program
 from history import History
+from scripted import wait_for
 from rb_broker_client import AsyncProducer, AsyncWorker, Broker, Job, Pauses, Producer, Report, Request, Worker
 from serving import PATIENCE
+from serving.server import started
 from serving.testing import ServingTest
 
 LONGEST = 600  # seconds of what may take long
-
-
-def start(words, **options):
-    """Starts a process that does not outlive the tests, even if they are interrupted."""
-    process = subprocess.Popen(words, stdout=subprocess.PIPE, **options)
-    atexit.register(process.kill)
-    return process
 
 
 class ServedTest(ServingTest):
@@ -28,16 +20,8 @@ class ServedTest(ServingTest):
 
     def setUp(self):
         super().setUp()
-        logging.disable(logging.CRITICAL)  # workers tell of each job that fails and each server that goes away
-        self.addCleanup(logging.disable, logging.NOTSET)
         self.faults = []  # of threads
         self.addCleanup(lambda: self.assertEqual(self.faults, []))
-
-    def gather(self, server, count, is_done, **options):
-        """This many workers of the server's port."""
-        crew = Crew(server.port, count, is_done, **options)
-        self.addCleanup(crew.stop)
-        return crew
 
     def begin(self, run):
         """Runs this in a thread of its own, for whose end the test waits, and which must raise nothing."""
@@ -54,8 +38,8 @@ class ServedTest(ServingTest):
 
     def begin_worker(self, worker):
         """Runs a worker of either kind in a thread of its own, until it is stopped."""
-        thread = run_in_thread(worker)
-        self.addCleanup(thread.join, PATIENCE)
+        is_async = isinstance(worker, AsyncWorker)
+        thread = self.begin(lambda: asyncio.run(worker.run()) if is_async else worker.run())
         self.addCleanup(worker.stop)
         return thread
 
@@ -127,30 +111,28 @@ class ServedTest(ServingTest):
 
     def start_worker(self, port, *words, **options):
         """Starts the command as a worker, which is gone at the end of the test."""
-        worker = start([sys.executable, "-u", "-m", "rb_broker_client", "worker", *words, "--port", str(port)],
-                       encoding="ascii", **options)
-        self.addCleanup(worker.communicate)
+        words = [sys.executable, "-u", "-m", "rb_broker_client", "worker", *words, "--port", str(port)]
+        worker = self.enterContext(started(words, **options))
         self.addCleanup(worker.kill)
         return worker
 
     def wait_until(self, is_so, seconds=PATIENCE):
         """Waits for a condition that another thread brings about."""
-        deadline = time.monotonic() + seconds
-        while not is_so():
-            self.assertLess(time.monotonic(), deadline, "it did not come about in time")
-            time.sleep(0.01)
+        self.assertTrue(wait_for(is_so, seconds), "it did not come about in time")
 
 
 class Crew:
-    """Workers of one port, with these options, each second one of asyncio. `is_done` says which attempts are done."""
+    """So many workers of a server, with these options, each second one of asyncio, until the end of a test. `is_done`
+    says which attempts are done."""
 
-    def __init__(self, port, count, is_done, **options):
+    def __init__(self, test, server, count, is_done, **options):
         self._is_done = is_done
         self.handled: list[Job] = []
         options = {"pauses": Pauses(first=0.05, longest=0.2), **options}
-        self.workers = [AsyncWorker(self._handle_async, port, **options) if it % 2 else
-                        Worker(self._handle, port, **options) for it in range(count)]
-        self._threads = [run_in_thread(it) for it in self.workers]
+        self.workers = [AsyncWorker(self._handle_async, server.port, **options) if it % 2 else
+                        Worker(self._handle, server.port, **options) for it in range(count)]
+        self._threads = [*map(test.begin_worker, self.workers)]
+        test.addCleanup(self.stop)
 
     def stop(self):
         """Stops all of them, and waits until they have ended. The sum of their reports."""
@@ -173,11 +155,3 @@ class Crew:
     async def _handle_async(self, job):
         await asyncio.sleep(0)
         self._handle(job)
-
-
-def run_in_thread(worker):
-    """Runs a worker of either kind in a thread of its own, until it is stopped."""
-    is_async = isinstance(worker, AsyncWorker)
-    thread = threading.Thread(target=lambda: asyncio.run(worker.run()) if is_async else worker.run(), daemon=True)
-    thread.start()
-    return thread

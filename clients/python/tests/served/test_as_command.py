@@ -1,6 +1,5 @@
 """The package as a command, with the built program; and its worker as a process that is killed, or sent signals."""
 import signal
-import subprocess
 import time
 from pathlib import Path
 
@@ -35,7 +34,7 @@ class CommandTest(ServedTest):
         self.file("handlers.py", HANDLERS)
 
     def start(self, server, *words, handler="handlers:deliver"):
-        return self.start_worker(server.port, handler, *words, cwd=self.room, stderr=subprocess.PIPE)
+        return self.start_worker(server.port, handler, *words, folder=self.room)
 
     def assert_done(self, server, *words):
         """The command ends well. Gives what it wrote."""

@@ -3,7 +3,7 @@ import logging
 
 from history import History
 from rb_broker_client import Broker, FullError, Pauses, Producer, Report, Request
-from server import PATIENCE, ServedTest
+from server import PATIENCE, Crew, ServedTest
 
 POLICY = ("--delay", 1_000_000, "--attempts", 5)
 JOBS, SERVERS = 1_500, 3
@@ -34,7 +34,7 @@ class LeavingTest(ServedTest):
 
     def test_jobs_are_done_through_servers_in_a_row(self):
         server = self.serve_run()
-        crew = self.gather(server, 3, is_done)
+        crew = Crew(self, server, 3, is_done)
         port = server.port
         producing = self.begin(lambda: self.produce(port, JOBS, **OFFERING))
         for number in range(1, SERVERS):
@@ -49,7 +49,7 @@ class LeavingTest(ServedTest):
 
     def test_what_a_full_run_left_is_worked_off_in_the_next(self):
         first = self.serve_run(calls=JOBS)
-        crew = self.gather(first, 3, is_done)
+        crew = Crew(self, first, 3, is_done)
         producing = self.begin(lambda: self.produce(first.port, JOBS, **OFFERING))
         with Broker(first.port, patience=PATIENCE) as broker:
             self.wait_until(lambda: isinstance(broker.ask_all([Request.size()])[0], FullError))
@@ -72,8 +72,7 @@ class LeavingTest(ServedTest):
     def test_a_run_that_was_lost_is_logged_and_one_that_goes_on_is_not(self):
         """A worker and a producer, idle as a server ends well and one is killed, go on. None greets, so ids show it."""
         server = self.serve_run(greets=False)
-        crew = self.gather(server, 1, is_done)
-        logging.disable(logging.NOTSET)
+        crew = Crew(self, server, 1, is_done)
         with self.assertLogs("rb_broker_client", logging.ERROR) as said, \
                 Producer(server.port, patience=PATIENCE) as producer:
             def offer(*numbers):
@@ -91,7 +90,6 @@ class LeavingTest(ServedTest):
             self.serve_run(server.port, greets=False)
             offer(*range(60, 90))
             crew.stop()
-        logging.disable(logging.CRITICAL)
         names = [it.name for it in said.records]
         self.assertEqual(({*names}, names.count("rb_broker_client.producer")),
                          ({"rb_broker_client.producer", "rb_broker_client.worker"}, 1))

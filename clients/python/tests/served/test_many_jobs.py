@@ -3,11 +3,13 @@ import asyncio
 import json
 import threading
 import time
+from contextlib import closing
 
 from from_threads import in_thread
+from scripted import in_threads
 from rb_broker_client import AsyncWorker, Broker, Producer, Report, Worker
 from rb_broker_formats.protocol import MOST_HELD
-from server import LONGEST, PATIENCE, ServedTest
+from server import LONGEST, PATIENCE, Crew, ServedTest
 from serving.delaying import DelayingProxy
 
 ATTEMPTS = 3
@@ -20,7 +22,7 @@ class ManyJobsTest(ServedTest):
         path, sessions = self.path("history"), crew + 1  # however long it takes
         server = self.serve("--workers", crew + 1, "--sessions", sessions, "--calls", 1_000_000, *POLICY, "--history",
                             path)
-        crew = self.gather(server, crew, lambda job: job.attempt == needed(int(job.payload)), **options)
+        crew = Crew(self, server, crew, lambda job: job.attempt == needed(int(job.payload)), **options)
         self.offer(server, *range(count))
         given = {it: min(needed(it), ATTEMPTS) for it in range(count)}
         self.wait_until(lambda: len(crew.handled) >= sum(given.values()), seconds=LONGEST)
@@ -41,8 +43,8 @@ class ManyJobsTest(ServedTest):
         history, jobs = self.path("history"), 1_000
         server = self.serve("--workers", 5, "--sessions", 5, "--calls", 100_000, *POLICY, "--history", history)
         with open(self.path("record"), "a", encoding="ascii") as record:
-            crews = [self.gather(server, count, lambda job: job.attempt > 1 or int(job.payload) % 5, concurrency=most,
-                                 record=record) for count, most in ((1, 1), (2, 8))]
+            crews = [Crew(self, server, count, lambda job: job.attempt > 1 or int(job.payload) % 5, concurrency=most,
+                          record=record) for count, most in ((1, 1), (2, 8))]
             self.produce(server.port, jobs, record=record)
             self.wait_until(lambda: sum(len(it.done()) for it in crews) >= jobs)
             counts = [vars(it.stop()) for it in crews]
@@ -59,9 +61,7 @@ class FarTest(ServedTest):
     def far(self, *options):
         """A server, and a port that leads to it from far away."""
         server = self.serve(*options)
-        proxy = DelayingProxy(server.port, self.ROUND_TRIP)
-        self.addCleanup(proxy.close)
-        return server, proxy
+        return server, self.enterContext(closing(DelayingProxy(server.port, self.ROUND_TRIP)))
 
     def test_as_many_jobs_are_fetched_in_a_round_trip_as_can_be_started_and_no_more(self):
         for kind, handler in ((Worker, id), (AsyncWorker, in_thread(id))):
@@ -82,9 +82,7 @@ class FarTest(ServedTest):
         with Producer(proxy.port) as producer:
             producer.offer("first")
             began = time.monotonic()
-            all_of = [self.begin(lambda: [producer.offer("a") for _ in range(each)]) for _ in range(threads)]
-            for it in all_of:
-                it.join(PATIENCE)
+            in_threads(*[lambda: [producer.offer("a") for _ in range(each)]] * threads)
             self.assertLess(time.monotonic() - began, threads * each * self.ROUND_TRIP / 2)
         with Broker(server.port, patience=PATIENCE) as broker:
             self.assertEqual(broker.size(), 1 + threads * each)

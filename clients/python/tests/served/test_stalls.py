@@ -5,7 +5,7 @@ import time
 from from_threads import in_thread
 from history import History
 from rb_broker_client import AsyncWorker, Broker, Producer, Report, Worker
-from server import PATIENCE, ServedTest
+from server import PATIENCE, Crew, ServedTest
 
 QUICK = 40  # jobs that come while one hangs
 PAUSE = 0.1  # seconds between two of them
@@ -36,10 +36,6 @@ class HangTest(ServedTest):
                 producer.offer(payload)
                 time.sleep(PAUSE)
 
-    def assert_finishes(self, worker, thread, report):
-        self.may_end.set()
-        self.assert_stops(worker, thread, report)
-
     def test_jobs_go_on_being_fetched(self):
         for kind in (Worker, AsyncWorker):
             self.done.clear()
@@ -49,7 +45,8 @@ class HangTest(ServedTest):
             self.offer_slowly(server)
             self.wait_until(lambda: len(self.done) == QUICK, 2 * PATIENCE)
             self.assertNotIn("hangs", self.done)
-            self.assert_finishes(worker, thread, Report(done=QUICK + 1))
+            self.may_end.set()
+            self.assert_stops(worker, thread, Report(done=QUICK + 1))
             self.assert_ends(server, 2)
 
     def test_a_job_that_takes_too_long_fails_and_is_given_again(self):
@@ -59,7 +56,8 @@ class HangTest(ServedTest):
         self.offer_slowly(server)
         self.wait_until(lambda: len(self.done) == QUICK and dead)
         self.assertEqual([(it.payload, it.attempt) for it in dead], [("hangs", 2)])
-        self.assert_finishes(worker, thread, Report(done=QUICK, again=1, dead=1))
+        self.may_end.set()
+        self.assert_stops(worker, thread, Report(done=QUICK, again=1, dead=1))
 
 
 class CrowdTest(ServedTest):
@@ -67,7 +65,7 @@ class CrowdTest(ServedTest):
 
     def test_a_server_that_gives_each_wait_up(self):
         server = self.serve("--turns", 0, "--sessions", 3)
-        crew = self.gather(server, 1, lambda job: True)
+        crew = Crew(self, server, 1, lambda job: True)
         for payload in ("first", "second"):
             self.offer(server, payload, delay=0.2)
             self.wait_until(lambda: payload in crew.done())
@@ -78,7 +76,7 @@ class CrowdTest(ServedTest):
         server = self.serve("--sessions", 2, "--workers", 1, "--history", self.path("history"))
         with Broker(server.port, patience=PATIENCE) as broker:
             broker.offer("letter")
-            crew = self.gather(server, 1, lambda job: True)
+            crew = Crew(self, server, 1, lambda job: True)
             time.sleep(0.3)  # it is connected then, and waits for its first reply
             self.assertEqual(crew.stop(), Report())
             broker.quit()

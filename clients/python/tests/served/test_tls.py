@@ -10,13 +10,15 @@ import tempfile
 import textwrap
 import types
 import unittest
+from contextlib import closing
 from pathlib import Path
 
 from encryption import Certificates
 from scripted import free_port
 from rb_broker_client import AsyncBroker, Broker, NotOfferedError, Offered, Pauses, Producer, Report, Request, Worker
-from server import PATIENCE, TOP, ServedTest, start
+from server import PATIENCE, TOP, Crew, ServedTest
 from serving.delaying import DelayingProxy
+from serving.server import started
 
 JOBS = 200
 REFUSED = "(?i)alert|reset|closed|broken pipe|EOF"
@@ -29,9 +31,7 @@ class TlsTest(ServedTest):
 
     @classmethod
     def setUpClass(cls):
-        room = tempfile.TemporaryDirectory()
-        cls.addClassCleanup(room.cleanup)
-        cls.certificates = Certificates(room.name)
+        cls.certificates = Certificates(cls.enterClassContext(tempfile.TemporaryDirectory()))
 
     def protect(self, certificate="server"):
         """A port with TLS that leads to a server."""
@@ -39,9 +39,7 @@ class TlsTest(ServedTest):
         return self.proxy(server.port, certificate)
 
     def proxy(self, port, certificate):
-        proxy = DelayingProxy(port, 0, self.certificates.server(certificate))
-        self.addCleanup(proxy.close)
-        return proxy
+        return self.enterContext(closing(DelayingProxy(port, 0, self.certificates.server(certificate))))
 
     def words(self, authority="ca", name="client"):
         """What the command is given that trusts this authority, and shows this certificate."""
@@ -51,7 +49,7 @@ class TlsTest(ServedTest):
 
     def test_jobs_from_their_offers_to_their_ends(self):
         proxy, tls = self.protect(), self.certificates.client()
-        crew = self.gather(proxy, 2, lambda job: True, concurrency=8, tls=tls)
+        crew = Crew(self, proxy, 2, lambda job: True, concurrency=8, tls=tls)
         self.produce(proxy.port, JOBS, tls=tls)
         self.wait_until(lambda: len(crew.done()) == JOBS)
         self.assertEqual(crew.stop(), Report(done=JOBS))
@@ -92,8 +90,7 @@ class TlsTest(ServedTest):
         with self.assertRaisesRegex(OSError, text), Broker(port, patience=PATIENCE, tls=tls) as broker:
             broker.size()
         with Producer(port, patience=PATIENCE, pauses=ONE_TRY, tls=tls) as producer:
-            with self.assertRaisesRegex(NotOfferedError, text):
-                producer.offer("letter")
+            self.assertRaisesRegex(NotOfferedError, text, producer.offer, "letter")
         status, said, errors = self.command(port, "size", *(self.words(**certificates) if encrypts else []))
         self.assertEqual((status, said), (1, ""))
         self.assertRegex(errors, rf"\Arb_broker_client: 127\.0\.0\.1:{port}: [^\n]+\n\Z")
@@ -114,7 +111,6 @@ class TlsTest(ServedTest):
 
     def test_a_worker_logs_why_and_tries_again(self):
         worker = Worker(lambda job: None, self.protect("expired").port, tls=self.certificates.client())
-        logging.disable(logging.NOTSET)
         with self.assertLogs("rb_broker_client", logging.DEBUG) as said:
             thread = self.begin_worker(worker)
             self.wait_until(lambda: len(said.records) > 2)
@@ -146,8 +142,7 @@ class StunnelTest(TlsTest):
             self.assertEqual(text.count(told), 1, text)
             text = text.replace(told, here)
         settings.write_text(f"foreground = yes\npid =\n{text}", encoding="ascii")
-        process = start(["stunnel", settings], stderr=subprocess.DEVNULL)
-        self.addCleanup(process.communicate)
+        process = self.enterContext(started(["stunnel", settings], stderr=subprocess.DEVNULL))
         self.addCleanup(process.kill)
         listening = f":{listens:04X} 00000000:0000 0A "
         self.wait_until(lambda: listening in Path("/proc/net/tcp").read_text(encoding="ascii"))
