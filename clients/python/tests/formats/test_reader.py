@@ -1,16 +1,21 @@
-"""Which texts are read, what the columns hold, and which line is named if a text is damaged."""
+"""Which texts are read, compressed or not, what the columns hold, and which line is named if a text is damaged."""
+import gzip
 from pathlib import Path
 
 import pytest
 from hypothesis import given, settings
 from hypothesis import strategies as st
 
+from checking.testing import call_tool
 from rb_broker_formats import acts
-from rb_broker_formats.faults import Damaged
 from rb_broker_formats.element import NONE
+from rb_broker_formats.faults import Damaged
+from rb_broker_formats.files import open_history
 from history_texts import RUN, offer, read, text_of
 
 GREATEST = 2**64 - 1
+WHOLE = gzip.compress(RUN.encode())
+OTHER_SUM = WHOLE[:-8] + bytes([WHOLE[-8] ^ 255]) + WHOLE[-7:]
 
 FIRST = "history 1\n0 0 0 offer 0 0 0 1 a\n0 0 0 poll 0\n0 0 0 offer 1 1000 0 2 a\nend 3\n"
 THIRD = "history 3\nopen 0 0 0\n0 0 0 offer 0 0 0 0 1 a\n0 0 0 poll 0\n0 0 0 offer 1 1000 0 0 2 a\nend 3\n"
@@ -103,3 +108,29 @@ def test_what_an_act_gave(act: str, ids: list[int]) -> None:
 @pytest.mark.parametrize("text", ["history 1\nend 0\n", "history 2\nopen 1 11 0\nend 0\n", "history 3\nopen 0 0 0\nend 0\n"])
 def test_texts_of_nothing(text: str) -> None:
     assert len(read(text).events) == 0
+
+
+def test_a_compressed_history_is_read_as_its_text_is(tmp_path: Path) -> None:
+    plain, compressed = tmp_path / "run.txt", tmp_path / "run.txt.gz"
+    plain.write_bytes(RUN.encode())
+    compressed.write_bytes(WHOLE)
+    for path in (plain, compressed):
+        with open_history(str(path)) as file:
+            assert file.read() == RUN.encode()
+    status, told, errors = call_tool("report", str(compressed))
+    assert (status, errors) == (0, "")
+    assert told == call_tool("report", str(plain))[1].replace(str(plain).encode(), str(compressed).encode())
+
+
+@pytest.mark.parametrize("text", [WHOLE[:-20], WHOLE[:-1], OTHER_SUM, RUN.encode()])
+def test_a_compressed_history_that_is_damaged(tmp_path: Path, text: bytes) -> None:
+    path = tmp_path / "run.txt.gz"
+    path.write_bytes(text)
+    assert call_tool("report", str(path)) == (2, b"", f"report: {path}: damaged as a compressed file\n")
+
+
+def test_an_empty_file_has_an_empty_text(tmp_path: Path) -> None:
+    path = tmp_path / "run.txt.gz"
+    path.touch()
+    status, told, _ = call_tool("report", str(path))
+    assert (status, told) == (1, b"")
