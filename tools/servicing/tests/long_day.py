@@ -8,6 +8,7 @@ import signal
 import sys
 import threading
 import time
+from collections import Counter
 from datetime import datetime
 from pathlib import Path
 from statistics import median
@@ -199,12 +200,14 @@ class DayTest(ServiceTest):
 
     def day(self, kills: tuple[str, ...] = (), **more: Any) -> tuple[list[Service], list[Ledger]]:
         services, ledgers = self.lived(kills, SECONDS, **more)
-        self.assertEqual(judged(ledgers, self.lost(services)), Judgement())
+        lost = self.lost(services)
+        self.assertEqual(judged(ledgers, lost), Judgement())
+        self.assertLessEqual(len(lost), sum(count for what, count in self.killed.items() if "server" in what))
         return services, ledgers
 
     def lived(self, kills: tuple[str, ...], seconds: float, **more: Any) -> tuple[list[Service], list[Ledger]]:
         """Lets services and clients live for so long, and does what is left then."""
-        is_over, services = threading.Event(), [self.begin(*self.OPTIONS, **more)]
+        is_over, services, self.killed = threading.Event(), [self.begin(*self.OPTIONS, **more)], Counter[str]()
         longest = min(LONG, seconds / 4)
         them = [Customer(self.port, f"c{place}", place < 16, longest, is_over) for place in range(24)]
         threads = [threading.Thread(target=it.run, daemon=True) for it in them]
@@ -222,25 +225,37 @@ class DayTest(ServiceTest):
         ledgers = [*(it.ledger for it in them), self.rest()]
         self.ends(services[-1], lost=len(services[-1].all("lost-run")))
         print(f"\n{sum(len(it.all('saved')) for it in services)} runs, {count} kills; "
-              f"{told(ledgers, self.lost(services))}")
+              f"{told(ledgers, self.lost(services))}\n{dict(sorted(self.killed.items()))}")
         return services, ledgers
 
     def lost(self, services: list[Service]) -> set[int]:
         return {int(it["run"]) for service in services for it in service.all("lost-run")}
 
     def kill(self, services: list[Service], what: str, state: str, store: Store | None = None) -> None:
+        """Kills it as soon as a state has begun; `service` is that of one that has just been started, and finds what
+        another has left. Between two runs there is no server, and behind `saved` one is about to listen."""
+        if state == "service":
+            services[-1].kill()
+            services.append(self.start(*self.OPTIONS, store=store))
+            services[-1].wait(state, patience=PATIENCE)
+        else:
+            with contextlib.suppress(AssertionError):
+                services[-1].wait(state, len(services[-1].all(state)) + 1, patience=EVERY + 2)
         service = services[-1]
-        with contextlib.suppress(AssertionError):
-            service.wait(state, len(service.all(state)) + 1, patience=EVERY + 2)
-        if what != "service":
-            for it in service.servers:
-                with contextlib.suppress(OSError):
-                    os.kill(it, signal.SIGKILL)
+        self.assertIsNone(service.process.poll(), service.lines[-3:])
+        served, killed, end = len(service.all("serving")), ["service"] if what != "server" else [], time.monotonic() + 2
+        while what != "service" and state == "saved" and not service.servers and time.monotonic() < end:
+            pass
+        behind = service.lines[-1].partition(" event=")[2].partition(" ")[0]
+        for it in service.servers if what != "service" else ():
+            with contextlib.suppress(OSError):
+                os.kill(it, signal.SIGKILL)
+                killed.append("server")
         if what != "server":
             service.kill()
             services.append(self.start(*self.OPTIONS, store=store))
-        count = 2 if what == "server" and len(services[-1].all("serving")) > 1 else 1
-        services[-1].wait("serving", count, patience=PATIENCE)
+        self.killed[f"{' and '.join(killed) or 'nothing'} behind {behind}"] += 1
+        services[-1].wait("serving", served + 1 if what == "server" else 1, patience=PATIENCE)
 
     def rest(self) -> Ledger:
         """Does what is left until nothing is, however long that takes."""

@@ -16,7 +16,21 @@ from servicing.tests.process import Client, Service, ServiceTest, until
 ITEM = "^ITEM [0-9]+ [0-9]+ {} {}$"
 
 
-class AloneTest(ServiceTest):
+class CutTest(ServiceTest):
+    def cut(self, **told: Any) -> Service:
+        """A service that has just ended its server's input. A client holds a job and reads nothing, so its session does
+        not end at once."""
+        service = self.begin("--stop-within", "1s", "--delay", "0s", **told)
+        it = self.client(receive_buffer=4096)
+        self.assertRegex(it.ask("OFFER 0 job"), "^OFFERED ")
+        self.assertRegex(it.ask("TAKE"), ITEM.format(1, "job"))
+        it.fill()
+        service.process.send_signal(signal.SIGTERM)
+        service.wait("cut")
+        return service
+
+
+class AloneTest(CutTest):
     """Nobody keeps its descriptors: the run ends in good order with the service, and the next one has its history."""
 
     def collected(self, *options: str) -> Service:
@@ -60,6 +74,12 @@ class AloneTest(ServiceTest):
         service.kill()
         self.ends(self.collected())
 
+    def test_while_sessions_are_cut(self) -> None:
+        self.cut().kill()
+        again = self.collected()
+        self.assertRegex(self.ask("TAKE")[0], ITEM.format(2, "job"))
+        self.ends(again)
+
     def test_the_next_one_does_not_wait(self) -> None:
         """It is there before the server has ended."""
         service, it = self.begin(), self.client()
@@ -84,7 +104,7 @@ class AloneTest(ServiceTest):
         self.ends(again)
 
 
-class KeptTest(ServiceTest):
+class KeptTest(CutTest):
     """Somebody keeps its descriptors, as systemd does: the server never notices."""
 
     def test_while_it_serves(self) -> None:
@@ -114,6 +134,16 @@ class KeptTest(ServiceTest):
         again.wait("serving", 2)
         self.has_left(0)
         self.ends(again)
+
+    def test_while_sessions_are_cut(self) -> None:
+        """The next one waits for the server, whose input is gone."""
+        store = self.store()
+        self.cut(store=store).kill()
+        again = self.begin("--delay", "0s", store=store)
+        self.assertEqual(again.all("resume")[0]["how"], "collect")
+        self.assertRegex(self.ask("TAKE")[0], ITEM.format(2, "job"))
+        self.ends(again)
+        self.assertEqual(store.kept, {})
 
     def test_the_server_ends_while_no_service_is_there(self) -> None:
         store = self.store()
@@ -210,7 +240,7 @@ class MomentsTest(ServiceTest):
         return len(done)
 
 
-class ServerKilledTest(ServiceTest):
+class ServerKilledTest(CutTest):
     def test_the_server_is_killed_too(self) -> None:
         """With all, and while no service is there."""
         with self.serving():
@@ -233,6 +263,17 @@ class ServerKilledTest(ServiceTest):
         self.assertEqual(service.end(), 0)
         lost = service.all("lost-run")[0]
         self.assertEqual((lost["run"], lost["why"]), ("1", "the server left no history: it was killed"))
+
+    def test_the_server_is_killed_while_sessions_are_cut(self) -> None:
+        """Alone, and with its service."""
+        service = self.cut()
+        os.kill(service.server, signal.SIGKILL)
+        self.assertEqual((service.end(), service.all("lost-run")[0]["run"]), (0, "1"))
+        self.cut().kill_all()
+        again = self.begin()
+        self.assertEqual(again.all("lost-run")[0]["run"], "2")
+        self.has_left(0)
+        self.ends(again, lost=1)
 
     def test_a_server_that_served_nobody_loses_nothing(self) -> None:
         """It is killed before it listens, as if it had never been started."""
