@@ -160,21 +160,31 @@ def test_input_that_does_not_wait_is_no_end() -> None:
         assert told == ["SIZE 0", b"", 0]
 
 
+@pytest.mark.parametrize("words", ["", "--socket", "--greeting hello", "--attentive", f"--silent {60 * SECOND}",
+                                   "--since 0"])
 @pytest.mark.parametrize("requests", [["SIZE"], ["TAKE"], ["TAKE", "DONE 0"]])
-def test_an_attendant_that_is_killed(requests: list[str], tmp_path: Path) -> None:
-    """It ends the run in good order, whether a client says nothing, holds a job, or has it done."""
+def test_an_attendant_that_is_killed(requests: list[str], words: str, tmp_path: Path) -> None:
+    """It ends the run in good order, whether a client says nothing, holds a job, or has it done, and whatever the
+    server was told besides."""
     read, write = os.pipe()
     attendant = subprocess.Popen(["sleep", "1000"], pass_fds=[write])
     os.close(write)
     history = tmp_path / "killed"
-    with attended(f"--history {history}", stdin=read) as server, Session(server.port) as client:
+    with contextlib.ExitStack() as stack:
+        if words == "--socket":
+            begun = handed(stack.enter_context(listener()), f"--until-input-ends --history {history}", stdin=read)
+        else:
+            begun = attended(f"--history {history} {words}", stdin=read)
+        server = stack.enter_context(begun)
+        client = stack.enter_context(Session(server.port))
         os.close(read)
+        greeting = [client.line()] if "--greeting" in words else []
         for request in ("OFFER 0 job", *requests):
             client.ask(request)
         attendant.kill()
         attendant.wait()
         told = [client.rest(), server.process.wait(PATIENCE), is_legal(history)]
-        assert told == [b"", 0, True]
+        assert told == [b"", 0, True] and greeting in ([], ["hello"])
 
 
 class Producer(threading.Thread):
