@@ -3,7 +3,7 @@ import dataclasses
 import unittest
 from typing import Any
 
-from servicing.tests.ledger import Item, Judgement, Ledger, Offer, gaps, judged
+from servicing.tests.ledger import Item, Judgement, Ledger, Offer, gaps, growth, judged
 
 LOST = {2}
 
@@ -55,3 +55,10 @@ class JudgeTest(unittest.TestCase):
         self.assertEqual(gaps([one, other], ()), {1: (10, 10.5), 2: (20, 20.25)})
         self.assertEqual(gaps([one, other], LOST), {1: (10, 10.5)})
         self.assertEqual(gaps([one, other], LOST)[1].seconds, 0.5)
+
+    def test_lateness_that_grows(self) -> None:
+        """By as much at each rollover."""
+        for each in (0.0, 0.006):
+            offered = {f"{waits}": Offer(1, 9, 10) for waits in range(21)}
+            given = [Item(f"{waits}", 1 + waits, 1, 10.001 + each * waits) for waits in range(21)]
+            self.assertAlmostEqual(growth([Ledger(offered, given=given)]), each * 12.5)
