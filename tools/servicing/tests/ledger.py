@@ -37,6 +37,7 @@ class Ledger:
     faults: list[str] = field(default_factory=list)  # that are no end of a connection in good order
     waits: list[float] = field(default_factory=list)  # seconds to the greeting
     served: dict[int, list[float]] = field(default_factory=lambda: defaultdict(list))  # when each run was heard
+    lost = 0  # runs, by the last greeting
 
 
 class Gap(NamedTuple):

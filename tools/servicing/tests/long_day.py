@@ -96,7 +96,8 @@ class Customer:
 
 def greeted(it: Client, ledger: Ledger) -> int:
     """The run that serves this client."""
-    run = int(it.greeted().greeting.split(" ")[1])
+    _, number, _, lost, *_ = it.greeted().greeting.split(" ")
+    run, ledger.lost = int(number), int(lost)
     ledger.served[run].append(time.monotonic())
     return run
 
@@ -204,6 +205,7 @@ class DayTest(ServiceTest):
         services, ledgers = self.lived(kills, SECONDS, **more)
         lost = self.lost(services)
         self.assertEqual(judged(ledgers, lost), Judgement())
+        self.assertEqual(ledgers[-1].lost, len(lost), "clients are told of each")
         self.assertLessEqual(len(lost), sum(count for what, count in self.killed.items() if "server" in what))
         return services, ledgers
 
