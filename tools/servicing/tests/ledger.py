@@ -5,9 +5,6 @@ from dataclasses import dataclass, field
 from statistics import median
 from typing import NamedTuple
 
-GROUPS = (0, 2), (2, 6), (6, 21), (21, 1000)  # of rollovers that a job waited through, each without its end
-MANY = 6, 1000
-
 
 class Offer(NamedTuple):
     """An offer that got its reply: in which run, and when the job is due at the least and the most."""
@@ -85,12 +82,10 @@ def lateness(ledgers: Sequence[Ledger]) -> list[tuple[int, int, float]]:
     return sorted((it.run, it.run - offer.run, it.at - offer.most) for it, offer in known)
 
 
-def growth(ledgers: Sequence[Ledger]) -> float:
-    """By how many seconds jobs are later, at the median, that waited through many rollovers than those through none or
-    one. 0 if there are none."""
-    late = lateness(ledgers)
-    few, many = ([seconds for _, count, seconds in late if least <= count < most] for least, most in (GROUPS[0], MANY))
-    return median(many) - median(few) if many else 0.0
+def late_behind(ledgers: Sequence[Ledger], least: int, most: int) -> float:
+    """By how many seconds jobs are late, at the median, that waited through so many rollovers, from the least on and
+    below the most. 0 if there are none."""
+    return median([seconds for _, count, seconds in lateness(ledgers) if least <= count < most] or [0.0])
 
 
 def gaps(ledgers: Sequence[Ledger], lost: Collection[int]) -> dict[int, Gap]:
@@ -115,7 +110,7 @@ def told(ledgers: Sequence[Ledger], lost: Collection[int]) -> str:
     done = {payload for one in ledgers for payload, _ in one.done}
     groups = {"": late, " in the first quarter": late[:quarter], " in the last": late[-quarter:],
               **{f" behind {first} to {last - 1} rollovers": [it for it in late if first <= it[1] < last]
-                 for first, last in GROUPS}}
+                 for first, last in ((0, 2), (2, 6), (6, 21), (21, 1000))}}
     return (f"{sum(len(it.offered) for it in ledgers)} offered, {len(doubts)} in doubt of which {len(doubts & done)} "
             f"done, {len(lost)} runs lost; gaps {spread([it.seconds for it in gaps(ledgers, lost).values()])}; "
             f"waits {spread([it for one in ledgers for it in one.waits])}; faults {dict(faults)}"

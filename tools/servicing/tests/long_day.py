@@ -17,7 +17,7 @@ from typing import Any, Self
 import pytest
 
 from common.program import tested_program
-from servicing.tests.ledger import Gap, Item, Judgement, Ledger, Offer, gaps, growth, judged, spread, told
+from servicing.tests.ledger import Gap, Item, Judgement, Ledger, Offer, gaps, judged, late_behind, spread, told
 from servicing.tests.process import Client, Service, ServiceTest
 from servicing.tests.store import Store
 
@@ -28,7 +28,7 @@ PATIENCE = 600  # seconds for what is left at the end, and for a service to serv
 WORK, DELAY = 0.1, 2.0  # seconds: the longest job, and the longest delay of most
 SELDOM, LONG = 0.02, 300.0  # the share of jobs that wait for longer, and for how long at most
 GAPS = 0.150, 0.400  # seconds for which nobody is served at a rollover, at the median and at worst
-GROWS = 0.020  # seconds; a few milliseconds that are lost at each rollover would be more
+LATE, GROWS = 0.005, 0.020  # seconds; a few milliseconds that are lost at each rollover would be more than the second
 TOLD = 0.100  # seconds of a gap of which it is told what took them
 MOST_TAKEN = 0.1  # the share of its processors' time that a quiet machine is without
 LOOK = 0.05  # seconds
@@ -163,7 +163,9 @@ class DayTest(ServiceTest):
         services, ledgers = self.day()
         self.assertEqual([it for one in ledgers for it in one.faults], [])
         self.assertFalse(any(it.all("lost-run") for it in services))
-        self.assertLess(growth(ledgers), GROWS)
+        few, many = late_behind(ledgers, 0, 2), late_behind(ledgers, 6, 1000)
+        if few < LATE:  # or clients come late, of which a rollover is not the reason
+            self.assertLess(many - few, GROWS)
 
     def test_kills(self) -> None:
         self.day(("service", "server", "both"))

@@ -3,7 +3,7 @@ import dataclasses
 import unittest
 from typing import Any
 
-from servicing.tests.ledger import Item, Judgement, Ledger, Offer, gaps, growth, judged
+from servicing.tests.ledger import Item, Judgement, Ledger, Offer, gaps, judged, late_behind
 
 LOST = {2}
 
@@ -58,7 +58,7 @@ class JudgeTest(unittest.TestCase):
 
     def test_lateness_that_grows(self) -> None:
         """By as much at each rollover."""
-        for each in (0.0, 0.006):
-            offered = {f"{waits}": Offer(1, 9, 10) for waits in range(21)}
-            given = [Item(f"{waits}", 1 + waits, 1, 10.001 + each * waits) for waits in range(21)]
-            self.assertAlmostEqual(growth([Ledger(offered, given=given)]), each * 12.5)
+        offered = {f"{waits}": Offer(1, 9, 10) for waits in range(21)}
+        given = [Item(f"{waits}", 1 + waits, 1, 10.001 + 0.006 * waits) for waits in range(21)]
+        for least, most, wanted in ((0, 2, 0.004), (6, 1000, 0.079), (21, 1000, 0.0)):
+            self.assertAlmostEqual(late_behind([Ledger(offered, given=given)], least, most), wanted)
