@@ -45,12 +45,14 @@ def _serve(parts: Parts) -> None:
         while not before or not parts.signals.count:
             current = found if isinstance(found, Current) else _started(parts, door, found, before)
             if current is None:
-                return
+                break
             _say_serving(parts, current, before)
             if not isinstance(found, Current):
                 parts.runs.tidy(parts.settings.keep)
             current.go_on()
             found, before = saved(parts, current), current
+        if before:
+            before.next_own.withdraw(door)
 
 
 def _bound(port: int) -> socket.socket:

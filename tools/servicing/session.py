@@ -8,6 +8,7 @@ import time
 from collections import deque
 from typing import NamedTuple
 
+from servicing.connections import Unwatchable, look_at
 from servicing.opening import PROBE, PROBE_DELAY
 from servicing.state import Queue
 from rb_broker_client import Broker, BrokerError, FullError, Job, Request
@@ -79,6 +80,16 @@ class OwnSession:
         if self._broker is not None:
             self._broker.close()
         self._broker = None
+
+    def withdraw(self, door: socket.socket) -> None:
+        """Waits no more. Whoever listens next, as systemd does, would take that for a client. What comes out of a door
+        is the first who waits, so nothing is taken out of it while others wait, too."""
+        self.drop()
+        with contextlib.suppress(OSError, Unwatchable):
+            waiting = [it.port for it in look_at(self.port) if not it.is_served]
+            door.setblocking(False)
+            for _ in waiting if {*waiting} <= {*self.ports} else ():
+                door.accept()[0].close()
 
     def _told(self, broker: Broker) -> Told | None:
         probe = Request.offer(PROBE, delay=PROBE_DELAY // SECOND)

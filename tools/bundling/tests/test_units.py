@@ -79,6 +79,8 @@ def test_start(service: Service) -> None:
         shown = service.machine.run("systemctl", "status", "--no-pager", service.name)
         assert 'Status: "serving, run 1' in shown.said, shown
         service.machine.run("systemctl", "stop", service.name)
+        time.sleep(1)
+        assert service.machine.run("systemctl", "is-active", service.name).said == "inactive\n", service.journal()
         replies = service.ask()
         assert replies[0].startswith("RUN 2 lost 0 "), (replies, service.journal())
         files, end = ["run-1.txt"], time.monotonic() + PATIENCE

@@ -1,5 +1,6 @@
 """Runs end in good order, whatever their clients do."""
 import os
+import select
 import signal
 import threading
 import time
@@ -109,6 +110,24 @@ class EndsTest(ServiceTest):
             self.assertGreaterEqual(len(service.all("saved")), 2)
             self.assertLessEqual({it["why"] for it in service.all("ending")}, {"sessions"})
             self.assertEqual(self.record(1)["end"]["sessions"], 20, "as the server counts them")
+
+    def test_an_end_starts_no_other_service(self) -> None:
+        """Whoever keeps the socket starts one for who waits there: for a client, which is served then, and not for the
+        service's own session, which waits for a run that does not come, whatever the last one's end began with."""
+        store = self.store()
+        for every, waits in (("1h", False), ("2s", False), ("2s", True)):
+            service, (holder, id) = self.begin("--every", every, store=store), self.holder()
+            if every == "2s":
+                service.wait("ending")
+            service.process.send_signal(signal.SIGTERM)
+            service.wait("ending")
+            time.sleep(0.3)  # a worker may have been about to let somebody in
+            late = self.enterContext(Client(self.port)) if waits else None
+            self.assertEqual((holder.ask(f"DONE {id}"), holder.rest(), service.end()), (f"DONE {id}", b"", 0))
+            self.assertEqual(bool(select.select([store.door], [], [], 0)[0]), waits)
+        with self.serving(store=store):
+            self.assertEqual(late.greeted().greeting[:6], "RUN 4 ")
+            late.ask("QUIT")
 
     def test_signals_in_each_state(self) -> None:
         for wait in (0.0, 0.02, 0.05, 0.08, 0.1, 0.15, 0.2, 0.3, 0.5):
