@@ -97,8 +97,13 @@ def test_workers_of_the_python_page(begins: Begins, tmp_path: Path) -> None:
         with begins(work) as worker:
             with begins(offer) as offering:
                 assert offering.wait(PATIENCE) == 0
-            told = {worker.stdout.readline() for _ in range(2)}
-    assert told == {f"deliver letter-{number} attempt 1\n" for number in (17, 18)}
+            told = "".join(worker.stdout.readline() for _ in range(2))
+    assert pieces(told) == pieces("".join(f"deliver letter-{number} attempt 1\n" for number in (17, 18)))
+
+
+def pieces(lines: str) -> list[str]:
+    """What `print` writes piece by piece, so that the lines of threads may run into each other."""
+    return sorted(re.findall(r"deliver|letter-1[78]|attempt|\s|.", lines))
 
 
 def test_programs_of_the_python_page(begins: Begins, port: int) -> None:
