@@ -96,6 +96,23 @@ def test_the_history_that_is_chained(run: Run, tmp_path: Path) -> None:
         assert (ran.returncode, ran.stdout) == (1 if verdict else 0, wanted)
 
 
+@pytest.mark.parametrize("told", [
+    r"After `(AT \d+)`, `(AT \d+)` gets `(.*?)`\.", "`(POLLFOR 0)` gets `(.*?)` instead",
+])
+def test_a_reply_in_a_sentence(run: Run, told: str) -> None:
+    *requests, reply = re.search(told, page(PROTOCOL)).groups()
+    replies = run("rb_broker script", "".join(f"{request}\n" for request in requests)).stdout.splitlines()
+    assert (len(replies), replies[-1]) == (len(requests), reply)
+
+
+@pytest.mark.parametrize(("told", "requests"), [
+    ("With 64 held `(.*?)` is a call", 64 * HELD + "OFFER 0 b\nDRAIN 1\n"),
+    ("A held job is not in the queue, so its `REMOVE` gets `(.*?)`", f"{HELD}REMOVE 0\n"),
+])
+def test_a_reply_while_jobs_are_held(run: Run, told: str, requests: str) -> None:
+    assert run("rb_broker script", requests).stdout.splitlines()[-1] == re.search(told, page(PROTOCOL))[1]
+
+
 def refusals() -> Iterator[tuple[str, str, str]]:
     """The refusals of the table, each with the requests of an example and the options of their script."""
     for reply, (_, _, example_of) in REFUSALS.items():

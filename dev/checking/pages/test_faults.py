@@ -5,7 +5,8 @@ from pathlib import Path
 import pytest
 
 from checking.pages.conftest import Run
-from checking.pages.reading import code, page, section, tables
+from checking.pages.reading import blocks, code, page, section, tables
+from checking.pages.test_words import NOW, spoken
 from common.program import TOP
 from rb_broker_formats.acts import BY_KEYWORD
 
@@ -54,6 +55,28 @@ def test_the_refusals_of_requests() -> None:
     table = [row[0].strip("`") for row in tables(section(PROTOCOL, "Refusals"))[0]]
     grammar = re.findall(r'%s"(\d [\w-]+)"', section(PROTOCOL, "Grammar"))
     assert sorted(table) == sorted(texts) == sorted(f"ERR {fault}" for fault in grammar)
+
+
+@pytest.mark.parametrize("name", NOW)
+def test_each_refusal_is_one_of_the_protocol(name: str) -> None:
+    """With its word, or by its number alone."""
+    refusals = {row[0].strip("`") for row in tables(section(PROTOCOL, "Refusals"))[0]}
+    told = {*re.findall(r"\bERR \d(?: [a-z-]+)?", spoken(name))}
+    assert told <= refusals | {refusal.rpartition(" ")[0] for refusal in refusals}
+
+
+def test_the_statuses_of_replays(run: Run, tmp_path: Path) -> None:
+    """Of each line of the table, by a history that gets it."""
+    statuses = {code(row[0])[0].partition(" ")[0]: int(row[2]) for row in tables(page(HISTORY))[0]}
+    chained = blocks(section(HISTORY, "Why retries are not right"))[-1]
+    for begins, history in {
+        '{"calls":': chained, "unreadable": "", "refused": chained.replace("poll 0", "poll none"),
+        "unchained": chained.replace("0 0 2 a", "0 0 3 a"),
+    }.items():
+        (tmp_path / "h").write_text(history, "ascii")
+        ran = run("rb_broker replay h --chains --delay 1000")
+        [status] = [status for line, status in statuses.items() if line.startswith(begins)]
+        assert ran.stdout.startswith(begins) and ran.returncode == status, ran
 
 
 def test_the_reasons_of_replays() -> None:

@@ -12,6 +12,7 @@ from common.program import TOP
 from rb_broker_client import Worker
 from rb_broker_client.durations import Pauses
 from rb_broker_client.tasks import Tasks
+from rb_broker_formats.durations import SECOND
 from rb_broker_formats.grammar import GREATEST_OPENING_ID, MOST_EVENTS, MOST_OPENING_ELEMENTS
 from rb_broker_formats.protocol import LONGEST_REPLY, MOST_CALLS, MOST_HELD
 from reporting.page import MOST_ELEMENTS
@@ -54,6 +55,9 @@ TOLD: list[tuple[str, str, Callable[[], Any]]] = [
     (README, r"at (\d+) jobs a second an hour", lambda: jobs_in(3_600)),
     (SCALING, r"and (\d+) with one every hour", lambda: jobs_in(3_600)),
     (SCALING, r"carries ([\d,]+) jobs a second with a rollover every 5 minutes", lambda: jobs_in(300)),
+    (SCALING, r"\| Clients at the same time \| (\d+) \|", workers),
+    (SCALING, r"\| Calls \| ([\d,]+), then", lambda: MOST_CALLS),
+    (SCALING, r"\| Jobs in hand \| [\d,]+ \| (\d+) for each client", lambda: MOST_HELD),
     (SCALING, r"\| Jobs in hand \| ([\d,]+) \|", lambda: workers() * MOST_HELD),
     (OPERATING, r"They end at (2\^\d+)\.", lambda: GREATEST_OPENING_ID),
     (OPERATING, r"begins with at most ([\d,]+) elements", lambda: MOST_OPENING_ELEMENTS),
@@ -66,14 +70,19 @@ TOLD: list[tuple[str, str, Callable[[], Any]]] = [
     (PROTOCOL, r"\| ([\d,]+) reads, each", lambda: constant("rb_protocol/src/limits.rt", "MOST_READS")),
     (PROTOCOL, r"The session holds it, (\d+) at most", lambda: MOST_HELD),
     (PROTOCOL, r"a waiting request: after at most (\d+) ms", rest),
+    (PROTOCOL, r"a second is `(\d+)`", lambda: SECOND),
+    (PROTOCOL, r"Up to (\d+) KiB of replies are gathered", lambda: in_source(
+        "crates/rb_session/src/delivery.rt", r"GATHERED_BYTES: usize = (\d+) \* 1024;")),
     (PROTOCOL, r"turns last about (\d+) seconds", lambda: int(of_program("serve")["turns"]) * rest() // 1_000),
     (PROTOCOL, r"adds status (\d+) if the program can't", lambda: in_source("broker", r"Status (\d+): the program could")),
     (PROTOCOL, r"and (\d+) if `rt` or `python3`", lambda: in_source("broker", r"Status (\d+): it must be built")),
     ("docs/ARCHITECTURE.md", r"A bell has (\d+) places", lambda: constant("rb_bell/src/bell_state.rt", "PLACES")),
+    (REDIS, r"or port (\d+) of this machine", lambda: in_source("redis/src/rb_broker_redis/address.py", r':(\d+)"')),
     (REDIS, r"keeps the last ([\d,]+) events", lambda: MOST_EVENTS),
     (REDIS, r"no Redis when it starts ends with status (\d)",
      lambda: in_source("redis/src/rb_broker_redis/ending.py", r"return (\d) if isinstance\(fault, REDIS_FAULTS\)")),
     (PYTHON, r"`overdue=(\d+)`", lambda: default(Tasks, "overdue")),
+    (PYTHON, r"With `attempts=(\d+)`, the server's number", lambda: int(of_service()["attempts"])),
     (PYTHON, r"that double from ([\d.]+) to", lambda: default(Pauses, "first")),
     (PYTHON, r"that double from [\d.]+ to (\d+) seconds", lambda: default(Pauses, "longest")),
     (PYTHON, r"N jobs, (\d+) at most, run at once", lambda: MOST_HELD),
@@ -108,8 +117,33 @@ def test_the_measured_numbers_of_the_first_page() -> None:
         assert re.findall(r"[\d.]+", ratio) == [row[column].partition(" ")[0] for row in rows]
 
 
+@pytest.mark.parametrize(("told", "file"), [
+    (r"each of ([\d,]+) jobs \(`(\w+)=N`\)", "test_hostile_day.py"),
+    (r"during (\d+) tasks \(`(\w+)=N`\)", "test_hostile_tasks.py"),
+])
+def test_a_number_that_a_setting_changes(told: str, file: str) -> None:
+    number, setting = re.search(told, page(PYTHON)).groups()
+    source = Path(TOP, "clients/python/tests/day", file).read_text("utf-8")
+    assert f'get("{setting}", {plain(number)})' in source.replace("_000", "000")
+
+
+def test_what_a_gateway_needs() -> None:
+    python, redis = re.search(r"needs Python ([\d.]+), redis-py ([\d.]+), hiredis", page(REDIS)).groups()
+    package = Path(TOP, "redis/pyproject.toml").read_text("utf-8")
+    assert f'requires-python = ">={python}"' in package and f'"redis>={redis}"' in package
+    assert f"Python's redis {redis} and hiredis" in page("docs/TESTING.md")
+
+
+def test_the_kit_that_a_build_needs() -> None:
+    """Both pages that name it name the same."""
+    assert len({re.search(r"\blogic (\w{16})`", page(name))[1] for name in (README, "CONTRIBUTING.md")}) == 1
+
+
 def test_what_a_service_needs() -> None:
-    """Both pages that say it say the same."""
+    """Both pages that say it say the same, and the package depends on it."""
     needs = [dict(re.findall(r"(Linux|Python) (\d[\d.]*\d)", text)) for text in (
         page(README), page(OPERATING).partition("\n## ")[0])]
     assert needs[0] == needs[1] and len(needs[0]) == 2
+    gzip = re.search(r"needs Python [\d.]+, gzip ([\d.]+\d)", page(OPERATING))[1]
+    package = Path(TOP, "packaging/debian/control").read_text("utf-8")
+    assert f"Depends: gzip (>= {gzip}), python3 (>= {needs[0]['Python']})," in package

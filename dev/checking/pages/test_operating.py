@@ -17,11 +17,14 @@ from common.program import TOP
 from serving import PATIENCE
 from serving.server import free_port
 from serving.session import Session
+from servicing.looking import ASK
 from servicing.tests.process import Service
 
 OPERATING = "docs/OPERATING.md"
 START, LINES = blocks(section(OPERATING, "Starting"))[0].split("\n\n")
 SERVING = re.compile(r"event=serving run=(\d+) port=(\d+) elements=(\d+) process=\d+(?: closed=[\d.]+s)?$", re.M)
+
+WORDS = {"four": 4, "five": 5, "six": 6}
 
 Begins = Callable[..., Service]
 
@@ -81,7 +84,8 @@ def test_the_greeting_costs_no_call(served: Service) -> None:
         session.ask("QUIT")
     assert served.stop() == 0
     saved = json.loads(Path(served.folder, "run-1.json").read_text("ascii"))["end"]
-    assert saved["calls"] % 4 == 0, "the service's own calls alone"
+    count, seconds = re.search(r"The service itself makes (\w+) calls every (\w+) seconds", page(OPERATING)).groups()
+    assert WORDS[seconds] == ASK and saved["calls"] % WORDS[count] == 0, "the service's own calls alone"
 
 
 @pytest.mark.skipif(not shutil.which("perl"), reason="there is no perl")
@@ -120,11 +124,17 @@ def test_the_files_of_the_folder(begins: Begins) -> None:
     assert {name for name in there if not name.endswith(".new")} <= told
 
 
-@pytest.mark.parametrize("path", ["/", "/runs/1", "/metrics", "/health"])
+PATHS = [code(row[0])[0] for row in tables(section(OPERATING, "Watching"))[0]]
+
+
+def test_the_paths_that_are_told() -> None:
+    assert {*PATHS} == {"/", "/runs/NUMBER", "/jobs/WORD", "/metrics", "/health"}
+
+
+@pytest.mark.parametrize("path", PATHS)
 def test_a_path_of_the_page(begins: Begins, path: str) -> None:
     command, status = blocks(section(OPERATING, "Watching"))[:2]
-    paths = {code(row[0])[0].replace("NUMBER", "1") for row in tables(section(OPERATING, "Watching"))[0]}
-    assert path in paths
+    path = path.replace("NUMBER", "1").replace("WORD", "letter")
     port, count = free_port(), 2 if path == "/runs/1" else 1
     service = begins(command.replace("7080", str(port)), *(("--every", "1s") if count == 2 else ()))
     service.wait("serving", count)
@@ -135,7 +145,8 @@ def test_a_path_of_the_page(begins: Begins, path: str) -> None:
     ran = subprocess.run(asks, capture_output=True, text=True, check=False)
     assert ran.stdout.startswith(f"port {service.port}: ") and (ran.returncode == 0 or count == 2), ran
     service.stop()
-    assert subprocess.run(asks, capture_output=True, check=False).returncode == 1
+    unhealthy = int(re.search(r"prints what `/health` says, .*; status (\d) means not healthy", page(OPERATING))[1])
+    assert subprocess.run(asks, capture_output=True, check=False).returncode == unhealthy
 
 
 def test_a_load(begins: Begins) -> None:

@@ -10,9 +10,11 @@ from pathlib import Path
 import pytest
 
 from checking.pages.reading import code, page, plain, section, tables
+from checking.pages.test_words import NOW, spoken
 from common import program
 from common.program import TOP
 from rb_broker_client import Producer
+from rb_broker_formats.durations import UNITS
 from rb_broker_formats.protocol import LONGEST_PAYLOAD, MOST_HELD
 
 PROTOCOL, OPERATING = "docs/PROTOCOL.md", "docs/OPERATING.md"
@@ -21,6 +23,8 @@ SERVE = "serve --port 7 --from /nowhere/f"  # a missing file: words that are acc
 TOLD = re.compile(r"`--([a-z-]+)[^`|]*`(?:(?!`--).)*?\((\d[\d,]*) to (2\^64 - 1|\d[\d,]*\d)(?:, default (\d[\d,]*))?")
 DEFAULT = re.compile(r"[\[(](?:default: )?([^()\[\] ]+)(?:, if .*?)?[\])](?: \[possible.*)?$")
 JAVA = {"Duration.ofMillis": "ms", "Duration.ofSeconds": "s"}
+WORDS = {"nanosecond": "ns", "microsecond": "us", "millisecond": "ms", "second": "s"}
+OWN = re.compile(r"(?:^|[\s(])(?:\./broker|rb_broker) ((?:script|serve --|replay [^-])[^|;&<>`\n#)]*)", re.M)
 
 
 @cache
@@ -62,6 +66,21 @@ def test_a_synopsis(command: str) -> None:
     assert {*re.findall(r"--([a-z-]+)", text)} == {*of_program(command)}
 
 
+# The commands of the program in pages, but for what stands for others.
+SPOKEN = {words.strip() for name in NOW for words in OWN.findall(spoken(name))}
+COMMANDS = sorted(words for words in SPOKEN if not re.search(r"\[|\.\.", words))
+
+
+@pytest.mark.parametrize("words", COMMANDS)
+def test_a_command_of_the_program(tmp_path: Path, words: str) -> None:
+    """The program takes its words, and then finds no such file."""
+    given = re.sub(r" --from \S+", "", re.sub(r" P\b", " 7", words)).split()
+    missing = [] if words.startswith("replay") else ["--from=/nowhere/f"]
+    ran = subprocess.run([program.tested_program(), *given, *missing], cwd=tmp_path, stdin=subprocess.DEVNULL,
+                         capture_output=True, check=False)
+    assert ran.returncode == (1 if "/dev/stdin" in given else 3), ran
+
+
 def accepts_just(option: str, least: str, most: str) -> bool:
     """Whether the program takes the numbers of this range, and none beside it."""
     low, high = int(plain(least)), int(plain(most))
@@ -91,6 +110,8 @@ def test_the_defaults_of_jobs() -> None:
     told = {name: (re.findall(r"^[\d,]+", row[2]) or [""])[0] for name, row in rows.items()}
     there = {name: of_program("serve")[name] for name in ("delay", "rate", "attempts")}
     assert {name: plain(default) for name, default in told.items()} == there
+    number, unit = re.search(r"^([\d,]+), which is a (\w+)$", rows["delay"][2]).groups()
+    assert int(plain(number)) == UNITS[WORDS[unit]]
     least, most = re.search(r"([\d,]+) to ([\d,]+)", rows["attempts"][1]).groups()
     assert accepts_just("attempts", least, most)
     assert f"(default `{of_program('script')['timer']}`)" in page(PROTOCOL)
@@ -115,6 +136,10 @@ def options_of_service() -> list[tuple[str, str]]:
 @pytest.mark.parametrize(("option", "default"), options_of_service())
 def test_a_default_of_the_service(option: str, default: str) -> None:
     assert of_service()[option] == default
+
+
+def test_the_units_of_times() -> None:
+    assert code(re.search(r"^A time is a number with (.*)\.$", page(OPERATING), re.M)[1]) == [*UNITS]
 
 
 def test_ranges_of_the_service() -> None:

@@ -78,6 +78,9 @@ TEXTS = [
     ("docs/OPERATING.md", "or in `(XDG_.*?)`", "tools/servicing/settings.py"),
     ("docs/OPERATING.md", "are in `RB_BROKER_OPTIONS` of `(.*?)` for all", "packaging/rb_broker@.service"),
     ("docs/OPERATING.md", "and of `(.*?@)7011` for one", "packaging/rb_broker@.service"),
+    ("docs/OPERATING.md", r"in the runtime directory \(`(\w+)`, `XDG", "tools/servicing/memory.py"),
+    ("docs/OPERATING.md", r"\(`RUNTIME_DIRECTORY`, `(\w+)` or", "tools/servicing/memory.py"),
+    ("docs/OPERATING.md", r"\(`RUNTIME_DIRECTORY`, `\w+` or `(.*?)`\)", "tools/servicing/memory.py"),
     ("docs/OPERATING.md", "and `examples/` is in `(.*?)`", "tools/common/words.py"),
 ]
 
@@ -85,6 +88,11 @@ TEXTS = [
 @pytest.mark.parametrize(("name", "told", "file"), TEXTS)
 def test_a_text(name: str, told: str, file: str) -> None:
     assert re.search(told, page(name))[1] in Path(TOP, file).read_text("utf-8")
+
+
+def test_the_folder_of_the_unit() -> None:
+    folder = re.search("can touch nothing but its folder, `/var/lib/(.*?)/7011`", page("docs/OPERATING.md"))[1]
+    assert f"\nStateDirectory={folder}/%i\n" in Path(TOP, "packaging/rb_broker@.service").read_text("utf-8")
 
 
 @cache
