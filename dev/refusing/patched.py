@@ -7,7 +7,9 @@ on if the count is less. A trap (cc) behind the jump, where an allocation is ref
 of a number. If the program has no such place, or N elsewhere too, nothing is tried. The sanitizer that is built in
 prints at each end how many blocks were given.
 """
+import bisect
 import errno
+import itertools
 import os
 import re
 import shutil
@@ -144,7 +146,8 @@ class CrateTests:
     def allocations(self, ran: Ran, test: str) -> int:
         """How many allocations a test made that can be refused. The system's are counted too, as for a thread."""
         blocks = ran.counts[0] - self.first_blocks
-        return next((number for number in range(blocks, 0, -1) if self.makes(test, number)), 0)
+        made = bisect.bisect_left(range(1, blocks + 1), True, key=lambda number: not self.makes(test, number))
+        return next(number for number in itertools.count(made) if not self.makes(test, number + 1))
 
     def makes(self, test: str, number: int) -> bool:
         """Whether a test makes the allocation of this number."""
