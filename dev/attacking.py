@@ -5,13 +5,14 @@
     --minutes M           gives up what has no result after so long
 
 An attack is a file crates/NAME/attacks/*.edit, in the form of a must-fail edit. `rt check` tries up to eight that change
-different functions together, one group on each processor, in copies of the checkout, over what earlier checks kept
-there in out/. What changes no function, or more than one, is tried alone. The checkout is left as it is, and the
-copies are removed at the end.
+different functions together, one group on each processor, in copies of the checkout, over the libraries that the gate
+left in out/ and what earlier checks kept there. What changes no function, or more than one, is tried alone. The
+checkout is left as it is, and the copies are removed at the end. What was refused is kept on this machine, by the
+texts that the check read, and is not tried again over these.
 
 Printed are a line for each crate, the attacks that were not refused, each with the prover's words, those that were
 refused only because a proof names what the edit removed, and finally `N refused, M not`, with `, K not tried` where
-time was short.
+time was short. `(L before)` are those that an earlier run refused.
 
 Exit status: 0 if M is 0, 1 if it is not, 2 if an argument is wrong or there is no `rt`.
 """
@@ -21,6 +22,7 @@ import shutil
 import subprocess
 import sys
 import time
+from collections import Counter
 from concurrent.futures import ThreadPoolExecutor
 from pathlib import Path
 from queue import SimpleQueue
@@ -31,7 +33,9 @@ from building.crates import own_uses, read_uses, with_those_below
 from common.program import TOP
 from common.words import number, parser_of
 from grouping import Change, Texts, change_of, groups_of, is_refused, says_little, together
+from keeping import Refused
 from leaving import status_of
+from stamping import stamp_libraries
 
 USES = own_uses(TOP)
 TENTH = Path(TOP, "dev/tenth")
@@ -98,6 +102,7 @@ class Copies:
         table = [f"{name}: {' '.join(named)}\n" for name, named in read_uses(TOP).items() if name in needed]
         (first / "crates.txt").write_text("".join(table), "utf-8")
         shutil.copy2(f"{TOP}/HANDLES", first)
+        stamp_libraries(first, USES)
         self.free.put(first)
         status, said = self.check({})
         if status:
@@ -189,12 +194,16 @@ class Attacks:
         self.verdicts[edit] = Verdict(True, "refused only because a proof names what it takes away" if little else "")
 
 
-def attack_crate(crate: str, edits: Sequence[str], room: Path, until: float) -> Attacks:
-    """Tries attacks of a crate, in copies that it makes in this room."""
-    copies = Copies(crate, room, until)
+def attack_crate(crate: str, edits: Sequence[str], room: Path, until: float) -> tuple[Attacks, int]:
+    """Tries attacks of a crate, in copies that it makes in this room. Gives also how many an earlier run refused."""
+    copies, kept = Copies(crate, room, until), Refused(crate, with_those_below([crate], USES))
     attacks = Attacks(crate, edits, copies.check)
+    before = {edit: Verdict(True, said) for edit in attacks.texts if (said := kept.said_of(edit)) is not None}
+    attacks.verdicts |= before
     try:
-        if said := copies.proved():
+        if len(attacks.verdicts) == len(edits):
+            pass
+        elif said := copies.proved():
             # Each edit would count as refused.
             print(f"{crate}: it is not proved as it stands:\n{said[-1000:]}", flush=True)
             attacks.verdicts |= {edit: Verdict(False, "not tried") for edit in edits}
@@ -202,25 +211,31 @@ def attack_crate(crate: str, edits: Sequence[str], room: Path, until: float) -> 
             attacks.try_all(copies.free.qsize())
     except subprocess.TimeoutExpired:
         pass
-    return attacks
+    kept.keep({edit: said for edit, (refused, said) in attacks.verdicts.items() if refused and edit not in before})
+    return attacks, len(before)
 
 
 def attack(chosen: Chosen, until: float, room: Path) -> int:
     """Tries attacks, and prints the results. Returns the exit status."""
-    refused = failed = late = 0
+    counts = Counter[str]()
+
+    def told(refused: int, before: int, failed: int, late: int) -> str:
+        said = f"{refused} refused{f' ({before} before)' if before else ''}, {failed} not"
+        return said + (f", {late} not tried" if late else "")
+
     for crate, edits in chosen.items():
-        attacks = attack_crate(crate, edits, room / crate, until)
+        attacks, before = attack_crate(crate, edits, room / crate, until)
         shutil.rmtree(room / crate, ignore_errors=True)
-        held = sum(verdict.refused for verdict in attacks.verdicts.values())
-        missed, left = len(attacks.verdicts) - held, len(edits) - len(attacks.verdicts)
-        print(f"{crate}: {held} refused, {missed} not" + (f", {left} not tried" if left else ""))
+        refused = sum(verdict.refused for verdict in attacks.verdicts.values())
+        failed, late = len(attacks.verdicts) - refused, len(edits) - len(attacks.verdicts)
+        counts.update(refused=refused, before=before, failed=failed, late=late)
+        print(f"{crate}: {told(refused, before, failed, late)}")
         for edit, verdict in sorted(attacks.verdicts.items()):
             if verdict.said:
                 print(f"{crate}/{edit}: {verdict.said}")
         sys.stdout.flush()
-        refused, failed, late = refused + held, failed + missed, late + left
-    print(f"{refused} refused, {failed} not" + (f", {late} not tried" if late else ""))
-    return 1 if failed else 0
+    print(told(*(counts[name] for name in ("refused", "before", "failed", "late"))))
+    return 1 if counts["failed"] else 0
 
 
 def main() -> int:

@@ -8,6 +8,8 @@ import pytest
 
 import attacking
 import grouping
+import keeping
+import stamping
 from checking.testing import PATIENCE
 from common.program import TOP
 
@@ -34,10 +36,12 @@ sys.exit(bool(found))
 """
 
 
-def attack(folder: Path, prover: str, *words: str) -> subprocess.CompletedProcess[str]:
-    (folder / "rt").write_text(f"#!{sys.executable}\n{prover}")
+def attack(folder: Path, prover: str, *words: str, kit: str = "a kit") -> subprocess.CompletedProcess[str]:
+    version = f"import sys\nif sys.argv[1:] == ['version']:\n    print({kit!r}), sys.exit()\n"
+    (folder / "rt").write_text(f"#!{sys.executable}\n{version}{prover}")
     (folder / "rt").chmod(0o755)
-    environment = {**os.environ, "PATH": f"{folder}:{os.environ['PATH']}", "TMPDIR": str(folder)}
+    environment = {**os.environ, "PATH": f"{folder}:{os.environ['PATH']}", "TMPDIR": str(folder),
+                   "XDG_CACHE_HOME": str(folder / "kept")}
     command = [sys.executable, "-B", f"{TOP}/dev/attack", "rb_bell", *words]
     return subprocess.run(command, env=environment, capture_output=True, text=True, timeout=PATIENCE, check=False)
 
@@ -54,6 +58,61 @@ def test_what_is_refused_and_what_is_not(tmp_path: Path) -> None:
         "rb_bell/wakes_who_looks_in_time.edit: the crate is still proved with it",
         "3 refused, 4 not",
     ]
+
+
+@pytest.mark.parametrize(("kit", "counts"), [
+    ("a kit", "3 refused (3 before), 4 not"), ("another kit", "0 refused, 7 not"),
+])
+def test_what_was_refused_is_not_tried_again(tmp_path: Path, kit: str, counts: str) -> None:
+    """Over the same texts, by the same kit. This prover refuses nothing."""
+    attack(tmp_path, PROVER)
+    told = attack(tmp_path, "print('logic=proved')", kit=kit).stdout.splitlines()
+    assert (told[0], told[-1]) == (f"rb_bell: {counts}", counts)
+    assert sum(line.endswith(": the crate is still proved with it") for line in told) == int(counts.split()[-2])
+
+
+def test_what_is_kept_of_what_was_refused(tmp_path: Path, monkeypatch: pytest.MonkeyPatch) -> None:
+    monkeypatch.setenv("XDG_CACHE_HOME", str(tmp_path))
+    told = {"rests_in_seconds.edit": "so", "wakes_who_looks_in_time.edit": ""}
+    keeping.Refused("rb_bell", ["rb_bell"]).keep(told)
+    for needed, kept in ((["rb_bell"], told), (["rb_bell", "rb_lock"], {})):
+        refused = keeping.Refused("rb_bell", needed)
+        said = {edit: refused.said_of(edit) for edit in attacking.edits_of("rb_bell")}
+        assert {edit: text for edit, text in said.items() if text is not None} == kept
+    for crate in attacking.USES:
+        keeping.Refused("rb_bell", [crate]).keep({})
+    assert len([*tmp_path.glob("rb_broker/attacks/rb_bell-*")]) == keeping.MOST
+
+
+# A kit's module, with crates of a checkout that say their names as their stamps.
+KIT = """
+import os
+class Crate:
+    def __init__(self, top, name):
+        self.name, self.folder = name, f"{top}/crates/{name}"
+    def stamp(self):
+        return self.name
+def crates_below(top):
+    return [Crate(top, name) for name in os.listdir(f"{top}/crates")]
+"""
+
+
+def test_libraries_that_are_stamped(tmp_path: Path, monkeypatch: pytest.MonkeyPatch) -> None:
+    """Those that are younger than all sources below them."""
+    for name, times in {"low": (5, 6), "left": (3, 7), "right": (3, 4), "bare": (1, 0)}.items():
+        source, library = tmp_path / f"crates/{name}/src/lib.rt", tmp_path / f"crates/{name}/out/rlib/{name}.rlib"
+        source.parent.mkdir(parents=True)
+        source.touch()
+        if times[1]:
+            library.mkdir(parents=True)
+            os.utime(library.parent, (times[1], times[1]))
+        os.utime(source, (times[0], times[0]))
+    (tmp_path / "rt").touch(0o755)
+    (tmp_path / "rtlib.py").write_text(KIT)
+    monkeypatch.setenv("PATH", str(tmp_path))
+    stamping.stamp_libraries(tmp_path, {"low": [], "left": ["low"], "right": ["low"], "bare": ["low"]})
+    stamps = {path.parts[-4]: path.read_text() for path in tmp_path.glob("crates/*/out/rlib/stamp")}
+    assert stamps == {"low": "low", "left": "left"}
 
 
 def test_a_crate_that_is_not_proved(tmp_path: Path) -> None:
