@@ -33,17 +33,21 @@ def try_parts(names: Iterable[str], words: Sequence[str] = ()) -> Iterator[Ended
     alone. Prints a line for each and gives how it ended."""
 
     def tried(name: str) -> Ended:
-        began = time.monotonic()
-        command = [sys.executable, "-B", f"{TOP}/dev/check", name, *words]
-        ran = subprocess.run(command, stdout=subprocess.PIPE, stderr=subprocess.STDOUT, text=True, errors="replace",
-                             check=False)
-        return Ended(name, ran.returncode, ran.stdout.strip(), time.monotonic() - began)
+        return try_aside(name, sys.executable, "-B", f"{TOP}/dev/check", name, *words)
 
     names = [*names]
     for is_alone, at_once in ((False, (PROCESSORS + 1) // 2), (True, 1)):
         for _, ended in side_by_side(tried, [name for name in names if PARTS[name].is_alone is is_alone], at_once):
             ended.tell()
             yield ended
+
+
+def try_aside(name: str, *words: str) -> Ended:
+    """Runs a command, and prints nothing."""
+    began = time.monotonic()
+    ran = subprocess.run(words, stdin=subprocess.DEVNULL, stdout=subprocess.PIPE, stderr=subprocess.STDOUT, text=True,
+                         errors="replace", check=False)
+    return Ended(name, ran.returncode, ran.stdout.strip(), time.monotonic() - began)
 
 
 def try_command(name: str, *words: str) -> Ended:

@@ -24,8 +24,8 @@ def stand_in(folder: Path, name: str, script: str) -> None:
     (folder / name).chmod(0o755)
 
 
-def run(folder: Path, command: str, *words: str) -> subprocess.CompletedProcess[str]:
-    environment = {**os.environ, "PATH": f"{folder}:{os.environ['PATH']}", "TMPDIR": str(folder)}
+def run(folder: Path, command: str, *words: str, **settings: str) -> subprocess.CompletedProcess[str]:
+    environment = {**os.environ, "PATH": f"{folder}:{os.environ['PATH']}", "TMPDIR": str(folder), **settings}
     words = (sys.executable, "-B", f"{TOP}/dev/{command}", *words)
     return subprocess.run(words, env=environment, capture_output=True, text=True, timeout=PATIENCE, check=False)
 
@@ -77,6 +77,17 @@ def test_what_is_left_out(tmp_path: Path) -> None:
     ran = run(tmp_path, "test", "--without", "setup", "refusals", *others, "--program", sys.executable)
     assert (ran.returncode, ran.stderr) == (0, ""), ran.stdout
     assert re.fullmatch(r"(?s)tools: passed, .*\n1 passed, 0 failed, in \d+\.\d minutes\n", ran.stdout)
+
+
+def test_what_runs_behind_the_parts(tmp_path: Path) -> None:
+    """One after the other, and each tells how it ended, below what it printed."""
+    stand_in(tmp_path, "rt", "echo no proof; exit 1")
+    parts = [name for name, part in PARTS.items() if not part.is_long]
+    ran = run(tmp_path, "test", "--without", "setup", "gate", *parts, XDG_CACHE_HOME=str(tmp_path / "kept"))
+    told = r"(?s)refuse_allocations: rt try built no program:\nno proof\n.*\nrefusals: FAILED with status 2, .*" \
+        r": it is not proved as it stands:\nno proof\n.*\nattacks: FAILED with status 1, \d+ s: 0 refused, \d+ not\n" \
+        r".*\n0 passed, 2 failed, in \d+\.\d minutes\n"
+    assert (ran.returncode, ran.stderr) == (1, "") and re.fullmatch(told, ran.stdout), ran
 
 
 @pytest.mark.parametrize("name", PARTS)
