@@ -2,5 +2,5 @@
 
 HOST = "127.0.0.1"
 
-# Seconds that a client waits for a reply.
-PATIENCE = 60
+# Seconds that a client waits for a reply, on a machine that does much else.
+PATIENCE = 180

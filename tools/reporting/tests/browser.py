@@ -9,7 +9,7 @@ import socket
 import subprocess
 from typing import Any
 
-PATIENCE = 60.0  # seconds for each answer
+PATIENCE = 180.0  # seconds for each answer, on a machine that does much else
 
 KEYS = {"Enter": 13, "Tab": 9, "End": 35, "Home": 36, "ArrowLeft": 37, "ArrowRight": 39}
 

@@ -121,6 +121,9 @@ class StatusTest(ServiceTest):
         self.assertEqual((ran.returncode, ran.stderr), (1, says))
 
 
+SERVING = "STATUS=serving, run 1, 0 elements, 0 clients served"
+
+
 class NotifyingTest(ServiceTest):
     def test_where_nobody_is_told(self) -> None:
         for address in ("", self.path("none")):
@@ -139,10 +142,9 @@ class NotifyingTest(ServiceTest):
             reader.start()
             with mock.patch.dict(os.environ, NOTIFY_SOCKET=self.path("notify")):
                 with self.serving():
-                    pass
+                    until(lambda: SERVING in told, SERVING)
                 notify(END=1)
             reader.join()
         self.assertEqual((told.count("READY=1"), told.count("STOPPING=1")), (1, 1))
-        self.assertIn("STATUS=serving, run 1, 0 elements, 0 clients served", told)
         self.assertLess(told.index("READY=1"), told.index("STOPPING=1"))
         self.assertIn("EXTEND_TIMEOUT_USEC=300000000", told[told.index("STOPPING=1"):])
