@@ -30,6 +30,7 @@ from typing import Callable, NamedTuple, Sequence
 
 from building.build import available_memory
 from building.crates import own_uses, read_uses, with_those_below
+from building.rooms import link_or_copy
 from common.program import TOP
 from common.words import number, parser_of
 from grouping import Change, Texts, change_of, groups_of, is_refused, says_little, together
@@ -98,7 +99,7 @@ class Copies:
         """Makes the copies, once the crate is proved in the first. Returns what the check said where it is not."""
         first, needed = self.room / "0", with_those_below([self.crate], USES)
         for name in needed:
-            shutil.copytree(f"{TOP}/crates/{name}", first / "crates" / name, ignore=shutil.ignore_patterns("must-fail", "attacks"))
+            copy_tree(Path(TOP, "crates", name), first / "crates" / name)
         table = [f"{name}: {' '.join(named)}\n" for name, named in read_uses(TOP).items() if name in needed]
         (first / "crates.txt").write_text("".join(table), "utf-8")
         shutil.copy2(f"{TOP}/HANDLES", first)
@@ -108,7 +109,7 @@ class Copies:
         if status:
             return said
         for at in range(1, places()):
-            shutil.copytree(first, self.room / str(at))
+            copy_tree(first, self.room / str(at))
             self.free.put(self.room / str(at))
         return ""
 
@@ -129,6 +130,18 @@ class Copies:
             for file, text in before.items():
                 (folder / file).write_text(text, "utf-8")
             self.free.put(copy)
+
+
+def copy_tree(folder: Path, to: Path) -> None:
+    """Copies a crate, or a checkout. What rt made, which is large, gets a second name."""
+
+    def copied(file: str, place: str) -> None:
+        if "/out/" in file.removeprefix(str(folder)):
+            link_or_copy(file, place)
+        else:
+            shutil.copy2(file, place)
+
+    shutil.copytree(folder, to, ignore=shutil.ignore_patterns("must-fail", "attacks"), copy_function=copied)
 
 
 def places() -> int:

@@ -20,8 +20,10 @@ os.chdir(top)
 import rtlib
 for crate in rtlib.crates_below(top):
     if crate.name in names:
-        with open(f"{crate.folder}/out/rlib/stamp", "w", encoding="utf-8") as file:
+        path = f"{crate.folder}/out/rlib/stamp"
+        with open(f"{path}.new", "w", encoding="utf-8") as file:
             file.write(crate.stamp())
+        os.replace(f"{path}.new", path)  # one that is there may have another name elsewhere
 """
 
 
