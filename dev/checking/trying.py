@@ -24,7 +24,7 @@ def built(folder: str, room: str, *words: str) -> str:
                     if not os.path.exists(kept):
                         with contextlib.suppress(FileNotFoundError):
                             os.link(path, kept)
-                time.sleep(0.005)
+                time.sleep(0.02)
         said.seek(0)
         text = said.read().decode(errors="replace")
     if not os.path.isfile(kept):
