@@ -2,12 +2,14 @@
 import os
 import signal
 import subprocess
+import time
+from pathlib import Path
 from unittest import mock
 
 from common.program import TOP
 from serving.server import Ended, started
 
-PATIENCE = 60  # seconds after which something has failed
+PATIENCE = 180  # seconds after which something has failed, on a machine that does much else
 WORKER = f"{TOP}/examples/worker.pl"
 
 
@@ -28,8 +30,18 @@ class Worker:
         """Its next lines."""
         return [self.line() for _ in range(count)]
 
+    def begun(self) -> None:
+        """Waits until it minds a signal, by the mask in /proc, or has ended."""
+        status, end = Path(f"/proc/{self.process.pid}/status"), time.monotonic() + PATIENCE
+        while self.process.poll() is None and time.monotonic() < end:
+            caught = int(status.read_text().partition("SigCgt:")[2].split()[0], 16)
+            if caught >> (signal.SIGTERM - 1) & 1:
+                return
+            time.sleep(0.01)
+
     def stop(self) -> Ended:
         """Asks it to stop, by a signal, and waits until it has."""
+        self.begun()
         self.process.send_signal(signal.SIGTERM)
         return self.end()
 

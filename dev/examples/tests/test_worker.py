@@ -39,7 +39,8 @@ class WorkerTest(ServingTest):
     def expect_stop_within(self, server: Server) -> None:
         """Expects that a worker without a job stops soon."""
         worker = Worker(server.port, "true")
-        time.sleep(1)
+        worker.begun()
+        time.sleep(1)  # in which it connects
         began = time.monotonic()
         self.assertEqual(worker.stop(), ended(0))
         self.assertLessEqual(time.monotonic() - began, 10)
