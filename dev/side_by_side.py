@@ -11,9 +11,19 @@ def side_by_side(
 ) -> Iterator[tuple[Given, Result]]:
     """Calls a function for each of these, so many at once. Gives each with the result, as they come. If that is broken
     off, those that have not begun never do."""
-    pool = ThreadPoolExecutor(at_once)
+    return in_lanes(call, [(each, at_once)])
+
+
+def in_lanes(
+    call: Callable[[Given], Result], lanes: Iterable[tuple[Iterable[Given], int]]
+) -> Iterator[tuple[Given, Result]]:
+    """The same for several of these at the same time, each with its own count."""
+    pools, calls = [], {}
     try:
-        lanes = {pool.submit(call, one): one for one in each}
-        yield from ((lanes[lane], lane.result()) for lane in as_completed(lanes))
+        for each, at_once in lanes:
+            pools.append(ThreadPoolExecutor(at_once))
+            calls.update({pools[-1].submit(call, one): one for one in each})
+        yield from ((calls[ended], ended.result()) for ended in as_completed(calls))
     finally:
-        pool.shutdown(wait=False, cancel_futures=True)
+        for pool in pools:
+            pool.shutdown(wait=False, cancel_futures=True)

@@ -1,13 +1,16 @@
-"""Several parts, each in a process of its own: side by side, or alone where a part needs quiet."""
+"""Several parts, each in a process of its own, side by side."""
 import subprocess
 import sys
 import time
 from dataclasses import dataclass
-from typing import Iterable, Iterator, Sequence
+from functools import partial
+from typing import Callable, Iterable, Iterator, Sequence
 
 from checking.parts import PARTS, PROCESSORS
 from common.program import TOP
-from side_by_side import side_by_side
+from side_by_side import in_lanes
+
+BEHIND = ["nice", "-n", "5"]  # by which a part leaves the processors to those that run alone
 
 
 @dataclass(frozen=True)
@@ -28,18 +31,31 @@ class Ended:
         print(f"{self.name}: {state}, {self.seconds:.0f} s: {last}", flush=True)
 
 
-def try_parts(names: Iterable[str], words: Sequence[str] = ()) -> Iterator[Ended]:
-    """Tries parts by dev/check with these words: half as many at once as there are processors, and then those that run
-    alone. Prints a line for each and gives how it ended."""
+Try = Callable[[], Ended]
+
+
+def ended_of(one: Try) -> Ended:
+    return one()
+
+
+def try_parts(names: Iterable[str], words: Sequence[str] = (), behind: Sequence[Try] = ()) -> Iterator[Ended]:
+    """Tries parts by dev/check with these words: one by one those that run alone, and behind them the others, half as
+    many at once as there are processors. Beside all come these, one by one. Prints a line for each and gives how it
+    ended."""
+    names = [*names]
+    alone, others = ([name for name in names if PARTS[name].is_alone is is_alone] for is_alone in (True, False))
 
     def tried(name: str) -> Ended:
-        return try_aside(name, sys.executable, "-B", f"{TOP}/dev/check", name, *words)
+        before = BEHIND if alone and name in others else []
+        return try_aside(name, *before, sys.executable, "-B", f"{TOP}/dev/check", name, *words)
 
-    names = [*names]
-    for is_alone, at_once in ((False, (PROCESSORS + 1) // 2), (True, 1)):
-        for _, ended in side_by_side(tried, [name for name in names if PARTS[name].is_alone is is_alone], at_once):
-            ended.tell()
-            yield ended
+    def in_turn(lane: list[str]) -> list[Try]:
+        return [partial(tried, name) for name in lane]
+
+    lanes = (in_turn(alone), 1), (in_turn(others), (PROCESSORS + 1) // 2), (behind, 1)
+    for _, ended in in_lanes(ended_of, lanes):
+        ended.tell()
+        yield ended
 
 
 def try_aside(name: str, *words: str) -> Ended:
