@@ -1,5 +1,6 @@
 """rb_cases, its program and its tables of rows."""
 import difflib
+import fcntl
 import os
 import shutil
 import subprocess
@@ -17,13 +18,15 @@ def rb_cases(room: str) -> Path:
     """The program that the gate left, or an earlier call of this. If there is none, or a source is newer, `rt try` makes
     one without proofs, which takes some minutes."""
     newest = max(source.stat().st_mtime for source in (CRATE / "src").rglob("*.rt"))
-    for path in (PROVED, UNPROVED):
-        if os.access(path, os.X_OK) and path.stat().st_mtime > newest:
-            return path
-    print("cases: making rb_cases without proofs", file=sys.stderr)
     UNPROVED.parent.mkdir(exist_ok=True)
-    shutil.move(built(str(CRATE), room), UNPROVED)
-    os.utime(UNPROVED)
+    with open(UNPROVED.with_suffix(".lock"), "w") as turn:
+        fcntl.flock(turn, fcntl.LOCK_EX)  # who comes meanwhile takes what is made here
+        for path in (PROVED, UNPROVED):
+            if os.access(path, os.X_OK) and path.stat().st_mtime > newest:
+                return path
+        print("cases: making rb_cases without proofs", file=sys.stderr)
+        shutil.move(built(str(CRATE), room), UNPROVED)
+        os.utime(UNPROVED)
     return UNPROVED
 
 

@@ -5,8 +5,9 @@ given in place of which answer. Malformed tables must each be an error, with the
 """
 import re
 import subprocess
+from itertools import islice
 from pathlib import Path
-from typing import Callable
+from typing import Callable, Iterator
 
 import pytest
 
@@ -16,6 +17,7 @@ from common.program import TOP
 
 OTHER = " @"  # what is put behind an answer, which no answer ends with
 PATIENCE = 600  # seconds that a run may take
+SHARES = 4  # of a file, which are tried side by side
 # Malformed tables, each with the line and the reason by which it has to be refused.
 _, *PIECES = re.split(r"^== (.*)\n", Path(__file__).with_name("malformed.txt").read_text("utf-8"), flags=re.M)
 
@@ -41,17 +43,25 @@ def with_other_answer(row: str) -> str:
     return f"{command} = {' or '.join(answer + OTHER for answer in answers.split(' or '))}"
 
 
-@pytest.mark.parametrize("path", sorted(CRATE.glob("data/*.rows")), ids=lambda path: path.name)
-def test_each_row_with_another_answer_is_named(reads: Reads, path: Path) -> None:
-    tried: list[str] = []
-    wanted: list[str] = []
+def wrong_tables(path: Path) -> Iterator[tuple[str, list[str], int]]:
+    """The tables of a file, once for each row, up to that row and with another answer there: its name, as a pattern,
+    its lines, and the place of the row."""
     for table in tables_of(path):
-        name = re.escape(table[0].split(" ", 2)[2])
         for at, line in enumerate(table):
             if " = " in line:
-                over, place = r"(kept, |shared, )?(over \w+, )?", len(tried) + at + 1
-                wanted.append(rf"tried\.rows: {name}, wrong at {at}: {over}line {place}: .* in place of .*")
-                tried += [f"{table[0]}, wrong at {at}", *table[1:at], with_other_answer(line), *table[at + 1:]]
+                name = f"{table[0]}, wrong at {at}"
+                yield re.escape(name.split(" ", 2)[2]), [name, *table[1:at], with_other_answer(line), *table[at + 1:]], at
+
+
+@pytest.mark.parametrize("share", range(SHARES))
+@pytest.mark.parametrize("path", sorted(CRATE.glob("data/*.rows")), ids=lambda path: path.name)
+def test_each_row_with_another_answer_is_named(reads: Reads, path: Path, share: int) -> None:
+    tried: list[str] = []
+    wanted: list[str] = []
+    for name, table, at in islice(wrong_tables(path), share, None, SHARES):
+        over, place = r"(kept, |shared, )?(over \w+, )?", len(tried) + at + 1
+        wanted.append(rf"tried\.rows: {name}: {over}line {place}: .* in place of .*")
+        tried += table
     ran = reads("".join(f"{line}\n" for line in tried))
     *told, _counts = ran.stdout.splitlines()
     assert (ran.returncode, ran.stderr, len(told)) == (1, "", len(wanted))
