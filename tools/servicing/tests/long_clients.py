@@ -72,7 +72,7 @@ class DaysTest(ServiceTest):
             began = time.monotonic()
             words = [*client, "offer", "0", str(number), "--port", str(self.port)]
             ran = subprocess.run(words, env=PYTHON, capture_output=True, text=True, check=False)
-            self.assertEqual((ran.returncode, ran.stdout[:8]), (0, "OFFERED "), ran.stderr)
+            self.assertEqual((ran.returncode, ran.stdout[:8]), (0, "OFFERED "), (ran.stderr, service.lines[-8:]))
             number += 1
             time.sleep(max(1 - (time.monotonic() - began), 0))
         self.assertEqual(producer.returncode, 0)
