@@ -1,5 +1,4 @@
 """Servers that play scripts, for what the real one does rarely or at no stated moment; and workers of such servers."""
-import contextlib
 import logging
 import multiprocessing
 import os
@@ -112,11 +111,9 @@ class ScriptedTest(unittest.TestCase):
         server.thread.join(2 * PATIENCE)  # which ends with the last session
         self.assertEqual((server.faults, server.thread.is_alive()), ([], False))
 
-    @contextlib.contextmanager
     def logged(self, level=logging.ERROR):
-        """What is logged of this level meanwhile, of which there is one text at least: `LEVEL:NAME:MESSAGE`."""
-        with self.assertLogs("rb_broker_client", level) as said:
-            yield said.output
+        """Meanwhile one text at least is logged of this level. `output` has each, as `LEVEL:NAME:MESSAGE`."""
+        return self.assertLogs("rb_broker_client", level)
 
 
 class WorkerCase(ScriptedTest):

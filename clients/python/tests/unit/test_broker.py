@@ -192,7 +192,7 @@ class RecordTest(BrokerCase):
         file.close()
         with self.logged() as said:
             self.assertEqual((broker.size(), broker.size()), (4, 5))
-        (text,) = said
+        (text,) = said.output
         self.assertIn("the record can't be written", text)
 
     def test_clients_of_several_threads_may_have_one_file(self):

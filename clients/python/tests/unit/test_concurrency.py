@@ -68,7 +68,7 @@ class TimeoutTest(ConcurrencyCase):
                                 timeout=LIMIT)
         self.assertGreater(time.monotonic() - began, 2 * LIMIT)
         told = "the handler of job a, attempt 1, takes longer than 0.5 seconds: the job fails"
-        self.assertEqual(said, [f"ERROR:rb_broker_client.worker:{told}"])
+        self.assertEqual(said.output, [f"ERROR:rb_broker_client.worker:{told}"])
 
     def test_a_stop_does_not_wait_for_it(self):
         self.addCleanup(lambda: self.jobs.end("a"))
@@ -85,7 +85,7 @@ class LongTest(WorkerCase):
     def assert_logged(self, what, run):
         with self.logged(logging.WARNING) as said:
             run()
-        told = [it for it in said if "has been running" in it]
+        told = [it for it in said.output if "has been running" in it]
         self.assertEqual(told, [f"WARNING:rb_broker_client.worker:{what}, attempt 1, has been running for 0.5 seconds"])
 
     def test_it_is_logged_once(self):

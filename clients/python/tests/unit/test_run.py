@@ -60,7 +60,7 @@ class ProducerTest(ProducerCase):
         self.assert_session_ends()
         with self.logged() as said:
             self.assertEqual([offer(producer, it).id for it in "cd"], [0, 1])
-        self.assertEqual(said, [
+        self.assertEqual(said.output, [
             f"ERROR:rb_broker_client.producer:the server at 127.0.0.1:{self.server.port} has lost its run: it gave id "
             "0 to a new job. What stood in its queue is gone, and ids of that run name other jobs now"])
 
@@ -74,7 +74,8 @@ class ProducerTest(ProducerCase):
         self.assert_session_ends()
         with self.logged("WARNING") as said:
             self.assertEqual(offer(producer, "b").greeting.run, 8)
-        self.assertIn("has lost a run: what it accepted in the 3.0 seconds before its run 8 is in doubt", said[0])
+        text = "has lost a run: what it accepted in the 3.0 seconds before its run 8 is in doubt"
+        self.assertIn(text, said.output[0])
         wait_for(lambda: told)
         self.assertEqual(told, [LostRun(5, 3_000_000_005)])
 
@@ -113,7 +114,7 @@ class WorkerTest(WorkerCase):
         ):
             with self.logged() as said:
                 self.assert_reports(report, f"{first}; WAIT > hangs up", f"{following}; {LAST}")
-            (text,) = said
+            (text,) = said.output
             self.assertIn(told, text)
 
     def test_a_worker_is_told_too_and_a_fault_of_that_is_logged(self):
@@ -121,8 +122,8 @@ class WorkerTest(WorkerCase):
         with self.logged("WARNING") as said:
             self.assert_reports(Report(done=2), f"{GREETS.format(7, 2, 5)}; {A}; WAIT > hangs up",
                                 f"{GREETS.format(9, 3, 8)}; {A}; {LAST}", on_lost_run=told)
-            wait_for(lambda: "of the caller" in said[-1])
-        self.assertEqual((told.call_count, len(said)), (1, 2))
+            wait_for(lambda: "of the caller" in said.output[-1])
+        self.assertEqual((told.call_count, len(said.output)), (1, 2))
 
     def test_a_server_that_greets_ends_a_session_and_the_worker_goes_on_at_the_next(self):
         greets = GREETS.format(7, 2, 5)
@@ -131,7 +132,7 @@ class WorkerTest(WorkerCase):
                                 f"{greets}; WAIT > ITEM 1 0 1 a; DONE 1; WAIT > STOPPED; > hangs up",
                                 f"{greets}; WAIT > ITEM 2 0 1 b; FAIL 2 > AGAIN 3 5; WAIT > ITEM 4 0 1 a; DONE 4; "
                                 f"{LAST}")
-        self.assertEqual([it.partition("\n")[0] for it in said],
+        self.assertEqual([it.partition("\n")[0] for it in said.output],
                          ["WARNING:rb_broker_client.worker:attempt 1 of job b failed"])
 
     def test_what_is_no_greeting_is_no_reply_either(self):

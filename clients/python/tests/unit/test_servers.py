@@ -92,7 +92,7 @@ class WorkerTest(WorkerCase):
         away, server = free_port(), self.play(f"AT 0; {A}; {LAST}")
         with self.logged(logging.INFO) as said:
             self.work_at(away, server.port).run()
-        self.assertRegex("\n".join(said), f"(?s)no server at {at(away)}: .*served again at {at(server.port)}$")
+        self.assertRegex("\n".join(said.output), f"(?s)no server at {at(away)}: .*served again at {at(server.port)}$")
 
 
 @for_both_kinds

@@ -187,7 +187,7 @@ class TasksTest(ScriptedTest):
             self.note.later(0)
             with self.logged() as said:
                 self.passes(moments, (0, 3), ("1d", 3))
-            self.assertRegex(said[0], "(?s)before of .*OSError")
+            self.assertRegex(said.output[0], "(?s)before of .*OSError")
 
     def run_with(self, middleware):
         """Runs two tasks that are done, one of them a coroutine, and one that fails and then is done."""
@@ -286,11 +286,11 @@ class TasksTest(ScriptedTest):
             with patch.object(self.app._is_over, "wait", side_effect=is_over), \
                     patch.object(self.app._store, name, side_effect=full), self.logged() as said:
                 keep()
-            self.assertEqual([it.splitlines()[0] for it in said], [text] * 2)
+            self.assertEqual([it.splitlines()[0] for it in said.output], [text] * 2)
         child = Mock(process=Mock(exitcode=None))
         with patch.object(self.app._store, "running", side_effect=full), self.logged() as said:
             Processes(self.app, 1, 1)._look_after(child)
-        self.assertEqual([it.splitlines()[0] for it in said], [text])
+        self.assertEqual([it.splitlines()[0] for it in said.output], [text])
 
     def test_a_task_that_no_broker_takes_holds_up_no_other(self):
         for number in range(3):

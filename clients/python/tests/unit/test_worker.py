@@ -43,7 +43,7 @@ class JobTest(WorkerCase):
             buried = []
             with self.logged("WARNING") as said:
                 self.assert_reports(report, *sessions, LAST, on_dead=buried.append, **options)
-            errors = [it.partition("worker:")[2] for it in said if it.startswith("ERROR:")]
+            errors = [it.partition("worker:")[2] for it in said.output if it.startswith("ERROR:")]
             self.assertEqual((buried, errors), (dead, told))
 
     def test_a_fault_of_what_is_told_of_dead_jobs_is_logged_and_the_worker_goes_on(self):
@@ -51,7 +51,7 @@ class JobTest(WorkerCase):
         steps = f"{GIVES_B}; FAIL 1 > DEAD 1; {A}; {LAST}"
         with self.logged() as said:
             self.assert_reports(Report(done=1, dead=1), steps, on_dead=refuse)
-        self.assertRegex("\n".join(said), r"(?s)\AERROR:.*:job b failed in its last attempt, 1\n"
+        self.assertRegex("\n".join(said.output), r"(?s)\AERROR:.*:job b failed in its last attempt, 1\n"
                          r"ERROR:.*:on_dead failed for job b\n.*the disk is full\Z")
 
     def test_options_that_make_no_sense(self):
@@ -119,20 +119,20 @@ class LogTest(WorkerCase):
         self.stop_later(0.3)
         with self.logged(logging.INFO) as said:
             worker.run()
-        (text,) = said
+        (text,) = said.output
         self.assertRegex(text, rf"^WARNING:.*:no server at 127.0.0.1:{port}: \[Errno {errno.ECONNREFUSED}\] ")
 
     def test_a_session_that_was_lost_and_the_next(self):
         with self.logged(logging.INFO) as said:
             self.work("WAIT > hangs up", LAST).run()
-        lost, again = said
+        lost, again = said.output
         self.assertRegex(lost, f"^WARNING:.*:the session at 127.0.0.1:{self.server.port} was lost: ")
         self.assertRegex(again, f"^INFO:.*:served again at 127.0.0.1:{self.server.port}$")
 
     def test_the_first_session_is_not_served_again(self):
         with self.logged(logging.INFO) as said:
             self.work(f"{GIVES_B}; FAIL 1 > AGAIN 2 5; {LAST}").run()
-        (text,) = said
+        (text,) = said.output
         self.assertRegex(text, "^WARNING:.*:attempt 1 of job b failed\n")
 
 
