@@ -3,14 +3,16 @@ import asyncio
 import contextvars
 import threading
 import unittest
-from unittest.mock import AsyncMock
+from unittest.mock import AsyncMock, call
 
-from scripted import A, GIVES_A, PATIENCE, ScriptedTest, free_port
-from rb_broker_client import AsyncBroker, AsyncProducer, AsyncWorker, Offered, Report
+from scripted import A, GIVES_A, LAST, PATIENCE, WorkerCase, free_port
+from rb_broker_client import AsyncBroker, AsyncProducer, AsyncWorker, Job, Offered, Report
 
 
-class LoopTest(ScriptedTest, unittest.IsolatedAsyncioTestCase):
+class LoopTest(WorkerCase, unittest.IsolatedAsyncioTestCase):
     """Tasks that are cancelled, and those of jobs."""
+
+    kind = AsyncWorker
 
     async def test_nothing_can_be_asked_while_the_reply_to_another_is_due(self):
         async with AsyncBroker(self.play("TAKE > nothing").port, patience=PATIENCE) as broker:
@@ -32,15 +34,14 @@ class LoopTest(ScriptedTest, unittest.IsolatedAsyncioTestCase):
             try:
                 await asyncio.sleep(10 * PATIENCE)
             finally:
-                self.ended.append(job.payload)
+                self.handled.append(job.payload)
                 self.worker.stop()
 
-        self.ended, self.worker = [], AsyncWorker(handle, self.play(f"AT 0; {GIVES_A}; {steps}").port, **options)
-        return self.worker
+        return self.work(f"{GIVES_A}; {steps}", handler=handle, **options)
 
     async def test_the_task_of_a_job_that_takes_longer(self):
         worker = self.make_hanging("FAIL 0 > AGAIN 1 5; QUIT", timeout=0.5)
-        self.assertEqual((await worker.run(), self.ended), (Report(again=1), ["a"]))
+        self.assertEqual((await worker.run(), self.handled), (Report(again=1), ["a"]))
 
     async def test_a_worker_ends_its_session_and_its_jobs(self):
         is_waiting = threading.Event()
@@ -50,12 +51,11 @@ class LoopTest(ScriptedTest, unittest.IsolatedAsyncioTestCase):
         working.cancel()
         with self.assertRaises(asyncio.CancelledError):
             await working
-        self.assertEqual(self.ended, ["a"])
+        self.assertEqual(self.handled, ["a"])
 
     async def test_a_handler_that_is_cancelled_has_failed(self):
-        self.stops = lambda _: worker.stop()
-        server = self.play(f"AT 0; {GIVES_A}; FAIL 0 > stops: AGAIN 1 5; QUIT")
-        worker = AsyncWorker(AsyncMock(side_effect=asyncio.CancelledError), server.port)
+        cancels = AsyncMock(side_effect=asyncio.CancelledError)
+        worker = self.work(f"{GIVES_A}; FAIL 0 > stops: AGAIN 1 5; QUIT", handler=cancels)
         self.assertEqual(await worker.run(), Report(again=1))
 
     async def test_each_job_is_a_task_of_its_own_in_the_context_of_the_worker(self):
@@ -66,24 +66,17 @@ class LoopTest(ScriptedTest, unittest.IsolatedAsyncioTestCase):
             seen.append(word.get())
             tasks.append(asyncio.current_task())
             word.set("of a job")
-            if len(seen) == 3:
-                worker.stop()
 
-        worker = AsyncWorker(handle, self.play(f"AT 0; {A}; {A}; {A}; QUIT").port)
+        worker = self.work(f"{A}; {A}; {A}; {LAST}", handler=handle)
         word.set("of the worker")
         self.assertEqual(await worker.run(), Report(done=3))
         self.assertEqual((seen, len({*tasks})), (["of the worker"] * 3, 3))
 
     async def test_what_ends_at_once_is_told_in_one_piece_and_its_place_is_free(self):
-        async def handle(job):
-            handled.append(job.payload)
-
-        handled = []
-        self.stops = lambda _: worker.stop()
-        server = self.play(f"AT 0; {A}; DRAIN 2 > DRAINED 2, ITEM 1 0 1 b, ITEM 2 0 1 c; DONE 1; DONE 2; "
-                           "DRAIN 2 > stops: DRAINED 0; QUIT")
-        worker = AsyncWorker(handle, server.port, concurrency=2)
-        self.assertEqual((await worker.run(), handled), (Report(done=3), ["a", "b", "c"]))
+        handle, calls = AsyncMock(return_value=None), [call(Job(id, 0, 1, it)) for id, it in enumerate("abc")]
+        worker = self.work(f"{A}; DRAIN 2 > DRAINED 2, ITEM 1 0 1 b, ITEM 2 0 1 c; DONE 1; DONE 2; "
+                           "DRAIN 2 > stops: DRAINED 0; QUIT", handler=handle, concurrency=2)
+        self.assertEqual((await worker.run(), handle.call_args_list), (Report(done=3), calls))
 
     async def test_a_broker_before_it_is_connected_and_without_a_server(self):
         with self.assertRaises(RuntimeError):

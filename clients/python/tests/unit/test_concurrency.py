@@ -4,7 +4,7 @@ import logging
 import sys
 import threading
 import time
-from unittest.mock import patch
+from unittest.mock import AsyncMock, patch
 
 from from_threads import for_both_kinds
 from scripted import A, GIVES_A, GIVES_B, LAST, PATIENCE, ConcurrencyCase, WorkerCase, wait_for
@@ -98,9 +98,6 @@ class LongTest(WorkerCase):
             self.assert_logged(what, lambda: self.assert_reports(report, steps, **options))
 
     def test_one_that_holds_up_the_event_loop(self):
-        async def handle(job):
-            time.sleep(3 * LIMIT)
-            worker.stop()
-
-        worker = AsyncWorker(handle, self.play(f"AT 0; {A}; QUIT").port)
-        self.assert_logged("the handler of job a", lambda: asyncio.run(worker.run()))
+        hang = AsyncMock(side_effect=lambda job: time.sleep(3 * LIMIT))
+        self.worker = AsyncWorker(hang, self.play(f"AT 0; {A}; {LAST}").port)
+        self.assert_logged("the handler of job a", lambda: asyncio.run(self.worker.run()))
