@@ -27,8 +27,10 @@ class ProducerCase(ScriptedTest):
     def produce(self, *sessions, **options):
         """A producer of these sessions, each of which begins with the greeting."""
         self.server = self.play(*[it if it[:4] == "AT 0" else f"AT 0; {it}" for it in sessions])
-        options = {"patience": PATIENCE, "pauses": Pauses(first=0.01, longest=0.02), **options}
-        return self.enterContext(closing(self.kind(self.server.port, **options)))
+        return self.produce_at(self.server.port, **options)
+
+    def produce_at(self, address, patience=PATIENCE, pauses=Pauses(first=0.01, longest=0.02), **options):
+        return self.enterContext(closing(self.kind(address, patience=patience, pauses=pauses, **options)))
 
     def assert_session_ends(self):
         self.assertTrue(self.server.ended.acquire(timeout=PATIENCE))
@@ -149,8 +151,8 @@ class ThreadsTest(ProducerCase):
             told[payload] = offer(producer, payload).id
 
         sent = "; ".join(f"OFFER 5 {it} > sees {it}: nothing" for it in "abc")
-        producer = self.produce(f"{sent}; OFFER 5 d > OFFERED 0 5, OFFERED 1 5, OFFERED 2 5, OFFERED 3 5; {OFFER} > "
-                                "OFFERED 4 5")
+        replies = ", ".join(f"OFFERED {id} 5" for id in range(4))
+        producer = self.produce(f"{sent}; OFFER 5 d > {replies}; {OFFER} > OFFERED 4 5")
         in_threads(*[functools.partial(offer_behind, *it) for it in zip("abcd", (None, *"abc"))])
         self.assertEqual((told, offer(producer)), ({"a": 0, "b": 1, "c": 2, "d": 3}, Offered(4, 5)))
 

@@ -4,7 +4,6 @@ import socket
 import threading
 import time
 import unittest
-from contextlib import closing
 from unittest.mock import Mock, patch
 
 from from_threads import for_both_kinds
@@ -47,20 +46,17 @@ class AddressesTest(unittest.TestCase):
 
 @for_both_kinds
 class WorkerTest(WorkerCase):
-    def work_at(self, *ports, **options):
-        return self.make(self.handle, at(*ports), pauses=LONG, **options)
-
     def test_one_that_refuses_or_does_not_serve_or_serves_no_more_is_followed_by_the_next_without_a_pause(self):
         full = f"AT 0; {A}; WAIT > ERR 6 full; QUIT"
         for first in ([], ["> hangs up"], ["AT 0 > hangs up"], [f"AT 0; {A}; > hangs up"], [full]):
             with self.subTest(first=first):
                 port = self.play(*first).port if first else free_port()
-                worker = self.work_at(port, self.play(f"AT 0; {A}; {LAST}").port)
+                worker = self.make(self.handle, at(port, self.play(f"AT 0; {A}; {LAST}").port), pauses=LONG)
                 self.assertEqual(worker.run(), Report(done=1 + (A in first[0] if first else 0)))
 
     def test_it_comes_back_to_the_first_after_the_last(self):
         first, second = self.play(f"AT 0; {A}; > hangs up", f"AT 0; {A}; {LAST}"), self.play(f"AT 0; {A}; > hangs up")
-        self.assertEqual(self.work_at(first.port, second.port).run(), Report(done=3))
+        self.assertEqual(self.make(self.handle, at(first.port, second.port), pauses=LONG).run(), Report(done=3))
 
     def test_a_pause_follows_each_round_in_which_none_serves_and_no_other_try(self):
         tried = []
@@ -91,7 +87,7 @@ class WorkerTest(WorkerCase):
     def test_a_log_names_the_one_that_it_is_about(self):
         away, server = free_port(), self.play(f"AT 0; {A}; {LAST}")
         with self.logged(logging.INFO) as said:
-            self.work_at(away, server.port).run()
+            self.make(self.handle, at(away, server.port), pauses=LONG).run()
         self.assertRegex("\n".join(said.output), f"(?s)no server at {at(away)}: .*served again at {at(server.port)}$")
 
 
@@ -115,31 +111,29 @@ class EndingTest(ConcurrencyCase):
 
 @for_both_kinds
 class ProducerTest(ProducerCase):
-    def produce(self, *servers, **options):
-        return self.enterContext(closing(self.kind(at(*servers), **{"patience": PATIENCE, "pauses": LONG, **options})))
-
     def test_an_offer_behind_the_end_of_a_session_goes_to_the_next(self):
         first = self.play("AT 0; OFFER 5 a > OFFERED 0 5; > hangs up")
         second = self.play("AT 0; OFFER 5 a > OFFERED 1 5")
-        producer = self.produce(free_port(), first.port, second.port)
+        producer = self.produce_at(at(free_port(), first.port, second.port), pauses=LONG)
         self.assertEqual(offer(producer), Offered(0, 5))
         self.assertTrue(first.ended.acquire(timeout=PATIENCE))
         self.assertEqual(offer(producer), Offered(1, 5))
 
     def test_an_offer_in_doubt_is_not_repeated(self):
         first, second = self.play("AT 0; OFFER 5 a > hangs up"), self.play("AT 0; OFFER 5 b > OFFERED 1 5")
-        producer = self.produce(first.port, second.port)
+        producer = self.produce_at(at(first.port, second.port), pauses=LONG)
         self.assertRaises(InDoubtError, offer, producer)
         self.assertEqual(offer(producer, "b"), Offered(1, 5))
 
     def test_one_that_does_not_answer_leaves_the_next_its_time(self):
         silent, second = self.play("AT 0 > nothing"), self.play("AT 0; OFFER 5 a > OFFERED 1 5")
-        began = time.monotonic()
-        self.assertEqual(offer(self.produce(silent.port, second.port, patience=2)), Offered(1, 5))
+        producer, began = self.produce_at(at(silent.port, second.port), patience=2, pauses=LONG), time.monotonic()
+        self.assertEqual(offer(producer), Offered(1, 5))
         self.assertGreater(time.monotonic() - began, 0.9)
 
     def test_none_is_there(self):
-        self.assertRaises(NotOfferedError, offer, self.produce(free_port(), free_port(), patience=0.5))
+        producer = self.produce_at(at(free_port(), free_port()), patience=0.5, pauses=LONG)
+        self.assertRaises(NotOfferedError, offer, producer)
 
 
 class OthersTest(ScriptedTest):
