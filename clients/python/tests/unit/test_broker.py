@@ -146,21 +146,15 @@ class RecordTest(BrokerCase):
         return lines
 
     def test_moments_lie_around_what_they_tell(self):
-        asked, replied = [], []
-
-        def answer(_):
-            asked.append(time.monotonic_ns())
-            time.sleep(0.05)
-            replied.append(time.monotonic_ns())
-            return "SIZE 0"
-
-        broker = self.connect([("SIZE", answer)] * 2, record=self.file)
+        moments = []
+        self.notes = lambda *_: moments.append(time.monotonic_ns())
+        broker = self.connect(["SIZE > notes: late 0.05: notes: SIZE 0"] * 2, record=self.file)
         for _ in range(2):
-            began = time.monotonic_ns()
+            self.notes()
             broker.size()
-            ended = time.monotonic_ns()
-            line = self.lines()[-1]
-            self.assertTrue(began <= line["sent"] <= asked[-1] < replied[-1] <= line["received"] <= ended, line)
+            self.notes()
+            (began, asked, replied, ended), line = moments[-4:], self.lines()[-1]
+            self.assertTrue(began <= line["sent"] <= asked < replied <= line["received"] <= ended, line)
 
     def test_requests_and_replies_as_they_came(self):
         broker = self.connect("OFFER 0 a > OFFERED 0 5; DRAIN 9 > DRAINED 2, ITEM 0 5 1 a, ITEM 1 6 1 b; "

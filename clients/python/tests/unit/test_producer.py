@@ -127,15 +127,12 @@ class SessionTest(ProducerCase):
         self.assertEqual(status_of(fork(offer_there)), 7)
 
     def test_a_process_that_is_forked_while_another_thread_offers(self):
-        is_asked, may_answer, told = threading.Event(), threading.Event(), []
-        self.goes_on = lambda _: is_asked.set() or may_answer.wait(PATIENCE)
-        for steps in (f"AT 0 > goes_on: ERR 1 syntax; {FIRST}", f"{OFFER} > goes_on: OFFERED 0 5"):
+        meet = threading.Barrier(2, timeout=PATIENCE).wait  # when it is asked, and again when it may answer
+        self.meets_twice = lambda _: (meet(), meet())
+        for steps in (f"AT 0 > meets_twice: ERR 1 syntax; {FIRST}", f"{OFFER} > meets_twice: OFFERED 0 5"):
             producer = self.produce(steps)
-            in_threads(lambda: told.append(offer(producer)), lambda: self.assertTrue(is_asked.wait(PATIENCE)) or
-                            self.offer_in_fork(producer) or may_answer.set())
-            self.assertEqual(told.pop(), Offered(0, 5))
-            is_asked.clear()
-            may_answer.clear()
+            in_threads(lambda: self.assertEqual(offer(producer), Offered(0, 5)),
+                       lambda: (meet(), self.offer_in_fork(producer), meet()))
 
 
 @for_both_kinds
