@@ -62,8 +62,7 @@ class ScriptedServer:
                     return
                 if reply != "nothing":
                     connection.sendall(reply if isinstance(reply, bytes) else f"{reply}\n".encode())
-            rest = lines.read()
-            if rest:
+            if rest := lines.read():
                 self.faults.append(f"{rest!r} came after the last step")
 
 

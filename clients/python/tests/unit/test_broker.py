@@ -17,9 +17,6 @@ from rb_broker_client import (
 )
 from rb_broker_client.answers import EndedError
 
-DRAINED_LATE = "DRAIN 2 > DRAINED 2, ITEM 0 0 1 a; SIZE > late 0.3: ITEM 1 0 1 b, SIZE 0"
-
-
 class BrokerCase(ScriptedTest):
     kind = Broker
 
@@ -36,7 +33,8 @@ class BrokerTest(BrokerCase):
         self.assertEqual(broker.ask_all([]), [])
 
     def test_a_drain_whose_lines_come_late(self):
-        answers = self.connect(DRAINED_LATE).ask_all([Request.drain(2), Request.size()])
+        broker = self.connect("DRAIN 2 > DRAINED 2, ITEM 0 0 1 a; SIZE > late 0.3: ITEM 1 0 1 b, SIZE 0")
+        answers = broker.ask_all([Request.drain(2), Request.size()])
         self.assertEqual(answers, [[Job(0, 0, 1, "a"), Job(1, 0, 1, "b")], 0])
 
     def test_nothing_can_be_asked_while_a_reply_is_late(self):
@@ -167,8 +165,7 @@ class RecordTest(BrokerCase):
             ([("SIZE", b"\xffHELLO\n")], 1, UnknownReplyError),
         ):
             broker = self.connect(steps, record=self.file)
-            requests = [Request.size(), Request.take(), Request.quit()][:count]
-            self.assertRaises(fault, broker.ask_all, requests)
+            self.assertRaises(fault, broker.ask_all, [Request.size(), Request.take(), Request.quit()][:count])
             broker.close()
         lines = self.lines()
         self.assertEqual([(it["request"], it["reply"]) for it in lines], [

@@ -9,18 +9,12 @@ from scripted import ScriptedTest, free_port, table
 from rb_broker_client.__main__ import _delay, main
 from rb_broker_client.durations import nanoseconds
 
-handled = []
-
-
 def handle(job):
-    """A handler that the tests name. It fails for the payload `b`."""
-    handled.append(job)
-    if job.payload == "b":
-        raise ValueError("the payload is b")
+    """A handler that the tests name, and that never runs."""
 
 
 async def handle_async(job):
-    handle(job)
+    """The same for a worker of asyncio."""
 
 
 def run(*words, lines=""):

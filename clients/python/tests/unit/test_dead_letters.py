@@ -36,8 +36,7 @@ class KeptTest(FileCase, WorkerCase):
 
     def test_a_queue_of_its_own(self):
         with Producer(self.play(KEEPS_B).port, patience=PATIENCE) as producer:
-            options = {"on_dead": lambda job: producer.offer(job.payload)}
-            self.assert_reports(Report(dead=1), f"{BAD}; {LAST}", **options)
+            self.assert_reports(Report(dead=1), f"{BAD}; {LAST}", on_dead=lambda job: producer.offer(job.payload))
 
     def test_several_threads_have_one_file(self):
         keep = lambda number: self.keep(*[f"{number}-{it}" for it in range(50)])

@@ -66,8 +66,7 @@ class ProducerTest(ProducerCase):
     def test_after_its_end_a_producer_offers_nothing(self):
         for sessions in ((), (FIRST,)):
             producer = self.produce(*sessions)
-            for _ in sessions:
-                offer(producer)
+            self.assertEqual([offer(producer) for _ in sessions], [Offered(0, 5)] * len(sessions))
             producer.close()
             self.assertRaisesRegex(RuntimeError, "^the producer is closed$", offer, producer)
 
@@ -111,7 +110,7 @@ class SessionTest(ProducerCase):
 
     def test_a_forked_process_has_a_session_of_its_own(self):
         producer = self.produce(f"{FIRST}; {SECOND}")
-        offer(producer)
+        self.assertEqual(offer(producer), Offered(0, 5))
         self.offer_in_fork(producer)
         self.assertEqual(offer(producer), Offered(1, 5))
 
@@ -189,17 +188,12 @@ class ThreadsTest(ProducerCase):
         self.assertEqual(offer(producer, "c"), Offered(2, 5))
 
     def test_beside_one_that_has_given_up_another_goes_on_reading(self):
-        self.offer_beside([f"{OFFER} > goes_on: nothing; OFFER 5 b > nothing; OFFER 5 c > late 0.2: OFFERED 0 5; "
-                           "> late 0.2: OFFERED 1 5, OFFERED 2 5"], InDoubtError, "^OFFER 5 b was accepted or not: ",
-                          behind="c")
+        steps = (f"{OFFER} > goes_on: nothing; OFFER 5 b > nothing; OFFER 5 c > late 0.2: OFFERED 0 5; "
+                 "> late 0.2: OFFERED 1 5, OFFERED 2 5")
+        self.offer_beside([steps], InDoubtError, "^OFFER 5 b was accepted or not: ", behind="c")
 
     def test_all_that_wait_are_in_doubt_once_the_session_is_lost(self):
-        doubts = []
-
-        def be_in_doubt():
-            self.assertRaisesRegex(InDoubtError, f"^{OFFER} was accepted or not: ", offer, producer)
-            doubts.append(OFFER)
-
+        told = f"^{OFFER} was accepted or not: "
         producer = self.produce("; ".join([f"{OFFER} > nothing"] * 3 + [f"{OFFER} > hangs up"]), SECOND)
-        in_threads(*[be_in_doubt] * 4)
-        self.assertEqual((len(doubts), offer(producer)), (4, Offered(1, 5)))
+        in_threads(*[lambda: self.assertRaisesRegex(InDoubtError, told, offer, producer)] * 4)
+        self.assertEqual(offer(producer), Offered(1, 5))

@@ -55,10 +55,8 @@ class ReplyTest(unittest.TestCase):
             self.assertEqual(str(Request.poll_for(delay)), f"POLLFOR {told}")
 
     def test_what_is_no_duration(self):
-        for fault, delays in (
-            (ValueError, (-1, -0.5, float("nan"), float("inf"), timedelta(seconds=-1), 2**64, 18_446_744_074)),
-            (TypeError, ("5", None, [5])),
-        ):
+        numbers = (-1, -0.5, float("nan"), float("inf"), timedelta(seconds=-1), 2**64, 18_446_744_074)
+        for fault, delays in ((ValueError, numbers), (TypeError, ("5", None, [5]))):
             for delay in delays:
                 self.assertRaises(fault, Request.offer, "a", delay=delay)
                 self.assertRaises(fault, Request.poll_for, delay)

@@ -8,6 +8,8 @@ from test_producer import ProducerCase, offer
 from rb_broker_client import Greeting, InDoubtError, LostRun, NotOfferedError, Offered, Report, UnknownReplyError
 from rb_broker_client.run import Run
 
+GREETS = "AT 0 > RUN {} lost {} at {}, ERR 1 syntax"
+
 
 class RunTest(unittest.TestCase):
     def test_which_sights_tell(self):
@@ -31,9 +33,8 @@ class RunTest(unittest.TestCase):
             wait_for(lambda: heard and heard[-1] == greeting)
         run.given(5)
         run.given(5)
-        everything = LostRun(0, 2**64 - 1)
         wait_for(lambda: len(told) == 4)
-        self.assertEqual(told, [LostRun(20, 50), *[everything] * 3])
+        self.assertEqual(told, [LostRun(20, 50), *[LostRun(0, 2**64 - 1)] * 3])
         self.assertEqual(len(heard), 5)
 
     def test_what_was_seen_long_ago_is_forgotten(self):
@@ -46,16 +47,12 @@ class RunTest(unittest.TestCase):
         self.assertEqual(log.error.call_count, 1)
 
 
-GREETS = "AT 0 > RUN {} lost {} at {}, ERR 1 syntax"
-
-
 @for_both_kinds
 class ProducerTest(ProducerCase):
     def test_a_producer_whose_next_server_begins_anew(self):
         producer = self.produce("OFFER 5 a > OFFERED 0 5; OFFER 5 b > OFFERED 1 9; > hangs up",
                                 "OFFER 5 c > OFFERED 0 5; OFFER 5 d > OFFERED 1 6")
-        offer(producer, "a")
-        offer(producer, "b")
+        self.assertEqual([offer(producer, it).id for it in "ab"], [0, 1])
         self.assert_session_ends()
         with self.logged() as said:
             self.assertEqual([offer(producer, it).id for it in "cd"], [0, 1])

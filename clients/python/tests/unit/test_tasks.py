@@ -83,10 +83,9 @@ class TasksTest(ScriptedTest):
         one = self.app.task(name="one")(lambda number: None)
         for it in (lambda: one.later(0), lambda: one.later(0, object()), lambda: self.app.task()(lambda key: None)):
             self.assertRaises(TypeError, it)
-        without_zone = datetime(2030, 1, 1)
         for it in ("soon", "999999999d"):
             self.assertRaises(ValueError, one.later, it, 1)
-        self.assertRaises(ValueError, one.at, without_zone, 1)
+        self.assertRaises(ValueError, one.at, datetime(2030, 1, 1), 1)  # which has no zone
         self.assertRaises(ValueError, self.app.task(name="one"), run)
         self.assertEqual(self.moments(self.app._store)(60).overdue(60), [])
 
@@ -100,8 +99,7 @@ class TasksTest(ScriptedTest):
         after(9).beat("this", id)
         self.assertEqual(after(18).overdue(60), [])
         self.assertEqual([it.id for it in after(20).overdue(60)], [id])
-        done = after(20).claim(id, 1, "other")
-        after(20).done(done)
+        after(20).done(after(20).claim(id, 1, "other"))
         self.assertIsNone(after(20).claim(id, 1, "this"))
 
     def test_a_moment_is_read_once_the_file_can_be_written(self):
@@ -120,25 +118,21 @@ class TasksTest(ScriptedTest):
     def test_a_function_that_is_not_known_and_a_task_of_another_file_are_left_for_others(self):
         with self.app.testing() as moments:
             self.note.later(0, 17)
-            self.app._tasks.clear()
-            self.passes(moments, (5, 0))
-            self.app._tasks["note"] = self.note
+            with patch.dict(self.app._tasks, clear=True):
+                self.passes(moments, (5, 0))
             self.passes(moments, (10, 1))
             self.assertRaises(LookupError, self.app._claim, Job(0, 0, 1, "00000000.0000.1"))
 
     def test_after_a_lost_run_what_is_not_known_to_wait_is_offered_again(self):
         """Each task is named by the run that it was offered in, or is done, dead or runs."""
         store, ids = self.app._store, {}
-        after = self.moments(store)
+        after, ends = self.moments(store), {"done": store.done, "dead": partial(store.bury, error=""), "runs": Mock()}
         for name, run in {"7": 7, "8": 8, "done": 8, "runs": 8, "dead": 8, "none": None, "9": 9}.items():
             task = after(0).add("note", "[]", name, time.time())
             ids[task.id] = name
             store.sent(task, run and Greeting(run, 4 + (run > 8), 0))
-            claimed = store.claim(task.id, 1, "other") if name in ("done", "runs", "dead") else None
-            if name == "done":
-                store.done(claimed)
-            elif name == "dead":
-                store.bury(claimed, "")
+            if name in ends:
+                ends[name](store.claim(task.id, 1, "other"))
         self.assertEqual({ids[it.id] for it in store.overdue(60)}, {"8", "none"})
         late = store.add("note", "[]", None, time.time())
         store.sent(late, Greeting(8, 4, 0))  # which was lost before it was known to be accepted
@@ -213,18 +207,14 @@ class TasksTest(ScriptedTest):
 
         @contextlib.contextmanager
         def start(name, attributes):
-            fault = None
             try:
                 yield
-            except Exception as raised:
-                fault = str(raised)
-                raise
             finally:
-                spans.append((name, attributes["task.attempt"], fault))
+                spans.append((name, attributes["task.attempt"], str(sys.exc_info()[1])))
 
         self.run_with(EXAMPLES["Spans"](Mock(spec=["start_as_current_span"], start_as_current_span=start)))
-        self.assertEqual(sorted(spans, key=str), [
-            ("<lambda>", 1, None), ("fails", 1, "once"), ("fails", 2, None), ("waits", 1, None)])
+        self.assertEqual(sorted(spans), [
+            ("<lambda>", 1, "None"), ("fails", 1, "once"), ("fails", 2, "None"), ("waits", 1, "None")])
 
     def test_four_tasks_that_hang_are_ended_with_their_processes_and_stop_nobody(self):
         """The processes take their tasks out of the file: there is no server."""
@@ -233,10 +223,9 @@ class TasksTest(ScriptedTest):
         touches = self.app.task(name="touch")(lambda name: open(f"{self.path}.{name}", "w").close())
         for it in (*[hang] * 4, dies):
             it.later(0)
-        names = [str(it) for it in range(8)]
-        for it in names:
-            touches.later(0, it)
-        is_done = lambda: len(self.app.dead()) == 5 and all(os.path.exists(f"{self.path}.{it}") for it in names)
+        for number in range(8):
+            touches.later(0, number)
+        is_done = lambda: len(self.app.dead()) == 5 and all(os.path.exists(f"{self.path}.{it}") for it in range(8))
         stop = lambda: (wait_for(is_done), self.app.stop())
         with patch.object(self.app, "_run", self.run_from_file), patch.multiple(task_store, AT_ONCE=1, UNSENT=0):
             threading.Thread(target=stop, daemon=True).start()
@@ -281,16 +270,14 @@ class TasksTest(ScriptedTest):
     def test_who_keeps_tasks_goes_on_when_the_file_can_not_be_used(self):
         full = sqlite3.OperationalError("database or disk is full")
         text = "ERROR:rb_broker_client.tasks:the file of tasks can't be used now"
-        for name, keep, is_over in (("beat", self.app._keep_alive, [False, False, True]),
-                                    ("overdue", self.app._keep_offered, [False, True])):
+        look_after = partial(Processes(self.app, 1, 1)._look_after, Mock(process=Mock(exitcode=None)))
+        for name, keep, is_over, count in (("beat", self.app._keep_alive, [False, False, True], 2),
+                                           ("overdue", self.app._keep_offered, [False, True], 2),
+                                           ("running", look_after, [], 1)):
             with patch.object(self.app._is_over, "wait", side_effect=is_over), \
                     patch.object(self.app._store, name, side_effect=full), self.logged() as said:
                 keep()
-            self.assertEqual([it.splitlines()[0] for it in said.output], [text] * 2)
-        child = Mock(process=Mock(exitcode=None))
-        with patch.object(self.app._store, "running", side_effect=full), self.logged() as said:
-            Processes(self.app, 1, 1)._look_after(child)
-        self.assertEqual([it.splitlines()[0] for it in said.output], [text])
+            self.assertEqual([it.splitlines()[0] for it in said.output], [text] * count)
 
     def test_a_task_that_no_broker_takes_holds_up_no_other(self):
         for number in range(3):

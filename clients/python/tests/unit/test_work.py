@@ -30,11 +30,9 @@ class WorkTest(ScriptedTest):
         """Begins a session, which is served at once."""
         known = Run(logging.getLogger("rb_broker_client.worker"), "a place")
         self.report, self.concurrency, self.running, self.is_stopping = Report(), concurrency, 0, True
-        self.dead = []
-        session = Mock(greeting=Greeting(run, 0, 0) if run else None)
-        pauses = Pauses(first, longest)
-        self.work = Work(session, Servers(7011), 1.0, self.report, pauses, known, self.dead.append, attempts)
-        self.due, self.jobs = deque(), {}
+        self.due, self.jobs, self.dead = deque(), {}, []
+        self.work = Work(Mock(greeting=Greeting(run, 0, 0) if run else None), Servers(7011), 1.0, self.report,
+                         Pauses(first, longest), known, self.dead.append, attempts)
         self.asks("AT 0")
         self.asks("")
         self.answers("ERR 1 syntax")

@@ -79,11 +79,8 @@ class HandlerTest(WorkerCase):
         self.assertRaises(KeyboardInterrupt, self.work("WAIT > ITEM 0 0 1 a", handler=interrupt).run)
 
     def test_a_coroutine_function_is_refused(self):
-        async def deliver(job):
-            pass
-
-        self.assertRaisesRegex(TypeError, "deliver", Worker, deliver, 7011)
-        self.assertRaisesRegex(TypeError, "deliver", Worker, self.handle, 7011, on_dead=deliver)
+        self.assertRaisesRegex(TypeError, "sleep", Worker, asyncio.sleep, 7011)
+        self.assertRaisesRegex(TypeError, "sleep", Worker, self.handle, 7011, on_dead=asyncio.sleep)
 
     def test_a_generator_is_refused(self):
         def yields(job):
