@@ -3,6 +3,7 @@ import asyncio
 import subprocess
 import sys
 import threading
+from unittest.mock import patch
 
 from common.program import TOP, tested_program
 from history import History
@@ -21,17 +22,12 @@ class ServedTest(ServingTest):
     def setUp(self):
         super().setUp()
         self.faults = []  # of threads
+        self.enterContext(patch("threading.excepthook", lambda fault: self.faults.append(fault.exc_value)))
         self.addCleanup(lambda: self.assertEqual(self.faults, []))
 
     def begin(self, run):
         """Runs this in a thread of its own, for whose end the test waits, and which must raise nothing."""
-        def run_it():
-            try:
-                run()
-            except Exception as fault:
-                self.faults.append(fault)
-
-        thread = threading.Thread(target=run_it, daemon=True)
+        thread = threading.Thread(target=run, daemon=True)
         thread.start()
         self.addCleanup(thread.join, PATIENCE)
         return thread
