@@ -21,7 +21,7 @@ class ServedTest(ServingTest):
 
     def setUp(self):
         super().setUp()
-        self.faults = []  # of threads
+        self.threads, self.faults = {}, []  # threads by their workers, and what any thread raised
         self.enterContext(patch("threading.excepthook", lambda fault: self.faults.append(fault.exc_value)))
         self.addCleanup(lambda: self.assertEqual(self.faults, []))
 
@@ -33,17 +33,17 @@ class ServedTest(ServingTest):
         return thread
 
     def begin_worker(self, worker):
-        """Runs a worker of either kind in a thread of its own, until it is stopped."""
+        """Runs a worker of either kind in a thread of its own, until it is stopped. Gives the worker."""
         is_async = isinstance(worker, AsyncWorker)
-        thread = self.begin(lambda: asyncio.run(worker.run()) if is_async else worker.run())
+        self.threads[worker] = self.begin(lambda: asyncio.run(worker.run()) if is_async else worker.run())
         self.addCleanup(worker.stop)
-        return thread
+        return worker
 
-    def assert_stops(self, worker, thread, report):
+    def assert_stops(self, worker, report):
         """The worker ends when it is asked to, and makes this report."""
         worker.stop()
-        thread.join(PATIENCE)
-        self.assertEqual((thread.is_alive(), worker.report), (False, report))
+        self.threads[worker].join(PATIENCE)
+        self.assertEqual((self.threads[worker].is_alive(), worker.report), (False, report))
 
     def offer(self, server, *payloads, delay=0):
         """Offers a job of each payload, in one piece. Their ids rise."""
@@ -127,7 +127,7 @@ class Crew:
         options = {"pauses": Pauses(first=0.05, longest=0.2), **options}
         self.workers = [AsyncWorker(self._handle_async, server.port, **options) if it % 2 else
                         Worker(self._handle, server.port, **options) for it in range(count)]
-        self._threads = [*map(test.begin_worker, self.workers)]
+        self._threads = [test.threads[test.begin_worker(it)] for it in self.workers]
         test.addCleanup(self.stop)
 
     def stop(self):

@@ -1,11 +1,10 @@
 """Thousands of jobs, of which some fail, and several workers; and workers that run many jobs over one session."""
-import asyncio
 import json
 import threading
 import time
 from contextlib import closing
 
-from from_threads import in_thread
+from from_threads import for_both_kinds, in_thread
 from scripted import in_threads
 from rb_broker_client import AsyncWorker, Broker, Producer, Report, Worker
 from rb_broker_formats.protocol import MOST_HELD
@@ -68,12 +67,11 @@ class FarTest(ServedTest):
             server, proxy = self.far("--sessions", 2)
             self.offer(server, *range(self.JOBS))
             with open(self.path(kind.__name__), "a", encoding="ascii") as record:
-                options, began = {"concurrency": self.PLACES, "record": record}, time.monotonic()
-                worker = kind(handler, proxy.port, **options)
-                thread = self.begin_worker(worker)
+                began = time.monotonic()
+                worker = self.begin_worker(kind(handler, proxy.port, concurrency=self.PLACES, record=record))
                 self.wait_until(lambda: worker.report.done == self.JOBS)
                 self.assertLess(time.monotonic() - began, self.JOBS * self.ROUND_TRIP / 4)
-                self.assert_stops(worker, thread, Report(done=self.JOBS))
+                self.assert_stops(worker, Report(done=self.JOBS))
             self.assertEqual(self.most_held(self.path(kind.__name__)), self.PLACES)
 
     def test_offers_of_threads_that_share_a_producer_go_out_together(self):
@@ -97,27 +95,21 @@ class FarTest(ServedTest):
         return most
 
 
+@for_both_kinds
 class ConcurrentJobsTest(ServedTest):
+    kind = Worker
+
     def test_as_many_run_as_a_session_holds_and_no_more(self):
         """The others are left in the queue."""
-        may_end = threading.Event()
-
-        async def wait(job):
-            while not may_end.is_set():
-                await asyncio.sleep(0.05)
-
-        for kind, handler in ((Worker, lambda job: may_end.wait(PATIENCE)), (AsyncWorker, wait)):
-            may_end.clear()
-            server = self.serve("--sessions", 3)
-            self.offer(server, *range(2 * MOST_HELD))
-            worker = kind(handler, server.port, concurrency=MOST_HELD)
-            thread = self.begin_worker(worker)
-            with Broker(server.port, patience=PATIENCE) as broker:
-                self.wait_until(lambda: broker.size() == MOST_HELD)
-                time.sleep(0.5)
-                self.assertEqual(broker.size(), MOST_HELD)
-                broker.quit()
-            may_end.set()
-            self.wait_until(lambda: worker.report.done == 2 * MOST_HELD)
-            self.assert_stops(worker, thread, Report(done=2 * MOST_HELD))
-            self.assert_ends(server, 3)
+        server, may_end = self.serve("--sessions", 3), threading.Event()
+        self.offer(server, *range(2 * MOST_HELD))
+        worker = self.begin_worker(self.kind(lambda job: may_end.wait(PATIENCE), server.port, concurrency=MOST_HELD))
+        with Broker(server.port, patience=PATIENCE) as broker:
+            self.wait_until(lambda: broker.size() == MOST_HELD)
+            time.sleep(0.5)
+            self.assertEqual(broker.size(), MOST_HELD)
+            broker.quit()
+        may_end.set()
+        self.wait_until(lambda: worker.report.done == 2 * MOST_HELD)
+        self.assert_stops(worker, Report(done=2 * MOST_HELD))
+        self.assert_ends(server, 3)

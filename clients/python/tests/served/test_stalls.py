@@ -2,17 +2,20 @@
 import threading
 import time
 
-from from_threads import in_thread
+from from_threads import for_both_kinds
 from history import History
-from rb_broker_client import AsyncWorker, Broker, Producer, Report, Worker
+from rb_broker_client import Broker, Producer, Report, Worker
 from server import PATIENCE, Crew, ServedTest
 
 QUICK = 40  # jobs that come while one hangs
 PAUSE = 0.1  # seconds between two of them
 
 
+@for_both_kinds
 class HangTest(ServedTest):
     """A worker one of whose handlers hangs."""
+
+    kind = Worker
 
     def setUp(self):
         super().setUp()
@@ -23,41 +26,32 @@ class HangTest(ServedTest):
             self.may_end.wait(10 * PATIENCE)
         self.done.append(job.payload)
 
-    def work(self, server, kind, **options):
-        """A worker of this kind, and the thread that runs it."""
-        handler = self.handle if kind is Worker else in_thread(self.handle)
-        worker = kind(handler, server.port, concurrency=16, **options)
-        return worker, self.begin_worker(worker)
-
-    def offer_slowly(self, server):
-        """Offers a job that hangs, and others behind it."""
+    def work(self, server, **options):
+        """A worker that runs, when it was slowly offered a job that hangs, and others behind it."""
+        worker = self.begin_worker(self.kind(self.handle, server.port, concurrency=16, **options))
         with Producer(server.port) as producer:
             for payload in ("hangs", *map(str, range(QUICK))):
                 producer.offer(payload)
                 time.sleep(PAUSE)
+        return worker
 
     def test_jobs_go_on_being_fetched(self):
-        for kind in (Worker, AsyncWorker):
-            self.done.clear()
-            self.may_end.clear()
-            server = self.serve("--workers", 4, "--sessions", 2)
-            worker, thread = self.work(server, kind)
-            self.offer_slowly(server)
-            self.wait_until(lambda: len(self.done) == QUICK, 2 * PATIENCE)
-            self.assertNotIn("hangs", self.done)
-            self.may_end.set()
-            self.assert_stops(worker, thread, Report(done=QUICK + 1))
-            self.assert_ends(server, 2)
+        server = self.serve("--workers", 4, "--sessions", 2)
+        worker = self.work(server)
+        self.wait_until(lambda: len(self.done) == QUICK, 2 * PATIENCE)
+        self.assertNotIn("hangs", self.done)
+        self.may_end.set()
+        self.assert_stops(worker, Report(done=QUICK + 1))
+        self.assert_ends(server, 2)
 
     def test_a_job_that_takes_too_long_fails_and_is_given_again(self):
         server = self.serve("--workers", 4, "--sessions", 100, "--attempts", 2)
         dead = []
-        worker, thread = self.work(server, Worker, timeout=0.5, on_dead=dead.append)
-        self.offer_slowly(server)
+        worker = self.work(server, timeout=0.5, on_dead=dead.append)
         self.wait_until(lambda: len(self.done) == QUICK and dead)
         self.assertEqual([(it.payload, it.attempt) for it in dead], [("hangs", 2)])
         self.may_end.set()
-        self.assert_stops(worker, thread, Report(done=QUICK, again=1, dead=1))
+        self.assert_stops(worker, Report(done=QUICK, again=1, dead=1))
 
 
 class CrowdTest(ServedTest):

@@ -112,9 +112,9 @@ class TlsTest(ServedTest):
     def test_a_worker_logs_why_and_tries_again(self):
         worker = Worker(lambda job: None, self.protect("expired").port, tls=self.certificates.client())
         with self.assertLogs("rb_broker_client", logging.DEBUG) as said:
-            thread = self.begin_worker(worker)
+            self.begin_worker(worker)
             self.wait_until(lambda: len(said.records) > 2)
-            self.assert_stops(worker, thread, Report())
+            self.assert_stops(worker, Report())
         levels, texts = zip(*((it.levelno, it.getMessage()) for it in said.records))
         self.assertEqual(levels, (logging.WARNING, *[logging.DEBUG] * (len(texts) - 1)))
         for it in texts:
