@@ -79,9 +79,8 @@ class HostileDayTest(ServedTest):
 
     def setUp(self):
         super().setUp()
-        self.histories, self.records, self.killed = [], [], []
-        self.workers, self.offered, self.doubted, self.lost = [], [], [], 0
-        self.is_over = threading.Event()
+        self.records, self.workers, self.killed, self.offered, self.doubted = [], [], [], [], []
+        self.lost, self.is_over = 0, threading.Event()
 
     def test_each_job_is_done_once_or_named(self):
         began = time.monotonic()
@@ -115,15 +114,12 @@ class HostileDayTest(ServedTest):
 
     def serve_next(self, calls):
         """Starts the first server or the next, with room for this many calls."""
-        opening = ["--from", self.histories[-1]] if self.histories else []
-        self.histories.append(f"{self.room}/history-{len(self.histories)}")
-        self.server = self.serve("--workers", 16, "--sessions", 10_000, "--calls", calls, "--turns", 50, *POLICY,
-                                 *opening, "--history", self.histories[-1], "--until-input-ends",
-                                 port=self.server.port if opening else None)
+        port = self.server.port if self.histories else None
+        self.server = self.continue_run("--workers", 16, "--calls", calls, "--turns", 50, *POLICY, port=port)
 
     def end(self):
         """Ends the server, while clients go on."""
-        lines = self.assert_drained(self.server, self.histories[-1], POLICY, lost="[0-9]+")
+        lines = self.assert_drained(self.server, POLICY, lost="[0-9]+")
         self.lost += int(lines[0].split(" ")[-1])
 
     def change_servers(self):

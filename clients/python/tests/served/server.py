@@ -21,7 +21,7 @@ class ServedTest(ServingTest):
 
     def setUp(self):
         super().setUp()
-        self.threads, self.faults = {}, []  # threads by their workers, and what any thread raised
+        self.histories, self.threads, self.faults = [], {}, []  # threads by their workers, and what any thread raised
         self.enterContext(patch("threading.excepthook", lambda fault: self.faults.append(fault.exc_value)))
         self.addCleanup(lambda: self.assertEqual(self.faults, []))
 
@@ -44,6 +44,13 @@ class ServedTest(ServingTest):
         worker.stop()
         self.threads[worker].join(PATIENCE)
         self.assertEqual((self.threads[worker].is_alive(), worker.report), (False, report))
+
+    def continue_run(self, *options, port=None):
+        """A server that ends when it is told to, and continues the run of the one before, if there was one."""
+        opening = ["--from", self.histories[-1]] if self.histories else []
+        self.histories.append(self.path(f"history-{len(self.histories)}"))
+        return self.serve("--sessions", 10_000, "--until-input-ends", *options, *opening, "--history",
+                          self.histories[-1], port=port)
 
     def offer(self, server, *payloads, delay=0):
         """Offers a job of each payload, in one piece. Their ids rise."""
@@ -80,10 +87,11 @@ class ServedTest(ServingTest):
             self.assertEqual((ran.returncode, ran.stdout.strip(), ran.stderr), (0, lines[1], ""))
         return lines
 
-    def assert_drained(self, server, *history, lost="0"):
-        """The same of one that is told to end now. A client that was stopped before its first reply may be a fault."""
+    def assert_drained(self, server, policy, lost="0"):
+        """The same of the last one, which is told to end now, though no client is. A client that was stopped before its
+        first reply may be a fault."""
         server.drain()
-        return self.assert_ends(server, "[0-9]+", *history, faults="[0-9]+", lost=lost)
+        return self.assert_ends(server, "[0-9]+", self.histories[-1], policy, faults="[0-9]+", lost=lost)
 
     def assert_attempts(self, histories, handled, attempts):
         """The histories have these attempts of each payload, and each that was given was handled once, as offered."""

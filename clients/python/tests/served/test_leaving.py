@@ -16,35 +16,24 @@ def is_done(job):
 
 
 class LeavingTest(ServedTest):
-    def setUp(self):
-        super().setUp()
-        self.histories = []
-
     def serve_run(self, port=None, calls=100_000, greets=True):
         """The next server, which continues the run of the one before. It greets unless it is told not to."""
-        opening = ["--from", self.histories[-1]] if self.histories else []
-        self.histories.append(f"{self.room}/{len(self.histories)}")
-        opening += ["--greeting", f"RUN {len(self.histories)} lost 0 at {len(self.histories)}"] if greets else []
-        return self.serve("--workers", 6, "--sessions", 10_000, "--until-input-ends", "--calls", calls, *POLICY,
-                          *opening, "--history", self.histories[-1], port=port)
-
-    def assert_ends_well(self, server, **counts):
-        """The server ends when it is told to, though no client is."""
-        return self.assert_drained(server, self.histories[-1], POLICY, **counts)
+        number = len(self.histories) + 1
+        greeting = ["--greeting", f"RUN {number} lost 0 at {number}"] if greets else []
+        return self.continue_run("--workers", 6, "--calls", calls, *POLICY, *greeting, port=port)
 
     def test_jobs_are_done_through_servers_in_a_row(self):
         server = self.serve_run()
         crew = Crew(self, server, 3, is_done)
-        port = server.port
-        producing = self.begin(lambda: self.produce(port, JOBS, **OFFERING))
+        producing = self.begin(lambda: self.produce(server.port, JOBS, **OFFERING))  # which each of them has
         for number in range(1, SERVERS):
             self.wait_until(lambda: len(crew.done()) >= number * JOBS // (SERVERS + 1), 2 * PATIENCE)
-            self.assert_ends_well(server)
+            self.assert_drained(server, POLICY)
             server = self.serve_run(server.port)
         producing.join(PATIENCE)
         self.wait_until(lambda: len(crew.done()) >= JOBS, 2 * PATIENCE)
         self.assertEqual(crew.stop(), Report(done=JOBS, again=JOBS // 5))
-        self.assert_ends_well(server)
+        self.assert_drained(server, POLICY)
         self.assert_attempts(self.histories, crew.handled, {str(it): [1] if it % 5 else [1, 2] for it in range(JOBS)})
 
     def test_what_a_full_run_left_is_worked_off_in_the_next(self):
@@ -53,14 +42,14 @@ class LeavingTest(ServedTest):
         producing = self.begin(lambda: self.produce(first.port, JOBS, **OFFERING))
         with Broker(first.port, patience=PATIENCE) as broker:
             self.wait_until(lambda: isinstance(broker.ask_all([Request.size()])[0], FullError))
-        told = self.assert_ends_well(first, lost="[0-9]+")[0]
+        told = self.assert_drained(first, POLICY, lost="[0-9]+")[0]
         following = self.serve_run(first.port)
         producing.join(2 * PATIENCE)
         self.wait_until(lambda: len(crew.done()) + sum(it.report.lost for it in crew.workers) >= JOBS)
         report = crew.stop()
         self.assertEqual((report.done, report.unheard), (JOBS - report.lost, 0))
         self.assertRegex(told, f" lost {report.lost}$")
-        self.assert_ends_well(following)
+        self.assert_drained(following, POLICY)
         # Each job was offered once, though the server was replaced; each element that was given was handled once; and
         # each job that was not lost was done once.
         history = History(*self.histories)
@@ -81,7 +70,7 @@ class LeavingTest(ServedTest):
                 self.wait_until(lambda: {str(it) for it in numbers} <= {*crew.done()})
 
             offer(*range(1, 30))
-            self.assert_ends_well(server)
+            self.assert_drained(server, POLICY)
             server = self.serve_run(server.port, greets=False)
             offer(*range(30, 60))
             self.assertEqual(said.records, [])
