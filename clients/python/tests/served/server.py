@@ -1,5 +1,6 @@
 """What tests have that run clients against servers: the program, or the one that RB_BROKER_PROGRAM names."""
 import asyncio
+import signal
 import subprocess
 import sys
 import threading
@@ -113,12 +114,25 @@ class ServedTest(ServingTest):
         ran = subprocess.run([*map(str, words)], capture_output=True, encoding="ascii", timeout=2 * PATIENCE)
         return ran.returncode, ran.stdout, ran.stderr
 
+    def assert_done(self, server, *words):
+        """The command ends well. Gives what it wrote."""
+        status, said, errors = self.command(server.port, *words)
+        self.assertEqual((status, errors), (0, ""))
+        return said
+
     def start_worker(self, port, *words, **options):
         """Starts the command as a worker, which is gone at the end of the test."""
         words = [sys.executable, "-u", "-m", "rb_broker_client", "worker", *words, "--port", str(port)]
         worker = self.enterContext(started(words, **options))
         self.addCleanup(worker.kill)
         return worker
+
+    def assert_exits(self, worker, said, number=signal.SIGTERM):
+        """The command as a worker ends well once it has this signal, and writes this. Gives what it logged."""
+        worker.send_signal(number)
+        told, errors = worker.communicate(timeout=PATIENCE)
+        self.assertEqual((worker.returncode, told), (0, said))
+        return errors
 
     def wait_until(self, is_so, seconds=PATIENCE):
         """Waits for a condition that another thread brings about."""

@@ -36,19 +36,6 @@ class CommandTest(ServedTest):
     def start(self, server, *words, handler="handlers:deliver"):
         return self.start_worker(server.port, handler, *words, folder=self.room)
 
-    def assert_done(self, server, *words):
-        """The command ends well. Gives what it wrote."""
-        status, said, errors = self.command(server.port, *words)
-        self.assertEqual((status, errors), (0, ""))
-        return said
-
-    def assert_stops(self, worker, said, number=signal.SIGTERM):
-        """The worker ends well once it has this signal, and writes this. Gives what it logged."""
-        worker.send_signal(number)
-        told, errors = worker.communicate(timeout=PATIENCE)
-        self.assertEqual((worker.returncode, told), (0, said))
-        return errors
-
     def test_jobs_from_their_offers_to_their_ends(self):
         for functions in (("handlers:deliver", "handlers:keep"), ("handlers:deliver_async", "handlers:keep_async")):
             server = self.serve("--sessions", 6, "--workers", 2, "--attempts", 2)
@@ -60,7 +47,7 @@ class CommandTest(ServedTest):
             self.assert_done(server, "offer", "0", "bad")
             worker = self.start(server, "--on-dead", functions[1], "--concurrency", "4", handler=functions[0])
             self.assertEqual({worker.stdout.readline() for _ in range(2)}, {"letter 1\n", "dead bad 2\n"})
-            errors = self.assert_stops(worker, "done 1, again 1, dead 1, lost 0, unheard 0\n")
+            errors = self.assert_exits(worker, "done 1, again 1, dead 1, lost 0, unheard 0\n")
             self.assertIn("WARNING attempt 1 of job bad failed", errors)
             self.assert_ends(server, 6)
 
@@ -75,7 +62,7 @@ class CommandTest(ServedTest):
     def test_the_first_signal_finishes_the_job_in_hand(self):
         for number in (signal.SIGINT, signal.SIGTERM):
             server, worker = self.start_slow()
-            self.assert_stops(worker, "slow 1\ndone 1, again 0, dead 0, lost 0, unheard 0\n", number)
+            self.assert_exits(worker, "slow 1\ndone 1, again 0, dead 0, lost 0, unheard 0\n", number)
             self.assert_ends(server, 2)
 
     def test_the_second_signal_ends_it_at_once(self):
@@ -91,7 +78,7 @@ class CommandTest(ServedTest):
         killed.kill()
         worker = self.start(server)
         self.assertEqual([worker.stdout.readline() for _ in range(2)], ["slow has begun\n", "slow 2\n"])
-        self.assert_stops(worker, "done 1, again 0, dead 0, lost 0, unheard 0\n")
+        self.assert_exits(worker, "done 1, again 0, dead 0, lost 0, unheard 0\n")
         self.assert_ends(server, 3, self.path("history"))
         history = History(self.path("history"))
         self.assertEqual((history.attempts(), history.given), ({"slow": [1, 2]}, [0, 1]))
@@ -108,7 +95,7 @@ class CommandTest(ServedTest):
         following = self.serve("--sessions", 2, port=server.port)
         self.assert_done(following, "offer", 0, "second")
         self.assertEqual(worker.stdout.readline(), "second 1\n")
-        lost, again, run = self.assert_stops(worker, "done 2, again 0, dead 0, lost 0, unheard 0\n").splitlines()
+        lost, again, run = self.assert_exits(worker, "done 2, again 0, dead 0, lost 0, unheard 0\n").splitlines()
         place = f"127.0.0.1:{server.port}"
         self.assertRegex(lost, f" WARNING the session at {place} was lost: ")
         self.assertRegex(again, f" INFO served again at {place}$")

@@ -3,7 +3,6 @@ import asyncio
 import logging
 import re
 import shutil
-import signal
 import ssl
 import subprocess
 import tempfile
@@ -65,16 +64,12 @@ class TlsTest(ServedTest):
             broker.quit()
 
     def test_the_command(self):
-        port, words = self.protect().port, self.words()
-        worker = self.start_worker(port, "builtins:print", *words, stderr=subprocess.DEVNULL)
-        status, said, errors = self.command(port, "offer", 0, "letter", *words)
-        self.assertEqual((status, errors), (0, ""))
-        self.assertRegex(said, r"\AOFFERED 0 [0-9]+\n\Z")
+        proxy, words = self.protect(), self.words()
+        worker = self.start_worker(proxy.port, "builtins:print", *words, stderr=subprocess.DEVNULL)
+        self.assertRegex(self.assert_done(proxy, "offer", 0, "letter", *words), r"\AOFFERED 0 [0-9]+\n\Z")
         self.assertIn("letter", worker.stdout.readline())
-        worker.send_signal(signal.SIGTERM)
-        told = "done 1, again 0, dead 0, lost 0, unheard 0\n"
-        self.assertEqual((worker.communicate(timeout=PATIENCE)[0], worker.returncode), (told, 0))
-        status, _, errors = self.command(port, "size", *words[:-1], self.certificates.key("stranger"))
+        self.assert_exits(worker, "done 1, again 0, dead 0, lost 0, unheard 0\n")
+        status, _, errors = self.command(proxy.port, "size", *words[:-1], self.certificates.key("stranger"))
         self.assertEqual(status, 2)
         self.assertRegex(errors, "(?i)^rb_broker_client: --ca, --cert or --key can't be used: .*key values mismatch")
 
