@@ -7,7 +7,6 @@ the worker that had it was killed before it could know, or the full run took no 
 fault in what producers and workers recorded.
 """
 import asyncio
-import gzip
 import os
 import random
 import subprocess
@@ -15,7 +14,6 @@ import sys
 import threading
 import time
 from functools import partial
-from pathlib import Path
 
 from history import History
 from nuisance import Nuisance
@@ -23,6 +21,7 @@ from rb_broker_client import AsyncProducer, Broker, FullError, InDoubtError, Pau
 from records import ends_in
 from server import PATIENCE, ServedTest
 from serving.server import free_port, started
+from servicing.folder import history_in
 from servicing.tests.process import Service
 
 JOBS = int(os.environ.get("RB_BROKER_JOBS", 1_000))
@@ -245,10 +244,7 @@ class AtService:
     def end(self):
         self.assertEqual(self.server.stop(), 0)
         self.assertEqual([self.server.all(it) for it in ("lost-run", "lost-jobs")], [[], []])
-        for number in range(1, len(self.server.all("serving")) + 1):
-            path = Path(self.path("service"), f"run-{number}.txt")
-            text = path.read_bytes() if path.exists() else gzip.decompress(Path(f"{path}.gz").read_bytes())
-            self.histories.append(self.file(f"history-{number}", text.decode()))
+        self.histories = [history_in(self.path("service"), it) for it, _ in enumerate(self.server.all("serving"), 1)]
 
 
 class RolloverDayTest(AtService, HostileDayTest):

@@ -1,6 +1,7 @@
 """By the text of docs/HISTORY.md: which elements were offered and not taken back, and which were given."""
 from rb_broker_formats.acts import given_ids
 from rb_broker_formats.element import Element
+from rb_broker_formats.files import open_history
 
 
 class History:
@@ -10,8 +11,8 @@ class History:
         self.elements: dict[int, Element] = {}
         self.given: list[int] = []
         for path in paths:
-            with open(path, encoding="ascii") as it:
-                header, _, *lines = it.read().splitlines()
+            with open_history(path) as it:
+                header, _, *lines = it.read().decode("ascii").splitlines()
             if header != "history 3":
                 raise ValueError(f"{path} begins with {header!r}")
             for words in (it.split(" ") for it in lines[:-1]):
