@@ -41,16 +41,13 @@ def offer(first, end, pause):
     """Offers the tasks of these numbers, several at a time, with pauses of up to so many seconds."""
     numbers, in_order = iter(range(first, end)), threading.Lock()
 
-    def offer_some(_):
-        while True:
-            with in_order:
-                number = next(numbers, end)
-                if number == end:
-                    return
-                note("offers", "begins", number)
-            work.later(random.choice(DELAYS), number)
-            note("offers", "ends", number)
-            time.sleep(random.uniform(0, pause))
+    def offer_next(_):
+        with in_order:
+            number = next(numbers)
+            note("offers", "begins", number)
+        work.later(random.choice(DELAYS), number)
+        note("offers", "ends", number)
+        time.sleep(random.uniform(0, pause))
 
     with ThreadPoolExecutor(AT_ONCE) as threads:
-        list(threads.map(offer_some, range(AT_ONCE)))  # which raises what one has raised
+        list(threads.map(offer_next, range(first, end)))  # which raises what one has raised

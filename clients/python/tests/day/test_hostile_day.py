@@ -13,6 +13,7 @@ import subprocess
 import sys
 import threading
 import time
+from contextlib import suppress
 from functools import partial
 
 from history import History
@@ -179,11 +180,8 @@ class HostileDayTest(ServedTest):
     def size(self):
         """How many elements are in the queue, or None if the run is full. Takes its time, as each takes a session."""
         time.sleep(0.2)
-        with Broker(self.port, patience=PATIENCE) as broker:
-            try:
-                return broker.size()
-            except FullError:
-                return None
+        with suppress(FullError), Broker(self.port, patience=PATIENCE) as broker:
+            return broker.size()
 
     def wait_until(self, is_so, seconds=PATIENCE):
         """Waits for nothing once a worker has died by itself, or something has failed in a thread."""

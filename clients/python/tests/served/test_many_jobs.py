@@ -19,8 +19,7 @@ class ManyJobsTest(ServedTest):
     def assert_handled(self, count, needed, crew, **options):
         """Jobs of which each needs so many attempts are handled by workers until they are done or dead."""
         path, sessions = self.path("history"), crew + 1  # however long it takes
-        server = self.serve("--workers", crew + 1, "--sessions", sessions, "--calls", 1_000_000, *POLICY, "--history",
-                            path)
+        server = self.serve("--workers", sessions, "--sessions", sessions, "--calls", 10**6, *POLICY, "--history", path)
         crew = Crew(self, server, crew, lambda job: job.attempt == needed(int(job.payload)), **options)
         self.offer(server, *range(count))
         given = {it: min(needed(it), ATTEMPTS) for it in range(count)}
