@@ -82,7 +82,7 @@ class Settings:
     timer: str = _option(
         "how the next element is found", str, "heap", None, choices=["list", "heap", "pairing", "wheel"])
     every: int = _option(
-        "the longest that a run lasts, and so the most that a killed server loses, %(type)s", _span("1s", "30d"), "5m")
+        "after how long a run's end begins; a killed server loses its run, %(type)s", _span("1s", "30d"), "5m")
     stop_within: int = _option(
         "how long a run's end waits for clients that hold jobs, before it ends their sessions, %(type)s",
         _span("1s", "1h"), "60s")
