@@ -9,6 +9,7 @@ from typing import Sequence
 import pytest
 
 import attacking
+from checking import together
 from checking.parts import PARTS, packages_of
 from checking.testing import PATIENCE
 from common.program import TOP
@@ -88,6 +89,25 @@ def test_what_runs_behind_the_parts(tmp_path: Path) -> None:
         r": it is not proved as it stands:\nno proof\n.*\nattacks: FAILED with status 1, \d+ s: 0 refused, \d+ not\n" \
         r".*\n0 passed, 2 failed, in \d+\.\d minutes\n"
     assert (ran.returncode, ran.stderr) == (1, "") and re.fullmatch(told, ran.stdout), ran
+
+
+@pytest.mark.parametrize(("taken", "status", "told"), [
+    (0.04, 1, ["docs: FAILED with status 1, 2 s: 1 failed"]),
+    (0.06, 0, ["docs: FAILED with status 1 while the host took 6% of the processors, 2 s: 1 failed",
+               "docs: passed, 3 s: 48 passed"]),
+])
+def test_a_part_that_fails_without_some_of_the_processors(taken: float, status: int, told: list[str],
+                                                          monkeypatch: pytest.MonkeyPatch,
+                                                          capsys: pytest.CaptureFixture[str]) -> None:
+    tries = iter([together.Ended("docs", 1, "1 failed", 2, taken), together.Ended("docs", 0, "48 passed", 3, taken)])
+    monkeypatch.setattr(together, "try_aside", lambda *_: next(tries))
+    assert [ended.status for ended in together.try_parts_again(["docs"], [], [])] == [status]
+    assert [line for line in capsys.readouterr().out.splitlines() if line] == told
+
+
+def test_what_the_host_takes() -> None:
+    taken, had = together.ticks()
+    assert 0 <= taken < had and had > os.sysconf("SC_CLK_TCK")
 
 
 @pytest.mark.parametrize("name", PARTS)
