@@ -46,7 +46,7 @@ def test_nothing_is_set_up_twice(tmp_path: Path) -> None:
 
 def test_what_some_parts_need(tmp_path: Path) -> None:
     ran = set_up(tmp_path, "chromium", parts=["program", "tools"])
-    assert (ran.returncode, ran.stdout) == (0, "setup: all 6 packages are there\n")
+    assert (ran.returncode, ran.stdout) == (0, "setup: all 7 packages are there\n")
 
 
 def test_what_is_missing(tmp_path: Path) -> None:
