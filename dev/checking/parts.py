@@ -34,7 +34,8 @@ class Part:
         """Tries what has one of these words in its name, or all, and returns whether all passed. If this is strict, no
         test may be skipped but for a reason that the part allows."""
         sys.stdout.flush()
-        return subprocess.run(self.command(only, is_strict), cwd=TOP, check=False).returncode == 0
+        settings = {**os.environ, "PYTHONDONTWRITEBYTECODE": "1"}  # also of the processes among which pytest deals tests
+        return subprocess.run(self.command(only, is_strict), cwd=TOP, env=settings, check=False).returncode == 0
 
     def command(self, only: Sequence[str] = (), is_strict: bool = False) -> list[str]:
         """The command of pytest that tries it."""

@@ -10,6 +10,7 @@ from pathlib import Path
 import pytest
 from typing import Any
 
+from checking.parts import Part
 from checking.testing import PATIENCE
 from common.program import TOP
 
@@ -59,6 +60,17 @@ def test_a_test_that_is_skipped(tmp_path: Path, allowed: list[str], status: int)
     environment = {**os.environ, "PYTHONPATH": f"{TOP}:{TOP}/tools:{TOP}/dev"}
     ran = subprocess.run(words, cwd=TOP, env=environment, capture_output=True, text=True, check=False)
     assert (ran.returncode, "no moon" in ran.stdout) == (status, True), ran.stdout
+
+
+def test_no_byte_code_is_written(tmp_path: Path, monkeypatch: pytest.MonkeyPatch) -> None:
+    """Neither by pytest nor by the processes among which it deals tests, whatever this one was told."""
+    monkeypatch.delenv("PYTHONDONTWRITEBYTECODE", raising=False)
+    (tmp_path / "moon.py").write_text("")
+    (tmp_path / "test_moon.py").write_text("import moon\ndef test_it(): assert moon\n")
+    for at_once in (1, 2):
+        part = Part("the moon", [str(tmp_path / "test_moon.py")], at_once=at_once)
+        assert part.run([], is_strict=False)
+    assert sorted(os.listdir(tmp_path)) == ["moon.py", "test_moon.py"]
 
 
 def processes_in(room: Path) -> list[str]:
