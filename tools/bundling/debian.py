@@ -41,9 +41,12 @@ def make_package(program: Path, folder: Path) -> Path:
 
 
 def copy_to(tree: Path, program: Path) -> None:
-    """Copies what debhelper packs. Each file gets the time of now, which is later than any that the package tells."""
+    """Copies what debhelper packs. Each file and folder gets the time of now, which is later than any that the package
+    tells."""
     for name in FOLDERS:
         shutil.copytree(Path(TOP, name), tree / name, ignore=NOT_PACKED, copy_function=shutil.copy)
+    for folder, _, _ in os.walk(tree):  # whose times are copied, and are those of the last change of a checkout
+        os.utime(folder)
     (tree / "packaging/debian").rename(tree / "debian")
     shutil.copy(Path(TOP, "CHANGELOG.md"), tree)
     shutil.copy(program, tree / "rb_broker")

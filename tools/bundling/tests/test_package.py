@@ -2,10 +2,12 @@
 import filecmp
 import os
 import shutil
+import time
 from pathlib import Path
 
 import pytest
 
+from bundling.debian import copy_to
 from bundling.tests.conftest import dpkg, installed, made
 from bundling.tests.running import DONE, run
 from common.program import TOP
@@ -36,6 +38,13 @@ def test_refusals(why: str, line: str, program: str, tmp_path: Path) -> None:
 
 def test_same_files_make_the_same_package(package: Path, tmp_path: Path) -> None:
     assert filecmp.cmp(package, made(tmp_path), shallow=False)
+
+
+def test_no_time_of_the_checkout_is_packed(program: str, tmp_path: Path) -> None:
+    """A folder's is the older one if a commit was pulled into a clone, until byte code is written into it."""
+    began = time.time()
+    copy_to(tmp_path / "tree", Path(program))
+    assert not [path for path in (tmp_path / "tree").rglob("*") if path.stat().st_mtime < began - 1]
 
 
 @pytest.mark.skipif(not shutil.which("lintian"), reason="lintian is not installed")
