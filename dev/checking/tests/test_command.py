@@ -70,7 +70,7 @@ def test_no_byte_code_is_written(tmp_path: Path, monkeypatch: pytest.MonkeyPatch
     for at_once in (1, 2):
         part = Part("the moon", [str(tmp_path / "test_moon.py")], at_once=at_once)
         assert part.run([], is_strict=False)
-    assert sorted(os.listdir(tmp_path)) == ["moon.py", "test_moon.py"]
+    assert not (tmp_path / "__pycache__").exists()
 
 
 def processes_in(room: Path) -> list[str]:
