@@ -49,7 +49,7 @@ class GatewayTest(RedisTest):
 
     def assert_ends_well(self, served: Gateway, sessions: int, number: int = signal.SIGTERM) -> None:
         """A gateway that had so many sessions ends in good order by this signal, and says that no job is lost."""
-        self.assertEqual((served.end(number), served.said.splitlines()[1:]), (0, [f"sessions {sessions} lost 0"]))
+        self.assertEqual((served.end(number), served.told), (0, [f"sessions {sessions} lost 0"]))
 
     def held(self) -> int:
         """How many jobs of the queue are held."""

@@ -30,6 +30,11 @@ class Gateway(Process):
     def listens(self) -> bool:
         return self.is_alive and "listening " in self.said
 
+    @property
+    def told(self) -> list[str]:
+        """The lines that it has said since it listens."""
+        return self.said.partition("listening ")[2].splitlines()[1:]
+
     def wait(self) -> Gateway:
         """Waits until it listens."""
         wait_until(lambda: self.listens or not self.is_alive, f"no gateway listens at {self.port}")

@@ -128,7 +128,7 @@ class EndsTest(GatewayTest):
         self.begin_wait(waiting, "TAKE")
         served.signal(signal.SIGTERM)
         self.assert_talk(waiting, "= STOPPED")
-        self.assertEqual((served.end(), served.said.splitlines()[1:]), (-signal.SIGTERM, []))
+        self.assertEqual((served.end(), served.told), (-signal.SIGTERM, []))
 
     def test_policies_have_to_agree(self) -> None:
         self.serve()
@@ -137,6 +137,13 @@ class EndsTest(GatewayTest):
         self.assert_talk(self.talker(self.gateway()), "OFFER 0 a = OFFERED .*", "TAKE = ITEM .*", "FAIL 0 = AGAIN .*")
         changed = self.gateway("--attempts", 1, "--rate", "1h", "--change-policy")
         self.assert_talk(self.talker(changed), "TAKE = ITEM .*", "FAIL 1 = DEAD 1")
+
+    def test_a_redis_that_keeps_no_file(self) -> None:
+        said = "the Redis of queue .* has appendonly no: it may lose what was answered when it is killed"
+        self.assertRegex(self.gateway().said, said)
+        self.addCleanup(self.node.ask, "CONFIG", "SET", "appendonly", "no")
+        self.node.ask("CONFIG", "SET", "appendonly", "yes")
+        self.assertNotRegex(self.gateway().said, said)
 
     def test_a_redis_that_may_throw_queues_away(self) -> None:
         served = self.serve("--timeout", "60s")

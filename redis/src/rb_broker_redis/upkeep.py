@@ -95,7 +95,7 @@ class Upkeep:
         with closed_on_failure(link):
             await self._cut_off(link)
             await self._find_evicting(link)
-            await self._warn_of_replicas(link)
+            await self._warn_of_losses(link)
             await load_functions(link)
         return link
 
@@ -114,8 +114,12 @@ class Upkeep:
             if found and found[1] != b"noeviction":
                 raise ErrorAnswer(f"EVICTS {found[1].decode()}")
 
-    async def _warn_of_replicas(self, link: Link) -> None:
-        """Says it where replies don't wait for all replicas: another that takes over may not have what was done."""
+    async def _warn_of_losses(self, link: Link) -> None:
+        """Says it where the Redis has no file of all that it did, and where replies don't wait for all replicas: then
+        one that starts again, or takes over, may not have what was done."""
+        if re.search(rb"^aof_enabled:0\r$", await link.ask("INFO", "persistence"), re.M):
+            LOG.warning("the Redis of queue %s has appendonly no: it may lose what was answered when it is killed",
+                        self._queue)
         if not self._gateway.asks_all_replicas:
             found = re.search(rb"^connected_slaves:(\d+)", await link.ask("INFO", "replication"), re.M)
             if found and int(found[1]) > self._calls.replicas:
