@@ -16,7 +16,7 @@ PACKAGE: Final = "rb-broker"
 def parser_of(name: str, doc: str | None, usage: str | None = None) -> argparse.ArgumentParser:
     """The parser of a tool of this name, whose --help is the text of its file as it stands. An installed tool says
     rb_broker_NAME for tools/NAME, and where its documents are."""
-    name, doc = (_as_called(text) for text in (name, doc or ""))
+    name, doc = (as_called(text) for text in (name, doc or ""))
     about, _, rest = doc.partition("\n\n")
     form = argparse.RawDescriptionHelpFormatter
     parser = argparse.ArgumentParser(name, usage, about, rest, formatter_class=form, allow_abbrev=False)
@@ -44,7 +44,7 @@ def version() -> str:
     return ran.stdout.strip() or f"unknown: {ran.stderr.strip()}"
 
 
-def _as_called(text: str) -> str:
+def as_called(text: str) -> str:
     """A text for whoever called this tool: from a checkout, or as a command of the package."""
     if not os.path.basename(sys.argv[0]).startswith("rb_broker_"):
         return text

@@ -4,6 +4,7 @@ from collections import deque
 from dataclasses import replace
 from typing import Iterator, Sequence
 
+from common.words import as_called
 from rb_broker_formats.grammar import MOST_OPENING_ELEMENTS
 from servicing.looking import Looks
 from servicing.page import add_mark
@@ -16,7 +17,6 @@ from rb_broker_redis.watching.metrics import span_of
 from rb_broker_redis.watching.units import counted
 
 MANY_ELEMENTS = 900_000
-KNOWN = "tools/service --acknowledge ends this alert"
 NO_TURN, OVERDUE = 60.0, 10.0  # seconds without a turn of the service's own session, and of lateness, that are an alert
 MORE_TIME = 300_000_000  # microseconds that systemd is asked for while nothing is served
 
@@ -26,6 +26,7 @@ class Publisher:
 
     def __init__(self, settings: Settings, runs: Runs, board: Board) -> None:
         self._board, self._history = board, runs
+        self._known = as_called(f"tools/service --acknowledge --folder {runs.folder.path} ends this alert")
         self._state = replace(board.state, workers=settings.workers, id=runs.folder.id)
         self.run: Run | None = None
         self.looks: Looks | None = None
@@ -98,9 +99,9 @@ class Publisher:
         lost_runs, lost_jobs = self._history.unacknowledged
         ended = [(it, it.end) for it in runs if it.end]
         for run, end in [it for it in ended if lost_runs and it[0].is_lost][:1]:
-            yield Alert(LOST_RUN, f"{lost_text(run)}; {KNOWN}", end.date)
+            yield Alert(LOST_RUN, f"{lost_text(run)}; {self._known}", end.date)
         if lost_jobs:
-            text = f"{counted(lost_jobs, 'job')} failed in a full run, could not come back, and are lost; {KNOWN}"
+            text = f"{counted(lost_jobs, 'job')} failed in a full run, could not come back, and are lost; {self._known}"
             yield Alert(LOST_JOBS, text, next((end.date for _, end in ended if end.lost_jobs), time.time()))
         if self.looks:
             yield from _held_up(self.looks, self._state.workers)

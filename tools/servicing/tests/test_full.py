@@ -70,9 +70,9 @@ class FullTest(ServiceTest):
         with self.serving() as service:
             self.assertEqual(self.alert(), (f"rb_broker_lost_jobs_total{{port=\"{self.port}\"}} {jobs}", True))
             page = asked(self.path("runs/status"), "GET /")[1].decode()
-            self.assertIn("are lost; tools/service --acknowledge ends", page)
-            words = [sys.executable, "-B", f"{TOP}/tools/service", "--acknowledge", "--folder", self.path("runs")]
-            self.assertEqual(subprocess.run(words, check=False).returncode, 0)
+            words = ["tools/service", "--acknowledge", "--folder", self.path("runs")]
+            self.assertIn(f"are lost; {' '.join(words)} ends", page)
+            self.assertEqual(subprocess.run([sys.executable, "-B", *words], cwd=TOP, check=False).returncode, 0)
             until(lambda: not self.alert()[1], "the alert is over")
         with self.serving():
             self.assertEqual(self.alert(), (f"rb_broker_lost_jobs_total{{port=\"{self.port}\"}} {jobs}", False))
