@@ -11,7 +11,8 @@ from bundling import Fault
 from bundling.manuals import write_manuals
 from common.program import TOP
 
-FOLDERS = ("clients/python", "docs", "examples", "packaging", "redis", "tools")
+FOLDERS = ("clients/java", "clients/python", "docs", "examples", "packaging", "redis", "tools")
+PAGES = ("CHANGELOG.md", "CONTRIBUTING.md", "README.md")
 NOT_PACKED = shutil.ignore_patterns("tests", "__pycache__", "*.py[co]")
 
 # What changed is told by CHANGELOG.md, which lies beside it as changelog.gz.
@@ -48,7 +49,8 @@ def copy_to(tree: Path, program: Path) -> None:
     for folder, _, _ in os.walk(tree):  # whose times are copied, and are those of the last change of a checkout
         os.utime(folder)
     (tree / "packaging/debian").rename(tree / "debian")
-    shutil.copy(Path(TOP, "CHANGELOG.md"), tree)
+    for name in PAGES:
+        shutil.copy(Path(TOP, name), tree)
     shutil.copy(program, tree / "rb_broker")
     (tree / "rb_broker").chmod(0o755)
 

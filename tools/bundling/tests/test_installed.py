@@ -14,6 +14,8 @@ from common.program import TOP
 
 DOCUMENTS = "usr/share/doc/rb-broker"
 OF_A_CHECKOUT = {"package", "conform"}
+OF_USERS = ("README", "docs/OPERATING", "docs/PROTOCOL", "docs/HISTORY", "docs/DELAYQUEUE", "docs/SCALING",
+            "clients/python/README", "redis/README")  # pages
 
 
 def test_two_runs_of_a_service(root: Path, tmp_path: Path) -> None:
@@ -38,8 +40,8 @@ def test_the_program(root: Path, program: str) -> None:
 
 
 def test_tools_that_pages_name(root: Path) -> None:
-    """Each is a command, unless it is for those who have a checkout."""
-    pages = "".join(page.read_text("utf-8") for page in Path(root, DOCUMENTS).rglob("*.md"))
+    """Each is a command, unless it is for those who have a checkout, as some pages are."""
+    pages = "".join(Path(root, DOCUMENTS, f"{page}.md").read_text("utf-8") for page in OF_USERS)
     assert {*re.findall(r"\btools/([a-z_]+)\b(?!/)", pages)} - OF_A_CHECKOUT == {*COMMANDS}
 
 

@@ -1,6 +1,7 @@
 """tools/package: what it refuses, and the package that it makes, installs and removes."""
 import filecmp
 import os
+import re
 import shutil
 import time
 from pathlib import Path
@@ -58,6 +59,18 @@ def test_installation(root: Path) -> None:
     told = run("dpkg-query", f"--admindir={root}/var/lib/dpkg", "-W", "-f", "${Status};${Conffiles}", "rb-broker")
     assert told.said.startswith("install ok installed;") and "/etc/default/rb_broker " in told.said, told
     assert dpkg(root, "--verify", "rb-broker") == DONE
+
+
+def test_tools_run_by_the_python_whose_packages_they_import(root: Path) -> None:
+    tools = [path for path in Path(root, "usr/share/rb_broker/tools").iterdir() if path.is_file()]
+    assert {path.read_text("utf-8").partition("\n")[0] for path in tools} == {"#!/usr/bin/python3"}
+
+
+def test_what_pages_link_to_is_packed(root: Path) -> None:
+    """Except sources."""
+    pages = [*Path(root, "usr/share/doc/rb-broker").rglob("*.md")]
+    links = [(page, link) for page in pages for link in re.findall(r"\]\(([^)#:]+\.(?:md|png|yaml|acl))", page.read_text("utf-8"))]
+    assert len(links) > 100 and not [(page, link) for page, link in links if not (page.parent / link).exists()]
 
 
 def test_removal_leaves_no_file(package: Path, tmp_path: Path) -> None:
