@@ -181,7 +181,7 @@ TRIED = {
     "README.md": {
         "$ printf": "test_the_first_screen", "./broker script": "test_the_first_look",
         "tools/service": "test_five_minutes_as_a_service", "def deliver": "test_five_minutes_as_a_service",
-        "PYTHONPATH=": "test_five_minutes_as_a_service", "sudo apt": "dev/check package", "(cd crates": "rt",
+        "PYTHONPATH=": "test_five_minutes_as_a_service", "apt install": "dev/check package", "(cd crates": "rt",
     },
     PROTOCOL: {
         "rb_broker script": "test_a_synopsis", "rb_broker serve": "test_a_synopsis",
@@ -203,7 +203,7 @@ TRIED = {
         **dict.fromkeys(("worker = Worker", "Worker(", "async def", "tls = ssl"), "clients/python/tests"),
     },
     "redis/README.md": {
-        "clients --TCP": "a picture", "apt-get install": "dev/setup", "python3 -m": "test_each_option_of_a_tool_is_there",
+        "clients --TCP": "a picture", "apt-get install": "dev/setup", "/usr/bin/python3 -m": "test_each_option_of_a_tool_is_there",
         **dict.fromkeys(("mkdir -p", "export PYTHONPATH", "cat > letters.py", "exec 3<>"), "redis/tests"),
     },
     "docs/SCALING.md": {"/usr/bin/python3 -m rb_broker_redis load": "redis/tests"},

@@ -9,6 +9,7 @@ import pytest
 from checking.pages.reading import page, plain, section, tables
 from checking.pages.test_options import of_program, of_service
 from common.program import TOP
+from common.words import span
 from rb_broker_client import Worker
 from rb_broker_client.durations import Pauses
 from rb_broker_client.tasks import Tasks
@@ -51,8 +52,9 @@ def jobs_in(seconds: int) -> int:
 
 # The page, what stands around the number, and what it has to be.
 TOLD: list[tuple[str, str, Callable[[], Any]]] = [
-    (README, r"bounds by `--every` \((\w+)\)", lambda: of_service()["every"]),
-    (README, r"at (\d+) jobs a second an hour", lambda: jobs_in(3_600)),
+    (README, r"by default some (\d+) minutes", lambda: sum(
+        span(of_service()[name]) for name in ("every", "stop-within")) // (60 * SECOND)),
+    (README, r"at (\d+) jobs a second, an hour", lambda: jobs_in(3_600)),
     (SCALING, r"and (\d+) with one every hour", lambda: jobs_in(3_600)),
     (SCALING, r"carries ([\d,]+) jobs a second with a rollover every 5 minutes", lambda: jobs_in(300)),
     (SCALING, r"\| Clients at the same time \| (\d+) \|", workers),

@@ -150,7 +150,7 @@ def test_a_path_of_the_page(begins: Begins, path: str) -> None:
 
 
 def test_a_load(begins: Begins) -> None:
-    served, load = blocks(section(OPERATING, "Trying a load"))[0].splitlines()
+    served, _, load = blocks(section(OPERATING, "Trying a load"))[0].splitlines()
     assert served.split()[1:] == ["--port", "7013", "--folder", "/tmp/load"]
     service = begins("tools/service")
     words = load.replace("7013", str(service.port)).split()
@@ -168,8 +168,8 @@ def test_tls(served: Service, tmp_path: Path) -> None:
     text = section(OPERATING, "Exposing the port")
     _, makes, file, client = blocks(text)
     for line in makes.splitlines():
-        subprocess.run(line.replace("server.example", "localhost"), shell=True, cwd=tmp_path, check=True,
-                       capture_output=True)
+        line = line.replace("server.example", "localhost").replace("/etc/stunnel", str(tmp_path))
+        subprocess.run(line, shell=True, cwd=tmp_path, check=True, capture_output=True)
     shutil.copy(tmp_path / "client.pem", tmp_path / "clients.pem")
     assert [(tmp_path / it).stat().st_mode & 0o077 for it in ("server.key", "server.pem")] == [0, 0]
     port = free_port()

@@ -90,7 +90,7 @@ def test_workers_of_the_python_page(begins: Begins, tmp_path: Path) -> None:
     module, commands, *_ = blocks(section(PYTHON, "Workers, one function for each job"))
     serve, _, tasks, _ = blocks(section(PYTHON, "Tasks in five minutes"))
     setting, _ = tasks.split("\n", 1)
-    work, offer = (one_line(f"{setting}\n{line}") for line in commands.splitlines())
+    work, offer = (one_line(f"{setting}\n{line}") for line in commands.split("\n\n"))
     (tmp_path / "letters.py").write_text(module, "utf-8")
     with begins(serve.strip()) as service:
         assert is_served(service)
