@@ -1,11 +1,12 @@
 """The cases of a file: runs and their expected results. crates/rb_cases/src/case.rt describes how one is written. The
-gate refuses each file that is malformed; here a line is refused whose first word is none, or that stands before any
-case."""
+gate refuses each file that is malformed; here a line is refused that is none of a case, or has a word that is none, and
+a case that has no outcome or the name of another."""
 import operator
 import os
 import re
 from dataclasses import dataclass, field
 from pathlib import Path
+from typing import Sequence
 
 TIMERS = ("list", "heap", "pairing", "wheel")
 
@@ -26,6 +27,7 @@ ONCE = {
     "writer takes", "recorder fails",
 }
 DEVICES = ("reader", "writer", "recorder")
+ENDS = re.compile(r"(?:quit|input) \d+")
 
 # A line of a text, a part of one, which has no end, or several: `>`, `>~` or `>*500`.
 TEXT = re.compile(r"(from|[<>=])(?:(~)|\*(\d+))?")
@@ -61,6 +63,10 @@ class Case:
             word = f"{word} {kind}"
         if word not in ONCE:
             raise Malformed(f"no word of a case: {word}")
+        if word in self.values:
+            raise Malformed(f"{word} stands twice in a case")
+        if word == "timer" and told not in TIMERS or word == "ends" and told not in FAULTS and not ENDS.fullmatch(told):
+            raise Malformed(f"{word} does not take {told}")
         self.values[word] = told
 
     @property
@@ -118,8 +124,19 @@ def counted(counter: int, steps: str) -> int:
     return counter
 
 
+def check(cases: Sequence[Case]) -> None:
+    """Raises a `Malformed` if one of these has no outcome, or the name of one before."""
+    names = set[str]()
+    for case in cases:
+        if not case.is_script and "verdict" not in case.values:
+            raise Malformed(f"{case.line}: a case with neither ends nor verdict")
+        if case.name in names:
+            raise Malformed(f"{case.line}: a second case of this name")
+        names.add(case.name)
+
+
 def read_cases(path: str) -> list[Case]:
-    """The cases of a file."""
+    """The cases of a file. Raises a `Malformed`."""
     cases: list[Case] = []
     for number, line in enumerate(Path(path).read_text("utf-8").split("\n"), start=1):
         word, _, told = line.partition(" ")
@@ -132,4 +149,8 @@ def read_cases(path: str) -> list[Case]:
                 cases[-1].take(word, told)
             except Malformed as fault:
                 raise Malformed(f"{path}:{number}: {fault}") from None
+    try:
+        check(cases)
+    except Malformed as fault:
+        raise Malformed(f"{path}:{fault}") from None
     return cases

@@ -27,8 +27,14 @@ def test_a_script_and_a_replay(tmp_path: Path) -> None:
     ("case b\nwriter sleeps\n", "2: no word of a case: writer sleeps"),
     ("case b\n>* POLL\n", "2: no word of a case: >*"),
     ("# remark\n\n> POLL\n", "3: no case or table has begun"),
+    ("case b\nends imput 0\n", "2: ends does not take imput 0"),
+    ("case b\nends quit\n", "2: ends does not take quit"),
+    ("case b\ntimer whel\n", "2: timer does not take whel"),
+    ("case b\nargs a\nargs b\n", "3: args stands twice in a case"),
+    ("case a\nends quit 0\n\ncase b\n> POLL\n", "4: a case with neither ends nor verdict"),
+    ("case a\nends quit 0\ncase a\nends quit 0\n", "3: a second case of this name"),
 ])
-def test_a_word_that_it_does_not_know(tmp_path: Path, text: str, told: str) -> None:
+def test_a_line_that_is_refused(tmp_path: Path, text: str, told: str) -> None:
     path = tmp_path / "a.case"
     path.write_text(text)
     with pytest.raises(Malformed, match=f"^{re.escape(f'{path}:{told}')}$"):
