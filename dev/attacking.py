@@ -82,6 +82,8 @@ def edited(crate: Path, edit: Path) -> dict[Path, str]:
         elif word == "old":
             old = text
         elif word == "new":
+            if file not in texts:
+                raise ValueError(f"{edit.name}: no file is named before {text!r}")
             if texts[file].count(old) != 1:
                 raise ValueError(f"{edit.name}: {old!r} stands {texts[file].count(old)} times in {file.name}")
             texts[file] = texts[file].replace(old, text)
