@@ -50,7 +50,7 @@ def ended_of(one: Try) -> Ended:
 
 def try_parts(names: Iterable[str], words: Sequence[str] = (), behind: Sequence[Try] = ()) -> Iterator[Ended]:
     """Tries parts by dev/check with these words: one by one those that run alone, and behind them the others, half as
-    many at once as there are processors. Beside all come these, one by one. Prints a line for each and gives how it
+    many at once as there are processors. Beside all run these. Prints a line for each and gives how it
     ended."""
     names = [*names]
     alone, others = ([name for name in names if PARTS[name].is_alone is is_alone] for is_alone in (True, False))
@@ -62,7 +62,7 @@ def try_parts(names: Iterable[str], words: Sequence[str] = (), behind: Sequence[
     def in_turn(lane: list[str]) -> list[Try]:
         return [partial(tried, name) for name in lane]
 
-    lanes = (in_turn(alone), 1), (in_turn(others), (PROCESSORS + 1) // 2), (behind, 1)
+    lanes = (in_turn(alone), 1), (in_turn(others), (PROCESSORS + 1) // 2), (behind, max(1, len(behind)))
     for _, ended in in_lanes(ended_of, lanes):
         ended.tell()
         yield ended
