@@ -12,7 +12,10 @@ from typing import Any, NamedTuple, Self, Sequence
 from common.program import tested_program
 from serving import HOST, PATIENCE
 
-PORTS = range(*map(int, os.environ.get("RB_BROKER_PORTS", "20000-32000").split("-")))  # below those of clients
+# Below those that the system gives to clients. Of several processes in which pytest runs, each has ports of its own.
+FIRST, END = map(int, os.environ.get("RB_BROKER_PORTS", "20000-32000").split("-"))
+PORTS = range(FIRST + int(os.environ.get("PYTEST_XDIST_WORKER", "gw0")[2:]), END,
+              int(os.environ.get("PYTEST_XDIST_WORKER_COUNT", "1")))
 TRIES = 20  # of ports, which others may have
 
 

@@ -19,7 +19,7 @@ from typing import IO, Any
 import redis
 
 from serving import HOST
-from serving.server import PORTS
+from serving.server import END, FIRST
 
 _given: deque[int] = deque(maxlen=10)  # the ports that were given last
 PATIENCE = 180  # seconds that anything may take, on a busy machine
@@ -41,7 +41,7 @@ def free_port() -> int:
     """A port at which nobody listens, nor at the one that belongs to it in a Cluster, 10,000 above it, and nobody is
     just to begin."""
     while True:
-        port = random.choice([it for it in PORTS if it not in _given])
+        port = random.choice([it for it in range(FIRST, END) if it not in _given])
         _given.append(port)
         with contextlib.suppress(OSError), socket.socket() as one, socket.socket() as other:
             one.bind((HOST, port))
