@@ -1,5 +1,5 @@
 -- What serving visits leaves of the passes, and what a server gives.
-use Rattle.std.specs.Prelude.{◌≡◌, ℕ, List, [], ◌∷◌, ◌++◌, length, Option, Bool, Result, Ok, Err, MatchBool}
+use Rattle.std.specs.Prelude.{◌≡◌, ℕ, List, [], ◌∷◌, ◌++◌, length, Option, Bool, Result, Ok, Err, IfErr, MatchBool}
 use Rattle.atomic_table.specs.Seated.{TableId}
 use Rattle.rb_queue.specs.Counts.{audit_of}
 use Rattle.rb_queue.specs.declared.opening.Opening.{Opening}
@@ -8,6 +8,7 @@ use Rattle.rb_lock.specs.ClosedQueues.{HasCallsOf}
 use Rattle.rb_lock.specs.declared.pass_record.PassRecord.{PassRecord}
 use Rattle.rb_kept.specs.Log.{Log}
 use Rattle.rb_history.specs.declared.history_fault.HistoryFault.{HistoryFault}
+use Rattle.rb_history.specs.declared.history_fault.HistoryFault.TheVariants.{Write}
 use Rattle.rb_options.specs.declared.server_run_options.ServerRunOptions.{ServerRunOptions}
 use Rattle.rb_ending.specs.declared.broker_fault.BrokerFault.{BrokerFault}
 use Rattle.rb_ending.specs.declared.broker_fault.BrokerFault.TheVariants as Broker
@@ -118,7 +119,7 @@ RecordsIn keeps contents log wrote old new =
 module _ {I O G C : Type 0} (terms : Terms I O G C) where
   -- A whole run: the server's report, of a run that begins with this opening, is what was recorded and printed. The recorder
   -- had begun before, and the output had got `got`. `ended` is the fault of recording, if there is one, and otherwise
-  -- that of printing.
+  -- that of printing. The history is written in memory that was taken before, so recording never lacks any.
   pub record EndsRun (T : Type 0) {D B : Type 0} (has_joined : D → ℕ → List (DoorStep I O G) → Type 0)
       (has_begun : B → B → Type 0) (keeps : B → Bool) (contents : B → Option (List ℕ)) (begun : Opening)
       (options : ServerRunOptions) (old_door new_door : D) (old new : B) (got got' : Option (List ℕ))
@@ -130,6 +131,7 @@ module _ {I O G C : Type 0} (terms : Terms I O G C) where
     pub began : has_begun old between
     pub recorded : Result (Unit {0}) HistoryFault
     pub records : RecordsIn keeps contents report.kept recorded between new
+    pub fault : IfErr recorded (λ fault. fault ≡ Write)
     pub printed : Result (Unit {0}) BrokerFault
     pub prints : Prints printed got (report_text report) got'
     pub outcome : ended ≡ first_fault recorded printed

@@ -106,12 +106,12 @@ module _ {I O G C : Type 0} (terms : Terms I O G C) where
     pub left : Sees has_seen old_door (Left reader status writer) new_door
     pub ran : RanVisit visit reader status writer old served new
 
-  -- What a session leaves of a visit is what the door demands of it.
-  abbrev pub Satisfies : (Visit I O G → LimitedReader I → WriterStatus O → O → Type 0) → Type 0
+  -- What a session leaves of a visit, and of the pass that serves it, is what the door demands of them.
+  abbrev pub Satisfies : (Visit I O G → LimitedReader I → WriterStatus O → O → PassState → PassState → Type 0) → Type 0
   Satisfies demands =
       (visit : Visit I O G) (reader : LimitedReader I) (status : WriterStatus O) (writer : O) (old : PassState)
       (served : Served) (new : PassState)
-      → RanVisit visit reader status writer old served new → demands visit reader status writer
+      → RanVisit visit reader status writer old served new → demands visit reader status writer old new
 
   -- All that happened at an entrance, up to its end, and what became of its visitors. One was turned away, and the
   -- pass did nothing; or one was let in, the session of this visit was run by the pass, and the next that happened was

@@ -16,7 +16,8 @@ use std::time::Duration;
 ///
 /// `counts` tells how often a client was asked for, `brings` of the connection of one that came, `fails` that one could
 /// not be had, and `closes` that a stream was closed. Code over any listener learns them from these methods alone: so it
-/// can neither turn away who came, nor put the ends of two connections together, nor keep one open.
+/// can neither put the ends of two connections together, nor say before it failed that somebody could not be had, nor
+/// that a connection was closed that is open.
 pub trait Listener {
     ghost counts: { Self → ℕ → Type 0 };
 

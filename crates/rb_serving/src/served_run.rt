@@ -1,4 +1,5 @@
-ghost use Rattle.std.specs.Prelude.{◌⊎◌};
+ghost use Rattle.std.specs.Prelude.{◌≡◌, ◌⊎◌, IfErr};
+ghost use Rattle.rb_history.specs.declared.history_fault.HistoryFault.TheVariants.{Write};
 ghost use Rattle.rb_queue.specs.declared.opening.Opening.{Opening};
 ghost use Rattle.rb_serving.specs.Serving.{EndsRun, FailsRun, IsOpened, RecordsIn};
 ghost use Rattle.rb_serving.specs.Terms.{terms_of};
@@ -45,7 +46,7 @@ pub fn serve_run<
     text: HistoryRoom,
     writer: &mut W,
 ) -> (D, B, Result<(), BrokerFault>)
-    requires splits { D.may_split door options.now.workers }
+    requires splits { D.may_split door options.now.workers 0 }
     requires honest { Satisfies
         (terms_of D.Reader.Read D.Writer.Write D.Gate.Gate C.Clock clock.now options.now.policy (Delivery.Gathered HandsOn.BeforeReadsAndWaits) queue.shared) D.demands }
     ensures ended { (opening : Opening) → IsOpened opening options.now queue.shared queue.pass
@@ -72,7 +73,8 @@ fn record<T: Timer, B: Recorder + Write>(
     report: &ServeReport<T>,
     recorder: &mut B,
 ) -> Result<(), HistoryFault>
-    ensures { RecordsIn B.keeps B.contents report.now.kept result recorder.old recorder.new }
+    ensures records { RecordsIn B.keeps B.contents report.now.kept result recorder.old recorder.new }
+    ensures fault { IfErr result (λ fault. fault ≡ Write) }
 {
     if recorder.records() {
         write_recording(text, &report.kept, recorder)

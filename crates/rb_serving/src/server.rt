@@ -48,7 +48,7 @@ pub fn serve_door<
     options: &ServerRunOptions,
     queue: ServedQueue<T>,
 ) -> (D, Result<ServeReport<T>, BrokerFault>)
-    requires splits { D.may_split door options.now.workers }
+    requires splits { D.may_split door options.now.workers 0 }
     requires honest { Satisfies
         (terms_of D.Reader.Read D.Writer.Write D.Gate.Gate C.Clock clock.now options.now.policy Delivery.AtOnce queue.shared) D.demands }
     ensures served { (opening : Opening) → IsOpened opening options.now queue.shared queue.pass → IfOk result.1 (λ report. (run : IsServersRun
@@ -88,7 +88,7 @@ pub fn serve_door_gathered<
     queue: ServedQueue<T>,
     recorder: B,
 ) -> (D, B, Result<ServeReport<T>, BrokerFault>)
-    requires splits { D.may_split door options.now.workers }
+    requires splits { D.may_split door options.now.workers 0 }
     requires honest { Satisfies
         (terms_of D.Reader.Read D.Writer.Write D.Gate.Gate C.Clock clock.now options.now.policy (Delivery.Gathered HandsOn.BeforeReadsAndWaits) queue.shared) D.demands }
     ensures served { (opening : Opening) → IsOpened opening options.now queue.shared queue.pass → IfOk result.2 (λ report. (run : IsServersRun
@@ -119,7 +119,7 @@ fn serve_delivering<
     queue: ServedQueue<T>,
     recorder: B,
 ) -> (D, B, Result<ServeReport<T>, BrokerFault>)
-    requires splits { D.may_split door options.now.workers }
+    requires splits { D.may_split door options.now.workers 0 }
     requires honest { Satisfies
         (terms_of D.Reader.Read D.Writer.Write D.Gate.Gate C.Clock clock.now options.now.policy delivery queue.shared) D.demands }
     ensures served { (opening : Opening) → IsOpened opening options.now queue.shared queue.pass → IfOk result.2 (λ report. (run : IsServersRun
@@ -165,7 +165,7 @@ fn decide_and_serve<
     requires parts { blank.parts ≡ L.parts }
     requires all { L.all ≡ L.parts }
     requires some { 0 < L.all }
-    requires splits { D.may_split door options.now.workers }
+    requires splits { D.may_split door options.now.workers 0 }
     requires honest { Satisfies
         (terms_of D.Reader.Read D.Writer.Write D.Gate.Gate C.Clock clock.now options.now.policy delivery queue.shared) D.demands }
     ensures served { (opening : Opening) → IsOpened opening options.now queue.shared queue.pass → IfOk result.2 (λ report. (run : IsServersRun

@@ -8,7 +8,9 @@ use crate::tcp_door::{NoMore, TcpDoor, TcpVisit};
 use crate::tcp_gate::TcpGate;
 use crate::tcp_reader::TcpReader;
 use crate::tcp_writer::TcpWriter;
+use rb_lock::Pass;
 use rb_protocol::{LimitedReader, WriterStatus};
+use rb_timer::Timer;
 use std::sync::Wait;
 use std::time;
 
@@ -41,17 +43,21 @@ impl<'a, L: Listener> Door for TcpEntrance<'a, L> {
 
     ghost has_seen = { λ entrance log. All (ShowsStep L.Listener entrance.door.now) log };
 
-    ghost demands = { λ visit reader status writer. Unit {0} };
+    ghost demands = { λ visit reader status writer before after. Unit {0} };
 
-    ghost is_ready = { λ entrance. Unit {0} };
+    ghost is_ready = { λ entrance pass. Unit {0} };
 
-    ghost awaits = { λ entrance visit. Unit {0} };
+    ghost awaits = { λ entrance visit before. Unit {0} };
 
-    ghost may_split = { λ entrance more. Unit {0} };
+    ghost may_split = { λ entrance more least. Unit {0} };
 
     ghost has_joined = { λ entrance out log. All (ShowsStepSomewhere L.Listener) log };
 
-    fn next<R: Wait + time::Clock>(&mut self, rt: &R) -> Option<Result<TcpVisit<'a>, DoorFault>> {
+    fn next<T: Timer, R: Wait + time::Clock>(
+        &mut self,
+        rt: &R,
+        _pass: &Pass<T>,
+    ) -> Option<Result<TcpVisit<'a>, DoorFault>> {
         let asked = self.door.listener.ask();
         match self.door.answer(rt, asked) {
             Ok(answer) => Some(answer),
@@ -62,17 +68,18 @@ impl<'a, L: Listener> Door for TcpEntrance<'a, L> {
         }
     }
 
-    fn leave(
+    fn leave<T: Timer>(
         &mut self,
         _reader: &LimitedReader<'_, TcpReader<'a>>,
         _status: &WriterStatus<TcpWriter<'a>>,
         writer: TcpWriter<'a>,
+        _pass: &Pass<T>,
     ) {
         let TcpWriter { stream, patience } = writer;
         self.door.listener.close(stream, patience.is_some());
     }
 
-    fn split(&mut self) -> TcpEntrance<'a, L> {
+    fn split<T: Timer>(&mut self, _pass: &Pass<T>) -> TcpEntrance<'a, L> {
         self.door.entrance()
     }
 

@@ -30,7 +30,7 @@ pub(crate) fn work_with_all<'a, T: Timer, D: Door, C: Clock, V: Decision, R: Wai
     requires pass { pass.table ≡ service.now.shared.now }
     requires unused { IsUnused pass }
     requires unseen { D.has_seen door [] }
-    requires ready { D.is_ready door }
+    requires ready { D.is_ready door pass }
     requires honest { Satisfies
         (service_terms D.Reader.Read D.Writer.Write D.Gate.Gate C.Clock service.now) D.demands }
     ensures pass { result.0.table ≡ service.now.shared.now }
@@ -63,7 +63,7 @@ pub(crate) fn work<T: Timer, D: Door, C: Clock, V, R: Wait + time::Clock>(
     requires pass { pass.table ≡ service.now.shared.now }
     requires unused { IsUnused pass }
     requires unseen { D.has_seen door [] }
-    requires ready { D.is_ready door }
+    requires ready { D.is_ready door pass }
     requires honest { Satisfies
         (service_terms D.Reader.Read D.Writer.Write D.Gate.Gate C.Clock service.now) D.demands }
     ensures pass { result.0.table ≡ service.now.shared.now }
@@ -74,7 +74,7 @@ pub(crate) fn work<T: Timer, D: Door, C: Clock, V, R: Wait + time::Clock>(
 {
     let mut counts = VisitCounts::default();
     for _ in rt.forever() {
-        let visit = match door.next(rt) {
+        let visit = match door.next(rt, &pass) {
             None => break,
             Some(Err(DoorFault)) => VisitCounts::of_refusal(),
             Some(Ok(visit)) => {
@@ -89,7 +89,7 @@ pub(crate) fn work<T: Timer, D: Door, C: Clock, V, R: Wait + time::Clock>(
 
 // Serves a visit to its end: one session at a desk of the pass, whose waits the visit's gate may end.
 // The door gets back the reader and the writer, with what the writer has come to, so what was sent went to this writer,
-// and nothing more.
+// and nothing more. It is shown the pass, so the session was one on the served queue.
 fn serve_visit<T: Timer, D: Door, C: Clock, V, R: Wait + time::Clock>(
     rt: &R,
     service: &Service<'_, T, C, V>,
@@ -98,10 +98,10 @@ fn serve_visit<T: Timer, D: Door, C: Clock, V, R: Wait + time::Clock>(
     visit: Visit<D::Reader, D::Writer, D::Gate>,
 ) -> Result<Ended, SessionFault>
     requires pass { pass.old.table ≡ service.now.shared.now }
-    requires awaited { D.awaits door.old visit }
+    requires awaited { D.awaits door.old visit pass.old }
     requires honest { Satisfies
         (service_terms D.Reader.Read D.Writer.Write D.Gate.Gate C.Clock service.now) D.demands }
-    ensures ready { D.is_ready door.new }
+    ensures ready { D.is_ready door.new pass.new }
     ensures worked { IsWorked pass.old pass.new }
     ensures ran { (served : Served) × (served.ended ≡ result) × LeftVisit
         (service_terms D.Reader.Read D.Writer.Write D.Gate.Gate C.Clock service.now) D.has_seen
@@ -131,6 +131,7 @@ fn serve_visit<T: Timer, D: Door, C: Clock, V, R: Wait + time::Clock>(
         service.policy,
         service.delivery,
     );
-    door.leave(&limited, &status, writer);
+    drop(desk);
+    door.leave(&limited, &status, writer, pass);
     ended
 }

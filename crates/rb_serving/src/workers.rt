@@ -1,4 +1,4 @@
-ghost use Rattle.std.specs.Prelude.{◌≡◌, ◌<◌, [], List, true, false, is_some, is_ok, IfOk, OnErr, MatchResult};
+ghost use Rattle.std.specs.Prelude.{◌≡◌, ◌<◌, ◌≤◌, ℕ, [], List, true, false, is_some, is_ok, IfOk, OnErr, MatchResult};
 ghost use Rattle.rb_serving.specs.DoorSteps.{DoorStep, Gathers};
 ghost use Rattle.rb_serving.specs.Serving.{EndsRecorded, GathersWorkers, IsWorkerResult};
 ghost use Rattle.rb_serving.specs.Terms.{service_terms};
@@ -65,7 +65,7 @@ pub(crate) fn serve_all<
     requires all { L.all ≡ L.parts }
     requires some { 0 < L.all }
     requires pass { pass.table ≡ service.now.shared.now }
-    requires splits { D.may_split door count }
+    requires splits { (least : ℕ) × D.may_split door count least × (least ≤ pass.noted) }
     requires honest { Satisfies
         (service_terms D.Reader.Read D.Writer.Write D.Gate.Gate C.Clock service.now) D.demands }
     ensures folds { IfOk result.2 (λ served. GathersWorkers
@@ -80,7 +80,7 @@ pub(crate) fn serve_all<
         rt,
         move |scope| -> (D, B, Result<(Pass<T>, VisitCounts), BrokerFault>)
             requires { (L.all ≡ L.parts) × (0 < L.all) × (pass.table ≡ service.now.shared.now)
-                × D.may_split door count × Satisfies
+                × ((least : ℕ) × D.may_split door count least × (least ≤ pass.noted)) × Satisfies
                 (service_terms D.Reader.Read D.Writer.Write D.Gate.Gate C.Clock service.now) D.demands }
             ensures { IfOk result.2 (λ served. GathersWorkers
                 (service_terms D.Reader.Read D.Writer.Write D.Gate.Gate C.Clock service.entry.now)
@@ -125,7 +125,7 @@ fn start_all<
     requires all { L.all ≡ L.parts }
     requires some { 0 < L.all }
     requires pass { pass.table ≡ service.now.shared.now }
-    requires splits { D.may_split door count }
+    requires splits { (least : ℕ) × D.may_split door count least × (least ≤ pass.noted) }
     requires honest { Satisfies
         (service_terms D.Reader.Read D.Writer.Write D.Gate.Gate C.Clock service.now) D.demands }
     ensures folds { IfOk result.1 (λ served. GathersWorkers
@@ -148,14 +148,14 @@ fn start_all<
         let token = decider.decide(rt, service.serves, None);
         return (door, Err(BrokerFault::Worker), token);
     };
-    let entrance = door.split();
+    let entrance = door.split(&child);
     let start = Snapshot::of(&child);
     let promise = OfWorker { service, start };
     let started = match scope.spawn_with(
         promise,
         move || -> (Pass<T>, VisitCounts, D, OnceToken<'_, Decided<L, B::Begun>>)
             requires { (child.table ≡ service.now.shared.now) × IsUnused child × D.has_seen entrance []
-                × D.is_ready entrance × Satisfies
+                × D.is_ready entrance child × Satisfies
                 (service_terms D.Reader.Read D.Writer.Write D.Gate.Gate C.Clock service.now) D.demands }
             ensures { (result.0.table ≡ service.entry.now.shared.now) × (result.0.parts ≡ child.parts)
                 × (result.3.of ≡ service.entry.now.serves.now.id)

@@ -4,6 +4,7 @@ ghost use Rattle.std.specs.Prelude.{◌≡◌, ◌≤◌, ◌↔◌, ◌<◌, tr
 
 use rb_blocking::{Clock, Gate};
 use rb_ending::{BrokerFault, audit_line};
+use rb_lock::Pass;
 use rb_options::ServerRunOptions;
 use rb_protocol::{LimitedReader, WriterStatus};
 use rb_queue::{Audit, Opening};
@@ -14,7 +15,7 @@ use rb_serving::{
     serve_door_gathered,
 };
 use rb_session::{Delivery, HandsOn};
-use rb_timer::ListTimer;
+use rb_timer::{ListTimer, Timer};
 use std::alloc::Global;
 use std::io::{Read, Write};
 use std::process::Abort;
@@ -206,19 +207,20 @@ impl<'a, R: Wait + time::Clock + Sync> Door for PlannedDoor<'a, R> {
 
     ghost has_seen = { λ door log. Unit {0} };
 
-    ghost demands = { λ visit reader status writer. Unit {0} };
+    ghost demands = { λ visit reader status writer before after. Unit {0} };
 
-    ghost is_ready = { λ door. Unit {0} };
+    ghost is_ready = { λ door pass. Unit {0} };
 
-    ghost awaits = { λ door visit. Unit {0} };
+    ghost awaits = { λ door visit before. Unit {0} };
 
-    ghost may_split = { λ door more. Unit {0} };
+    ghost may_split = { λ door more least. Unit {0} };
 
     ghost has_joined = { λ door out log. Unit {0} };
 
-    fn next<H: Wait + time::Clock>(
+    fn next<T: Timer, H: Wait + time::Clock>(
         &mut self,
         _rt: &H,
+        _pass: &Pass<T>,
     ) -> Option<Result<Visit<Sender<'a, R>, Receiver<'a, R>, NotedGate<'a>>, DoorFault>> {
         let taken = self.taken.fetch_add(1, Ordering::SeqCst);
         let plan = self.plans.get(usize::try_from(taken).ok()?)?;
@@ -235,14 +237,15 @@ impl<'a, R: Wait + time::Clock + Sync> Door for PlannedDoor<'a, R> {
         }))
     }
 
-    fn leave(
+    fn leave<T: Timer>(
         &mut self,
         _reader: &LimitedReader<'_, Sender<'a, R>>,
         _status: &WriterStatus<Receiver<'a, R>>,
         _writer: Receiver<'a, R>,
+        _pass: &Pass<T>,
     ) {}
 
-    fn split(&mut self) -> PlannedDoor<'a, R> {
+    fn split<T: Timer>(&mut self, _pass: &Pass<T>) -> PlannedDoor<'a, R> {
         PlannedDoor {
             rt: self.rt,
             plans: self.plans,

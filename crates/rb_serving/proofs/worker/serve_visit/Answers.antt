@@ -107,6 +107,7 @@ leave-requires g c =
     let on = session.ensures.on in
     let name = sym (on.same_reference ∙ outlet.same_reference) in
     let status_name = sym (on.same_status ∙ outlet.same_status) in
+    let desk_name = session.ensures.name ∙ ap name_of c.new-desk.ensures.state in
     let writer = c.writer-3-1.given.0 in
     let status = c.status-2-1.given.0 in
     let same : session.result.0.inner.now ≡ writer = sym (search (rules, name)) in
@@ -116,6 +117,7 @@ leave-requires g c =
     let served : Served = record { came = ran.came; sent = ran.sent; ended = session.result.1 } in record {
       served = (
         visit,
+        c.args.pass.now,
         c.requires.awaited,
         c.requires.honest visit session.new.reader status writer c.args.pass.now served _ (record {
           table = c.requires.pass;
@@ -127,7 +129,7 @@ leave-requires g c =
           begun = is_desk c.args.service.now.clock.now visit.gate _ c.args.pass.now _ c.new-desk.ensures.state;
           to = _;
           ran = ran.holds;
-          seen = refl;
+          seen = search (rules, desk_name);
           reason = subst (λ (state : ReaderState). IsReason state session.new.reader session.result.1) limited.unread
               session.ensures.reason;
           written_first = of_first c.new-outlet.result session.result.0 c.of-status.result status visit.writer writer on

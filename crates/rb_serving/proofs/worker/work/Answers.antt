@@ -24,8 +24,8 @@ loop-preserved g c = record {
             })
       ];
   ready = elim c.match-this.branch [
-    | in-Some-Err w ↦ rw w.door-is (let ready = c.next-in-loop.ensures.still_ready in search rules)
-    | in-Some-Ok w ↦ rw w.door-is w.serve_visit-ended.ensures.ready
+    | in-Some-Err w ↦ rw (w.pass-is, w.door-is) (let ready = c.next-in-loop.ensures.still_ready in search rules)
+    | in-Some-Ok w ↦ rw (w.pass-is, w.door-is) w.serve_visit-ended.ensures.ready
   ];
   visits =
       let terms =

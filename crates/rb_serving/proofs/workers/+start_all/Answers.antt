@@ -43,11 +43,30 @@ returns-clause-folds g t c =
           (ap (λ (parts : ℕ). c.split.new.pass.parts + parts) parts ∙ c.in-Ok.ensures.parts) others.folds worked c.fold.ensures);
     }
 
+-- An entrance more may be split off, for a pass of a later name than those before.
 pub split-entrance-requires : goal.split-entrance-requires
 split-entrance-requires g t c =
     let some : 0 < c.args.count = grind (arith, nat_tests, c.if-count-eq0.false) in
     let is : c.args.count ≡ (c.args.count - 1) + 1 = omega (arith, some) in
-    record { more = (c.args.count - 1, subst (g.D.Door.may_split c.args.door) is c.requires.splits) }
+    let splits = c.requires.splits in record {
+      more = (
+        c.args.count - 1,
+        splits.0,
+        subst (λ count. g.D.Door.may_split c.args.door count splits.0) is splits.1,
+        omega (arith, splits.2, c.in-Ok.ensures.later),
+      );
+    }
+
+pub start_all-door-requires-clause-splits : goal.start_all-door-requires-clause-splits
+start_all-door-requires-clause-splits g t c κs within =
+    let some : 0 < c.args.count = grind (arith, nat_tests, c.if-count-eq0.false) in
+    let is : c.args.count ≡ (c.args.count - 1) + 1 = omega (arith, some) in
+    let splits = c.requires.splits in (
+      c.in-Ok.child.name + 1,
+      c.split-entrance.ensures.fewer (c.args.count - 1) splits.0
+          (subst (λ count. g.D.Door.may_split c.args.door count splits.0) is splits.1),
+      omega (arith, c.in-Ok.ensures.noted),
+    )
 
 -- What a thread would have been started with is what comes back.
 pub call_here-entrance-requires : goal.call_here-entrance-requires
