@@ -21,8 +21,10 @@ use Rattle.rb_shared_desk.specs.WaitRules.{WaitRules}
 use Rattle.rb_session.specs.Ran.{Ran}
 use Rattle.rb_session.specs.Rules.{session_rules, HadGotBehind}
 use Rattle.rb_session.specs.Served.{Served}
-use Rattle.rb_session.specs.Turn.{point}
+use Rattle.rb_session.specs.Session.{Turn, Serves}
+use Rattle.rb_session.specs.Turn.{Point, point}
 use Rattle.rb_session.specs.declared.delivery.Delivery.{Delivery}
+use Rattle.rb_session.specs.declared.delivery.Delivery.TheVariants.{AtOnce}
 use Rattle.rb_serving.specs.Terms.{Terms}
 use Rattle.rb_jobs.specs.ServerEvents.{made_of}
 use Rattle.rb_serving.specs.DoorSteps.{DoorStep, LetIn, TurnedAway, Left}
@@ -31,14 +33,26 @@ use Rattle.rb_jobs.proofs.GatheredNames.{named_behind}
 use Rattle.rb_jobs.proofs.ServerEvents.{made_none, seen_all}
 use Rattle.rb_jobs.proofs.SharedRuns.{whole_mine, makes_whole, refuses_whole, stays_whole, misses_whole}
 use Rattle.rb_jobs.specs.Hands.{HandlesAll, AreHands}
-use Rattle.rb_jobs.specs.RunJobs.{ServerKeepsJobs, empty_hands}
+use Rattle.rb_jobs.specs.RunJobs.{ServerKeepsJobs, VisitsKeepJobs, empty_hands}
 use Rattle.rb_jobs.specs.SessionHands.{LeadsOn}
 use Rattle.rb_jobs.proofs.Histories.{jobs_are_kept}
 use Rattle.rb_jobs.proofs.SessionHands.{goes_miss, goes_same, goes_then, goes_way, goes_ends, handles_then}
-use Rattle.rb_jobs.proofs.Sessions.{along_run}
+use Rattle.rb_jobs.proofs.Sessions.{along_lines, along_run}
 
 module _ {C G : Type 0} where
   module _ (waits : WaitRules C G) where
+    -- the lines of a session, which begins with nothing held
+    lines_handle : (policy : Policy) (from : SharedState C G) (to : Point (SharedState C G)) (turns : List Turn)
+        → Serves (shared_rules waits policy) (point from []) turns to → LeadsOn policy whole_mine (point from []) to
+    lines_handle policy from to turns serves =
+        along_lines (session_rules (shared_rules waits policy) AtOnce (λ earlier. Unit {0}))
+        (LeadsOn policy whole_mine)
+        (goes_same (shared_rules waits policy) whole_mine (makes_whole waits) (refuses_whole waits) (stays_whole waits))
+        (goes_then (shared_rules waits policy) whole_mine (makes_whole waits) (refuses_whole waits) (stays_whole waits))
+        (goes_way (shared_rules waits policy) whole_mine (makes_whole waits) (refuses_whole waits) (stays_whole waits))
+        (goes_ends (shared_rules waits policy) whole_mine (makes_whole waits) (refuses_whole waits) (stays_whole waits))
+        (point from []) to turns serves
+
     -- a session begins and ends with nothing held, whatever its pass had made before
     run_handles : (policy : Policy) (HadGot : List ℕ → Type 0) (delivery : Delivery) (Over : Type 0)
         (from to : SharedState C G) (served : Served)
@@ -100,6 +114,17 @@ module _ {I O G C : Type 0} (terms : Terms I O G C) where
             handles,
           )
   visits_handle old new log visits are = absurd are
+
+  pub visits_keep_jobs : VisitsKeepJobs terms
+  visits_keep_jobs first between log visits gate from to turns unused served begun serves =
+      let (made, grows, handles) = visits_handle first between log visits served in
+      let (more, grows_more, handles_more) = lines_handle (visit_waits terms) terms.policy from to turns serves in
+      let all : made_of to.desk.pass ≡ made ++ more =
+      grows_more ∙ ap (λ (pass : PassState). made_of pass ++ more) begun.pass_is
+      ∙ ap (λ (mades : List Made). mades ++ more)
+      (grows ∙ ap (λ (mades : List Made). mades ++ made) (made_none first unused.unheard)) in
+      subst (λ mades. HandlesAll terms.policy [] mades to.held) (sym all)
+      (handles_then terms.policy [] [] to.held made more handles handles_more)
 
   worker_handles : (room : ℕ) (begun : Opening) (history : List Event) (log : List (DoorStep I O G)) (own : List (Option Served))
       (pass : PassState) (one : PassRecord) → IsWorker terms room begun log own pass → one ≡ record_of pass

@@ -14,11 +14,16 @@ use Rattle.rb_session.specs.Turn.{Point, point}
 use Rattle.rb_session.specs.declared.delivery.Delivery.{Delivery}
 use Rattle.rb_options.specs.declared.server_run_options.ServerRunOptions.{ServerRunOptions}
 use Rattle.rb_runs.specs.Script.{IsNew, RanSession, script_terms}
+use Rattle.rb_lock.specs.Passes.{PassState}
+use Rattle.rb_shared_desk.specs.SharedSteps.{SharedState}
+use Rattle.rb_serving.specs.DoorSteps.{DoorStep}
 use Rattle.rb_serving.specs.Serving.{IsServersRun}
 use Rattle.rb_serving.specs.Terms.{Terms}
+use Rattle.rb_serving.specs.Visits.{AreVisits, IsDeskOf, IsUnused, shared_rules, visit_waits}
 use Rattle.rb_serving.specs.declared.serve_report.ServeReport.{ServeReport}
-use Rattle.rb_jobs.specs.Hands.{AreHands}
+use Rattle.rb_jobs.specs.Hands.{AreHands, HandlesAll}
 use Rattle.rb_jobs.specs.Places.{AreJobs, KeepsJobs}
+use Rattle.rb_jobs.specs.ServerEvents.{made_of}
 
 -- nobody holds anything
 abbrev pub empty_hands : ℕ → List Element
@@ -52,6 +57,16 @@ ScriptKeepsJobs sends =
     → RunKeepsJobs policy opening to.log.history
 
 module _ {I O G C : Type 0} (terms : Terms I O G C) where
+  -- The law of each moment of a server: a worker's pass made no call, then served these visits, and then these lines of one
+  -- more at a new desk. What that session holds behind them is what the pass's calls allow its seat to hold.
+  abbrev pub VisitsKeepJobs : Type 0
+  VisitsKeepJobs =
+      (first between : PassState) (log : List (DoorStep I O G)) (visits : List (Option Served)) (gate : G)
+      (from : SharedState C G) (to : Point (SharedState C G)) (turns : List Turn)
+      → IsUnused first → AreVisits terms first log visits between → IsDeskOf terms.clock gate between from
+      → Serves (shared_rules (visit_waits terms) terms.policy) (point from []) turns to
+      → HandlesAll terms.policy [] (made_of to.desk.pass) to.held
+
   -- the law of servers
   abbrev pub ServerKeepsJobs : Type 0 → Type 0
   ServerKeepsJobs T =

@@ -3,7 +3,7 @@ ghost use Rattle.rb_jobs.specs.Places.{JobsAreKept};
 ghost use Rattle.rb_jobs.specs.Continued.{JobsAreAccepted, JobsGoOn, NoneAreJobs};
 ghost use Rattle.rb_jobs.specs.NextRuns.{ScriptHandsJobsOn, ServerHandsJobsOn};
 ghost use Rattle.rb_jobs.specs.JobSums.{ScriptAccounts, ServerAccounts};
-ghost use Rattle.rb_jobs.specs.RunJobs.{LinesKeepJobs, ScriptKeepsJobs, ServerKeepsJobs};
+ghost use Rattle.rb_jobs.specs.RunJobs.{LinesKeepJobs, ScriptKeepsJobs, ServerKeepsJobs, VisitsKeepJobs};
 ghost use Rattle.rb_jobs.specs.SessionHands.{HandlesLines, HandlesClosing, HandlesRun};
 ghost use Rattle.rb_retry.specs.declared.policy.Policy.{Policy};
 ghost use Rattle.rb_serving.specs.Terms.{terms_of};
@@ -41,9 +41,12 @@ pub fn script_keeps_jobs<W: Write>()
 {}
 
 /// From such an opening a server keeps jobs, over all its sessions at once: however the threads of its workers
-/// interleave, no job is in two places at any moment of the history that it gives back.
+/// interleave, no job is in two places at any moment of the history that it gives back. Behind each line that one of
+/// its sessions serves, that holds no more than the calls of its worker allow.
 pub fn server_keeps_jobs<T: Timer, D: Door, C: Clock>()
-    ensures { (clock : C) (policy : Policy) (delivery : Delivery) (table : TableId) → ServerKeepsJobs
+    ensures lines { (clock : C) (policy : Policy) (delivery : Delivery) (table : TableId) → VisitsKeepJobs
+        (terms_of D.Reader.Read D.Writer.Write D.Gate.Gate C.Clock clock policy delivery table) }
+    ensures run { (clock : C) (policy : Policy) (delivery : Delivery) (table : TableId) → ServerKeepsJobs
         (terms_of D.Reader.Read D.Writer.Write D.Gate.Gate C.Clock clock policy delivery table) T }
 {}
 
