@@ -25,7 +25,7 @@ REFUSED = {{
     "PLACES: usize = 8;": ("bell_state::BellState::rise", "note: src/bell_state.rt:1:5: it is not proved"),
     "from_secs": ("bell::longest_rest", None),
 }}
-assert sys.argv[1:] == ["check", "--jobs", "1"]
+assert sys.argv[1:3] == ["check", "--jobs"] and int(sys.argv[3]) >= 1
 text = "".join(file.read_text() for file in Path("src").glob("*.rt"))
 found = [said for line, said in REFUSED.items() if line in text]
 for name, why in found:
@@ -50,18 +50,24 @@ def test_what_is_refused_and_what_is_not(tmp_path: Path) -> None:
     ran = attack(tmp_path, PROVER)
     assert (ran.returncode, ran.stderr) == (1, "")
     assert ran.stdout.splitlines() == [
-        "rb_bell: 3 refused, 4 not",
+        "rb_bell: 3 refused, 10 not",
+        "rb_bell/counts_anew_from_the_200_000th_ring.edit: the crate is still proved with it",
+        "rb_bell/forgets_when_the_one_that_is_left_looks.edit: the crate is still proved with it",
         "rb_bell/leaves_one_woken_behind.edit: refused only because a proof names what it takes away",
         "rb_bell/rests_for_two_seconds.edit: the crate is still proved with it",
         "rb_bell/rests_in_seconds.edit: it did not reach the prover: src/bell.rt:9:9: error: it can't be read",
+        "rb_bell/rings_for_one_of_a_crowd.edit: the crate is still proved with it",
         "rb_bell/sticks_at_the_greatest_count.edit: the crate is still proved with it",
+        "rb_bell/the_last_place_is_never_woken.edit: the crate is still proved with it",
+        "rb_bell/the_last_to_leave_says_it_was_not_woken.edit: the crate is still proved with it",
+        "rb_bell/wakes_one_of_a_crowd.edit: the crate is still proved with it",
         "rb_bell/wakes_who_looks_in_time.edit: the crate is still proved with it",
-        "3 refused, 4 not",
+        "3 refused, 10 not",
     ]
 
 
 @pytest.mark.parametrize(("kit", "counts"), [
-    ("a kit", "3 refused (3 before), 4 not"), ("another kit", "0 refused, 7 not"),
+    ("a kit", "3 refused (3 before), 10 not"), ("another kit", "0 refused, 13 not"),
 ])
 def test_what_was_refused_is_not_tried_again(tmp_path: Path, kit: str, counts: str) -> None:
     """Over the same texts, by the same kit. This prover refuses nothing."""
@@ -118,8 +124,14 @@ def test_libraries_that_are_stamped(tmp_path: Path, monkeypatch: pytest.MonkeyPa
 def test_a_crate_that_is_not_proved(tmp_path: Path) -> None:
     ran = attack(tmp_path, "print('logic=not-proved'), exit(1)")
     assert (ran.returncode, ran.stderr) == (1, "")
-    assert ran.stdout.startswith("rb_bell: it is not proved as it stands:\nlogic=not-proved\nrb_bell: 0 refused, 7 not\n")
-    assert ran.stdout.count(".edit: not tried\n") == 7
+    assert ran.stdout.startswith("rb_bell: it is not proved as it stands:\nlogic=not-proved\nrb_bell: 0 refused, 13 not\n")
+    assert ran.stdout.count(".edit: not tried\n") == 13
+
+
+def test_attacks_that_were_not_tried(tmp_path: Path) -> None:
+    ran = attack(tmp_path, "import time\ntime.sleep(9)", "--minutes", "0.01")
+    assert (ran.returncode, ran.stderr) == (1, "")
+    assert ran.stdout.splitlines() == ["rb_bell: 0 refused, 0 not, 13 not tried", "0 refused, 0 not, 13 not tried"]
 
 
 @pytest.mark.parametrize("edit, file, function", [
