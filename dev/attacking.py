@@ -1,20 +1,22 @@
 """Tries the attacks of crates: wrong bodies that the prover must refuse, like the must-fail edits.
 
     dev/attack NAME ..    the attacks of these crates (default: all)
-    dev/attack --tenth    a tenth of all, the one of the number in dev/tenth, to which each landing adds one
-    --minutes M           gives up what has no result after so long
+    dev/attack --landing  the attacks of crates that changed since the landing before, those that changed themselves,
+                          and a tenth of all, by the number in dev/tenth, to which each landing adds one
+    --minutes M           gives up the attacks that have no result after M minutes
 
-An attack is a file crates/NAME/attacks/*.edit, in the form of a must-fail edit. `rt check` tries up to eight that change
-different functions together, one group on each processor, in copies of the checkout, over the libraries that the gate
-left in out/ and what earlier checks kept there. What changes no function, or more than one, is tried alone. The
-checkout is left as it is, and the copies are removed at the end. What was refused is kept on this machine, by the
-texts that the check read, and is not tried again over these.
+An attack is a file crates/NAME/attacks/*.edit, in the form of a must-fail edit. `rt check` tries up to eight attacks
+together that change different functions, one group on each processor, in copies of the checkout, over the libraries
+that the gate left in out/ and what earlier checks kept there. It tries an attack alone that changes no function, or
+more than one. The command leaves the checkout as it is, and removes the copies at the end. It keeps on this machine
+which attacks were refused, with the texts that the check read, and does not try these again while the texts are the
+same.
 
-Printed are a line for each crate, the attacks that were not refused, each with the prover's words, those that were
-refused only because a proof names what the edit removed, and finally `N refused, M not`, with `, K not tried` where
-time was short. `(L before)` are those that an earlier run refused.
+It prints a line for each crate, the attacks that were not refused, each with the prover's words, the attacks that were
+refused only because a proof names what the edit removed, and finally `N refused, M not`, with `, K not tried` if time
+was short. An earlier run has refused `(L before)` of them.
 
-Exit status: 0 if M is 0, 1 if it is not, 2 if an argument is wrong or there is no `rt`.
+Exit status: 0 if all were refused, 1 if one was not, or not tried, 2 if an argument is wrong or there is no `rt`.
 """
 import os
 import re
@@ -26,7 +28,7 @@ from collections import Counter
 from concurrent.futures import ThreadPoolExecutor
 from pathlib import Path
 from queue import SimpleQueue
-from typing import Callable, NamedTuple, Sequence
+from typing import Callable, Collection, NamedTuple, Sequence
 
 from building.build import available_memory
 from building.crates import own_uses, read_uses, with_those_below
@@ -39,7 +41,9 @@ from leaving import status_of
 from stamping import stamp_libraries
 
 USES = own_uses(TOP)
-TENTH = Path(TOP, "dev/tenth")
+TENTH = "dev/tenth"
+ATTACKS = "attacks"
+PROVED = ("src", "specs", "proofs")  # the folders of a crate that a check reads
 MEMORY = 3_000_000_000  # bytes that a check may take
 NOT_PROVED = re.compile(r"^logic=not-proved", re.M)
 NOT_READ = re.compile(r"^(?:\./)?(?:src|specs)/[^:\s]+:\d+:\d+: error.*", re.M)
@@ -56,16 +60,32 @@ class Verdict(NamedTuple):
 
 def edits_of(crate: str) -> list[str]:
     """The names of the files in a crate's folder attacks/, except notes."""
-    return sorted(file.name for file in Path(TOP, "crates", crate, "attacks").glob("*") if file.suffix != ".md")
+    return sorted(file.name for file in Path(TOP, "crates", crate, ATTACKS).glob("*") if file.suffix != ".md")
 
 
-def tenth_of(crates: Sequence[str], number: int) -> Chosen:
-    """A tenth of these crates' attacks, of which each is in one of the ten."""
-    every = [(crate, edit) for crate in crates for edit in edits_of(crate)]
+def changed_attacks() -> set[tuple[str, str]]:
+    """The attacks that changed since the last commit but one that changed dev/tenth, and all of the crates that changed:
+    the landing before ended there, or behind it. Git tells, and where there is none, nothing changed."""
+
+    def told(*words: str) -> list[str]:
+        command = ["git", "-C", TOP, *words]
+        return subprocess.run(command, stdout=subprocess.PIPE, stderr=subprocess.DEVNULL, text=True, check=False).stdout.split()
+
+    *_, landed = told("log", "-2", "--format=%H", "--", TENTH) or ["HEAD"]
+    paths = [Path(name).parts for name in told("diff", "--name-only", landed, "--", "crates")]
+    crates = {crate for _, crate, folder, *_ in paths if folder in PROVED}
+    return {(crate, edit) for crate in crates for edit in edits_of(crate)} | {
+        (path[1], path[-1]) for path in paths if path[2] == ATTACKS}
+
+
+def attacks_of_landing(number: int, changed: Collection[tuple[str, str]]) -> Chosen:
+    """These attacks, and a tenth of all, of which each is in one of the ten."""
+    every = [(crate, edit) for crate in USES for edit in edits_of(crate)]
     begin, end = (len(every) * tenth // 10 for tenth in (number % 10, number % 10 + 1))
     chosen: Chosen = {}
-    for crate, edit in every[begin:end]:
-        chosen.setdefault(crate, []).append(edit)
+    for at, (crate, edit) in enumerate(every):
+        if begin <= at < end or (crate, edit) in changed:
+            chosen.setdefault(crate, []).append(edit)
     return chosen
 
 
@@ -107,15 +127,16 @@ class Copies:
         shutil.copy2(f"{TOP}/HANDLES", first)
         stamp_libraries(first, USES)
         self.free.put(first)
-        status, said = self.check({})
+        many = places()
+        status, said = self.check({}, many)
         if status:
             return said
-        for at in range(1, places()):
+        for at in range(1, many):
             copy_tree(first, self.room / str(at))
             self.free.put(self.room / str(at))
         return ""
 
-    def check(self, texts: Texts) -> tuple[int, str]:
+    def check(self, texts: Texts, jobs: int = 1) -> tuple[int, str]:
         """The status of a check with these texts, and what it printed. Raises a `TimeoutExpired` if it does not end in
         time."""
         copy = self.free.get()
@@ -124,7 +145,7 @@ class Copies:
         try:
             for file, text in texts.items():
                 (folder / file).write_text(text, "utf-8")
-            ran = subprocess.run(["rt", "check", "--jobs", "1"], cwd=folder, stdin=subprocess.DEVNULL, stdout=subprocess.PIPE,
+            ran = subprocess.run(["rt", "check", "--jobs", str(jobs)], cwd=folder, stdin=subprocess.DEVNULL, stdout=subprocess.PIPE,
                                  stderr=subprocess.STDOUT, text=True, errors="replace", check=False,
                                  timeout=max(1, self.until - time.monotonic()))
             return ran.returncode, ran.stdout.rstrip("\n")
@@ -143,7 +164,7 @@ def copy_tree(folder: Path, to: Path) -> None:
         else:
             shutil.copy2(file, place)
 
-    shutil.copytree(folder, to, ignore=shutil.ignore_patterns("must-fail", "attacks"), copy_function=copied)
+    shutil.copytree(folder, to, ignore=shutil.ignore_patterns("must-fail", ATTACKS), copy_function=copied)
 
 
 def places() -> int:
@@ -164,7 +185,7 @@ class Attacks:
 
     def _read(self, edit: str, folder: Path) -> None:
         try:
-            after = {str(file.relative_to(folder)): text for file, text in edited(folder, folder / "attacks" / edit).items()}
+            after = {str(file.relative_to(folder)): text for file, text in edited(folder, folder / ATTACKS / edit).items()}
         except (OSError, ValueError) as fault:
             self.verdicts[edit] = Verdict(False, f"it can't be applied: {fault}")
             return
@@ -250,24 +271,25 @@ def attack(chosen: Chosen, until: float, room: Path) -> int:
                 print(f"{crate}/{edit}: {verdict.said}")
         sys.stdout.flush()
     print(told(*(counts[name] for name in ("refused", "before", "failed", "late"))))
-    return 1 if counts["failed"] else 0
+    return 1 if counts["failed"] or counts["late"] else 0
 
 
 def main() -> int:
     parser = parser_of("dev/attack", __doc__)
     parser.add_argument("crates", nargs="*", metavar="NAME", help="a crate of crates.txt (default: all)")
-    parser.add_argument("--tenth", action="store_true", help="only the tenth of their attacks that dev/tenth tells")
+    parser.add_argument("--landing", action="store_true", help="the attacks of what changed, and a tenth of all, by dev/tenth")
     parser.add_argument("--minutes", type=number(float, 0, 10_000), default=10_000, metavar="M",
-                        help="gives up what has no result after so long")
+                        help="gives up the attacks that have no result after M minutes")
     given = parser.parse_args()
     for name in given.crates:
         if name not in USES:
             parser.error(f"crates.txt has no crate {name}")
     if not shutil.which("rt"):
         parser.error("there is no command rt on the path")
-    crates = list(dict.fromkeys(given.crates or USES))
-    chosen = {crate: edits for crate in crates if (edits := edits_of(crate))}
-    if given.tenth:
-        chosen = tenth_of(crates, int(TENTH.read_text("ascii")))
+    if given.landing and given.crates:
+        parser.error("--landing names the crates")
+    chosen = {crate: edits for crate in dict.fromkeys(given.crates or USES) if (edits := edits_of(crate))}
+    if given.landing:
+        chosen = attacks_of_landing(int(Path(TOP, TENTH).read_text("ascii")), changed_attacks())
     until = time.monotonic() + 60 * given.minutes
     return status_of("attack", lambda room: attack(chosen, until, Path(room, "checkout")))

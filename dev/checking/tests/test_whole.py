@@ -85,8 +85,8 @@ def test_what_runs_behind_the_parts(tmp_path: Path) -> None:
     stand_in(tmp_path, "rt", "echo no proof; exit 1")
     parts = [name for name, part in PARTS.items() if not part.is_long]
     ran = run(tmp_path, "test", "--without", "setup", "gate", *parts, XDG_CACHE_HOME=str(tmp_path / "kept"))
-    told = ("refuse_allocations: rt try built no program:\nno proof\n.*\nrefusals: FAILED with status 2, ",
-            ": it is not proved as it stands:\nno proof\n.*\nattacks: FAILED with status 1, \\d+ s: 0 refused, \\d+ not\n",
+    told = ("refuse_allocations: rt try built no program:\nno proof\n.*\nrefusals: FAILED with status 2(?: while .*?)?, ",
+            ": it is not proved as it stands:\nno proof\n.*\nattacks: FAILED with status 1(?: while .*?)?, \\d+ s: 0 refused, \\d+ not\n",
             "\n0 passed, 2 failed, in \\d+\\.\\d minutes\n\\Z")
     assert (ran.returncode, ran.stderr) == (1, "") and all(re.search(it, ran.stdout, re.S) for it in told), ran
 
@@ -116,11 +116,37 @@ def test_the_tests_of_a_part_are_there(name: str) -> None:
 
 
 def test_each_attack_is_in_one_tenth() -> None:
-    tenths = [attacking.tenth_of([*attacking.USES], number) for number in range(10)]
+    tenths = [attacking.attacks_of_landing(number, ()) for number in range(10)]
     tried = [(crate, edit) for tenth in tenths for crate, edits in tenth.items() for edit in edits]
     assert sorted(tried) == sorted((crate, edit) for crate in attacking.USES for edit in attacking.edits_of(crate))
     sizes = [sum(map(len, tenth.values())) for tenth in tenths]
     assert max(sizes) - min(sizes) <= 1
+
+
+def test_attacks_that_changed_are_tried() -> None:
+    changed = [("rb_broker", edit) for edit in attacking.edits_of("rb_broker")[1:3]]
+    tenth, chosen = (attacking.attacks_of_landing(0, them) for them in ((), [*changed, ("rb_broker", "gone.edit")]))
+    assert chosen == {**tenth, "rb_broker": [edit for _, edit in changed]}
+
+
+def test_what_changed_since_the_landing_before(tmp_path: Path, monkeypatch: pytest.MonkeyPatch) -> None:
+    """Each commit writes one file, and those of dev/tenth are stamps of landings. The last file is not committed. Where a
+    crate changed, all its attacks count."""
+    monkeypatch.setattr(attacking, "TOP", str(tmp_path))
+    assert attacking.changed_attacks() == set()
+    git = ["git", "-C", str(tmp_path), "-c", "user.name=n", "-c", "user.email=e"]
+    subprocess.run([*git, "init", "-q"], check=True)
+    landings = ["crates/rb_old/attacks/old.edit", "crates/rb_new/attacks/lies.edit", "crates/rb_late/attacks/stays.edit",
+                "crates/rb_old/src/lib.rt", "dev/tenth", "crates/rb_late/attacks/lies.edit", "crates/rb_late/README.md",
+                "crates/rb_new/proofs/Lib.antt", "dev/tenth", "docs/rb_page/src/page", "crates/rb_now/attacks/cheats.edit"]
+    for at, name in enumerate(landings):
+        file = tmp_path / name
+        file.parent.mkdir(parents=True, exist_ok=True)
+        file.write_text(str(at))
+        subprocess.run([*git, "add", name], check=True)
+        if name != landings[-1]:
+            subprocess.run([*git, "commit", "-qm", name], check=True)
+    assert attacking.changed_attacks() == {("rb_late", "lies.edit"), ("rb_new", "lies.edit"), ("rb_now", "cheats.edit")}
 
 
 @pytest.mark.parametrize("crate", [crate for crate in attacking.USES if Path(TOP, "crates", crate, "attacks").is_dir()])
