@@ -82,6 +82,11 @@ class TakeTest(ArchiveCommandTest):
         events = [line for it in self.files() for line in it.read_bytes().splitlines()[2:-1]]
         self.assertEqual([it.split(b" ", 3)[3] for it in events], [b"size 0"] * 3)
 
+    def test_a_queue_that_nobody_has_joined(self) -> None:
+        """As in a Redis that has lost all, until the first gateway joins it again."""
+        self.assert_prints([], "archive", self.folder)
+        self.assert_archived([])
+
     def test_a_redis_that_is_not_there_yet(self) -> None:
         self.node.kill()
         try:

@@ -89,7 +89,8 @@ class QueueEvents:
     def lost_opening(self) -> int | None:
         """The number of the first event, if those before it went with what they began with, since there were too many."""
         first, dropped = self._queue.command("HMGET", self._queue.state, "cut", "dropped")
-        return None if first != dropped or self._queue.command("EXISTS", self._queue.opening) else int(first)
+        is_lost = dropped is not None and dropped == first and not self._queue.command("EXISTS", self._queue.opening)
+        return int(first) if is_lost else None
 
     def events(self, start: int, count: int) -> list[bytes]:
         """`count` events, from the one that has `start` others in front of it."""
