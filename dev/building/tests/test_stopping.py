@@ -20,7 +20,8 @@ class StoppingTest(CheckoutTest):
         _, errors = started.communicate(timeout=PATIENCE)
         self.assertEqual(started.returncode, -number, errors)
         last = f"broker: the build was stopped by {number.name}; what it has built is kept"
-        self.assertEqual(errors.splitlines()[-1], last)
+        lines = errors.splitlines()
+        self.assertEqual((lines[-1], [it for it in lines if not it.startswith("broker: ")]), (last, []))
         self.assertEqual(self.left_over(), [])
         self.assertEqual(self.made("rb_base", "incremental/builds"), times * "rb_base\n")
 
@@ -28,6 +29,10 @@ class StoppingTest(CheckoutTest):
         for times, (number, is_whole_group) in enumerate(SIGNALS, 1):
             with self.subTest(signal=number.name):
                 self.stops(number, is_whole_group, times)
+
+    def test_ctrl_c_before_the_build_has_begun_is_silent(self) -> None:
+        self.write("dev/building/build.py", "import os, signal\nos.kill(os.getpid(), signal.SIGINT)\n")
+        self.assertEqual(self.build(), (-signal.SIGINT, "", ""))
 
     def test_a_build_that_is_killed_leaves_no_rt_and_the_next_clears_up(self) -> None:
         self.build()
