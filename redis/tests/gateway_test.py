@@ -17,7 +17,7 @@ class GatewayTest(RedisTest):
 
     def serve(self, *options: object) -> Gateway:
         """A gateway whose failed jobs come back at once, with patience for a Redis on a busy machine."""
-        return self.gateway("--delay", 0, "--attempts", 3, "--timeout", "60s", "--grace", 0, *options)
+        return self.gateway("--delay", "0s", "--attempts", 3, "--timeout", "60s", "--grace", "0s", *options)
 
     def talker(
         self, served: Gateway | None = None, *options: object, tls: ssl.SSLContext | None = None

@@ -135,7 +135,7 @@ class FailOverTest(ArchiveCommandTest):
         first, second = self.files()
         self.assertEqual(replay_chains(first, 0, 9), 2)
         self.assertRaisesRegex(AssertionError, "unchained 0 no parent", replay_chains, second, 0, 9)
-        status, said, errors = self.ran_alone("judge", first, second, "--delay", 0, "--attempts", 9, "--program", PROGRAM)
+        status, said, errors = self.ran_alone("judge", first, second, "--delay", "0s", "--attempts", 9, "--program", PROGRAM)
         self.assertEqual((status, errors), (0, ""))
         self.assertRegex(said[0], '^events 0 to 2: .*"offered":2')
 

@@ -89,5 +89,5 @@ class DeadTest(RedisTest):
         unnamed = "name the jobs by their ids, or write --all"
         self.assert_wrong_words(
             "dead", (["--offer"], unnamed), (["--drop", "1", "--all"], unnamed),
-            (["1"], "jobs are chosen for --offer or --drop"), (["--offer", "--drop", "1"], "not allowed with"),
-            (["--drop", "-1"], ""), (["--offer", "1", "--delay", "5x"], "5x is no duration"))
+            (["1"], "ids and --all need --offer or --drop"), (["--offer", "--drop", "1"], "not allowed with"),
+            (["--drop", "-1"], ""), (["--offer", "1", "--delay", "5x"], "'5x' is no duration"))

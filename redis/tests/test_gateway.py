@@ -162,7 +162,7 @@ class EndsTest(GatewayTest):
 
     def test_a_port_that_is_in_use_is_named(self) -> None:
         port = self.serve().port
-        self.assert_refused(3, f"127.0.0.1:{port}: Address already in use", "serve", "--port", port)
+        self.assert_refused(3, f"cannot listen at 127.0.0.1:{port}: Address already in use", "serve", "--port", port)
 
     def test_words_are_refused_in_a_line(self) -> None:
         for words, line in (
@@ -170,8 +170,8 @@ class EndsTest(GatewayTest):
             (["--bind", "0.0.0.0"], "other machines reach 0.0.0.0: serve them over TLS with --cert, or say --plain"),
             (["--key", "x"], "--key and --client-ca need --cert"),
             (["--cert", "nowhere"], "--cert, --key or --client-ca: [Errno 2] No such file or directory"),
-            (["--wait", "5 s"], "argument --wait: 5 s is no duration: write 30s, 2m or 1h (ns, us, ms, s, m, h, d), or"
-                                " nanoseconds"),
+            (["--wait", "5 s"], "argument --wait: '5 s' is no duration: write 30s or 1.5h (units are ns, us, ms, s, m, h,"
+                                " d)"),
             (["--redis", "redis://:secret@127.0.0.1:1"],
              "argument --redis: a password in the command line is seen by others: write --redis @FILE, or"
              " RB_BROKER_REDIS"),

@@ -21,7 +21,7 @@ class JudgeCommandTest(RedisTest):
         self.files = sorted(self.folder.iterdir())
 
     def judge(self, *words: object) -> tuple[int, list[str], str]:
-        return self.ran_alone("judge", *self.files, "--delay", 0, "--attempts", 3, "--program", PROGRAM, *words)
+        return self.ran_alone("judge", *self.files, "--delay", "0s", "--attempts", 3, "--program", PROGRAM, *words)
 
     def refused_alone(self) -> int:
         """How many files are refused if each is judged by itself."""
@@ -136,7 +136,7 @@ class JudgeCommandTest(RedisTest):
         gone = self.files.pop(5)
         status, _, errors = self.judge()
         self.assertEqual(status, 1)
-        self.assertIn(f"{self.files[5]}: it does not begin with what the one before it left\n", errors)
+        self.assertIn(f"{self.files[5]}: it does not begin with what the file before it left\n", errors)
         self.assertTrue(gone.exists())
 
     def test_a_program_that_is_not_there(self) -> None:

@@ -175,7 +175,7 @@ class QueueTest(LoadTest):
         queue = self.queue()
         with self.broken_off(queue, calls=2), self.assertRaises(OSError):
             load(queue, left_by([read_queue(self.history)], [0]))
-        none = f"{self.name}: no load has begun that has not ended"
+        none = f"{self.name}: there is no unfinished load"
         self.assert_prints([f"{self.name}: emptied"], "load", "--abandon")
         self.assert_prints([none], "load", "--abandon")
         self.assert_loaded()
@@ -250,8 +250,8 @@ class RefusalTest(LoadTest):
             self.assert_refused(2, f"{path}: {why}", "load", path, "--began", NINE)
 
     def test_a_run_that_ends_in_the_future(self) -> None:
-        self.assert_refused(1, "the run would have ended at 2200-01-01T00:00:00.000000080Z, which is still to come: look at"
-                            " --began", "load", self.history, "--began", "2200-01-01T00:00:00Z")
+        self.assert_refused(1, "by --began the run would have ended at 2200-01-01T00:00:00.000000080Z, which is in the"
+                            " future", "load", self.history, "--began", "2200-01-01T00:00:00Z")
 
     def test_more_than_an_opening_may_have(self) -> None:
         run = read_queue(self.history)
@@ -261,8 +261,8 @@ class RefusalTest(LoadTest):
             left_by([run, run], [0, 0])
 
     def test_words(self) -> None:
-        uneven = "there is a HISTORY, and a --began for each"
-        dates = {"today": "'today' is no TIME: no date and time", "1795683600": "is no TIME: no date and time",
+        uneven = "name at least one HISTORY, and a --began for each"
+        dates = {"today": "'today' is no TIME: write 2026-11-26T08:00:00Z", "1795683600": "is no TIME: write ",
                  "1969-12-31T23:59:59Z": "is no TIME: it is before 1970",
                  "2026-13-01T00:00:00Z": "is no TIME: month must be in 1..12"}
         self.assert_wrong_words("load", ([], uneven), ([self.history], uneven),

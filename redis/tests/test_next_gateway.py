@@ -22,7 +22,7 @@ IN_HAND, BEHIND = 20, 10
 class NextGatewayTest(GatewayTest):
     def setUp(self) -> None:
         super().setUp()
-        self.ending, self.next = (self.gateway("--delay", 0, "--grace", "60s") for _ in range(2))
+        self.ending, self.next = (self.gateway("--delay", "0s", "--grace", "60s") for _ in range(2))
         self.addresses = f"{HOST}:{self.ending.port},{HOST}:{self.next.port}"
         self.offered: list[str] = []
 

@@ -71,7 +71,7 @@ class UsersTest(RedisTest):
         return self.node.client(username=user, password=ROWS[user].split(" ")[0][1:])
 
     def gateway(self, *options: object) -> Gateway:
-        words = "--attempts", 1, "--delay", 0, "--lease", "1s", *options
+        words = "--attempts", 1, "--delay", "0s", "--lease", "1s", *options
         return self.till_end(Gateway(self.room, self.url("gateway"), self.name, words)).wait()
 
     def serve_once(self, *requests: str) -> None:

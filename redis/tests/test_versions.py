@@ -39,7 +39,7 @@ class VersionsTest(GatewayTest):
         source = SOURCE.replace(f"rb_broker_{VERSION}", f"rb_broker_{later}")
         (package / "broker.lua").write_text(source.replace(f"VERSION = '{VERSION}'", f"VERSION = '{later}'"))
         paths = os.pathsep.join([str(package.parent), os.environ["PYTHONPATH"]])
-        first, second = self.gateway("--delay", 0), self.gateway(PYTHONPATH=paths)
+        first, second = self.gateway("--delay", "0s"), self.gateway(PYTHONPATH=paths)
         ended = threading.Event()
         with ThreadPoolExecutor(CLIENTS) as clients:
             told = [clients.submit(self.work, it, (first.port, second.port), ended) for it in range(CLIENTS)]

@@ -2,10 +2,10 @@
 
 The package contains the program, manual pages, a systemd unit for a service at each port, the tools, the examples,
 the Python packages of clients and of gateways to Redis, and the documents for users. Its sources are in packaging/. The
-program is packed byte for byte as it is; without --program, ./broker first builds it if it has to. The version is the
-repository's: that of its tag, or else the time and the name of the last commit. The same files make the same package.
+tool packs the program byte for byte as it is; without --program, ./broker first builds it if it has to. The version is
+the repository's: its tag, or else the time and the name of the last commit. The same files make the same package.
 
-It needs git and debhelper, and no network. Printed is the path of the package.
+The tool needs git and debhelper, and no network. It prints the path of the package.
 
 Exit status: 0 if the package was made, 2 if it was not; one line on standard error then says why.
 """
@@ -22,7 +22,7 @@ def main() -> int:
     parser = parser_of("tools/package", __doc__)
     parser.add_argument("--program", metavar="PATH", help="the program to pack (default: that of ./broker)")
     parser.add_argument("--output", metavar="FOLDER", default=".", type=Path,
-                        help="where the package goes (default: this folder)")
+                        help="the folder of the package (default: this folder)")
     given = parser.parse_args()
     try:
         print(make_package(Path(built_program(given.program)), given.output))

@@ -2,6 +2,7 @@
 import argparse
 import os
 import shutil
+import signal
 import subprocess
 import sys
 
@@ -19,7 +20,8 @@ def built_program(given: str | None = None) -> str:
     """The path of the program to run: the given one, or this checkout's, which ./broker first builds if it has to, or
     that of the package.
 
-    If that fails, ./broker has said why, and this process exits with status 2, or 130 after Ctrl-C.
+    If that fails, ./broker has said why, and this process exits with status 2, or 130 after Ctrl-C. If this process has
+    killed ./broker, it goes on with its own interrupt.
     """
     if given:
         return given
@@ -29,8 +31,9 @@ def built_program(given: str | None = None) -> str:
     try:
         status = building.wait()
     except KeyboardInterrupt:
-        building.wait()  # Ctrl-C has stopped it too, which it says in its last line
-        sys.exit(130)
+        if building.wait() != -signal.SIGINT:
+            raise
+        sys.exit(130)  # Ctrl-C has stopped it too, which it says in its last line
     if status:
         sys.exit(2)
     return PROGRAM

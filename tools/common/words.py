@@ -55,24 +55,23 @@ def number(kind: Callable[[str], Number], least: Number, most: Number) -> Callab
     """Reads a number from `least` to `most`."""
 
     def read(word: str) -> Number:
-        value = kind(word)
+        try:
+            value = kind(word)
+        except ValueError:
+            raise argparse.ArgumentTypeError(f"{word!r} is no number from {least} to {most}") from None
         if not least <= value <= most:
             raise argparse.ArgumentTypeError(f"{word} is not from {least} to {most}")
         return value
 
-    read.__name__ = kind.__name__  # which argparse names if the word is not a number
     return read
 
 
 def span(word: str) -> int:
-    """Reads the nanoseconds of a time such as 30s. A bare number is refused: it could be seconds or nanoseconds."""
-    if re.fullmatch(r"[0-9.]+", word):
-        raise argparse.ArgumentTypeError(f"{word} has no unit: write {word}s, or {word}ms, us or ns")
+    """Reads the nanoseconds of a time such as 30s."""
     try:
         return read_duration(word)
-    except ValueError:
-        raise argparse.ArgumentTypeError(
-            f"{word!r} is no time: write 30s (ns, us, ms, s, m, h, d), at most 2^64 - 1 ns") from None
+    except ValueError as fault:
+        raise argparse.ArgumentTypeError(str(fault)) from None
 
 
 def exit_status(name: str, work: Callable[[], int]) -> int:

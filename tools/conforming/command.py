@@ -1,25 +1,24 @@
 """Runs case files against a program that speaks the protocol: tools/conform [OPTION ..] [FILE ..] [PROGRAM ..]
 
-FILE .. are case files, whose names end in .case; without one, all of crates/rb_cases/data. PROGRAM .. is a command, to
-which the words of docs/PROTOCOL.md are appended: `PROGRAM script ..`, `PROGRAM replay ..`. All words behind its first
-are its own. Without one, this repository's own program is tested with its four timers. It is built first if it has to
-be, but no case has to be compiled.
+Each FILE is a case file, whose name ends in .case; without one, the tool runs all of crates/rb_cases/data. PROGRAM ..
+is a command, to which the tool appends the words of docs/PROTOCOL.md: `PROGRAM script ..`, `PROGRAM replay ..`. All
+words behind the first one of PROGRAM are its own. Without PROGRAM the tool tests this repository's program with its
+four timers, and first builds it if it has to; no case has to be compiled.
 
-A case gives the words, the input, the replies, the history and the end of a run. How a run ends is its exit status
-and, after a fault, the line on standard error, which may begin with any name. With each timer a script is run three
-times: its input is sent whole, byte by byte, and seven bytes at a time; an input of more than 64 KiB is sent whole,
-and 4,095 bytes at a time. A case passes if all its runs do. The gate runs the same cases in memory, and
-crates/rb_cases/src/case.rt describes how one is written.
+A case gives the words, the input, the replies, the history and the end of a run. The end is the exit status and, after
+a fault, the line on standard error, which may begin with any name. The tool runs a script three times with each timer:
+it sends the input whole, byte by byte, and seven bytes at a time; an input of more than 64 KiB it sends whole, and
+4,095 bytes at a time. A case passes if all its runs do. The gate runs the same cases in memory, and
+crates/rb_cases/src/case.rt describes how to write one.
 
-A few cases need something that a command can't be given, such as a flush that fails. They are skipped. So is a
-case for a single timer, unless the timers are tried, since other programs may give elements of equal expiry in any
-order.
+The tool skips the few cases that need what no command can be given, such as a flush that fails. Unless --timers is
+given, it also skips a case for a single timer, since another program may give elements of equal expiry in any order.
 
-Printed are a line for each case that fails, with the first difference; a line for each case that is skipped, with the
+It prints a line for each case that fails, with the first difference; a line for each case that it skips, with the
 reason; and finally `N passed, M failed, K skipped`.
 
-Exit status: 0 if M is 0, 1 if it is not, and 2 if an argument is wrong, a file is malformed, which a line tells with
-its number, no case is chosen, or the program can't be run.
+Exit status: 0 if M is 0, 1 if it is not, 2 if an argument is wrong, no case is chosen, the program can't be run, or a
+file is malformed; one line then says why, with the line of the file.
 """
 import argparse
 import collections
@@ -66,11 +65,12 @@ def conform(program: Program, cases: list[Case], timers: list[str]) -> int:
 
 def main() -> int:
     parser = parser_of("tools/conform", __doc__, "%(prog)s [OPTION ..] [FILE ..] [PROGRAM ..]")
-    parser.add_argument("words", nargs=argparse.REMAINDER, metavar="FILE .. PROGRAM ..", help="files, then the command")
+    parser.add_argument("words", nargs=argparse.REMAINDER, metavar="FILE .. PROGRAM ..",
+                        help="case files, then a command")
     parser.add_argument("--timers", action="store_true", help="runs each script with each of `--timer` "
                         f"{', '.join(TIMERS)} (default: only this repository's program)")
-    parser.add_argument("--only", default="", metavar="WORD", help="only cases that have this in their name or their "
-                        "file's")
+    parser.add_argument("--only", default="", metavar="WORD", help="only cases that have this word in their name, or "
+                        "in their file's name")
     given = parser.parse_args()
     files = [*takewhile(lambda word: word.endswith(".case"), given.words)]
     command = given.words[len(files):]
@@ -81,7 +81,7 @@ def main() -> int:
                  if given.only in case.name or given.only in case.file]
     except (Malformed, OSError) as fault:
         says = f"{fault.filename}: {fault.strerror}" if isinstance(fault, OSError) else fault
-        print(says, file=sys.stderr)
+        print(f"conform: {says}", file=sys.stderr)
         return 2
     if not cases:
         parser.error(f"no case has {given.only!r} in its name")

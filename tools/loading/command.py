@@ -1,20 +1,20 @@
 """Puts a running server under load: tools/load --port P [OPTION ..]
 
-Each client is one session. It offers elements at a steady rate, `--rate` a second for all clients together. In between
-it asks for jobs, fails a share of them and finishes the others. If replies come late it offers late, but skips no
-offer. After `--seconds` the clients leave; what is still in the queue stays there.
+Each client is one session. Together the clients offer `--rate` elements a second. Between two offers a client asks for
+jobs, fails a share of them (`--fail`) and finishes the others. A client whose replies come late offers late, but skips
+no offer. After `--seconds` the clients leave, and the elements that are still in the queue stay there.
 
 The server needs as many `--workers` and `--sessions` as there are clients: a client beyond the workers does nothing
-until another one leaves. It also needs `--calls`: one for each offer, each job, each failure that comes back, and each
-time that no job came before the next offer was due. The clients take any job they find, so the server should have no
-other clients.
+until another one leaves. It also needs `--calls`: one for each offer, each job, each failed job that comes back, and
+each time that no job came before the next offer was due. The clients take any job they find, so the server should have
+no other clients.
 
-At the end a summary is printed: how many of the offers that were due were made, the rates, what became of the jobs, how
-late they were, from their expiry until the client had them, the calls as the server's audit counts them, and the errors
-by kind. Lateness is measured by the server's clock, as the replies to offers show it.
+At the end the tool prints a summary: how many of the due offers were made, the rates, what became of the jobs, how late
+they were (from their expiry until the client had them), the calls as the server's audit counts them, and the errors by
+kind. It measures lateness by the server's clock, which the replies to offers show.
 
-With --record FILE gets a line for each request, with its reply and the times of both, which `tools/verify` reads. The
-clients then make fewer requests a second.
+With --record the tool writes a line for each request, with its reply and the times of both, for `tools/verify` to read.
+The clients then make fewer requests a second.
 
 Exit status: 0 if there was no error, 1 if there was one or nothing listens on the port, 2 if an argument is wrong.
 """
@@ -40,7 +40,7 @@ def connected(port: int, record: TextIO | None) -> Broker:
     try:
         return Broker(port, patience=CONNECTING, record=record)
     except OSError as fault:
-        raise OSError(f"no connection to 127.0.0.1:{port}: {fault}") from None
+        raise OSError(f"no connection to 127.0.0.1:{port}: {fault.strerror or fault}") from None
 
 
 def run(given: argparse.Namespace) -> int:
@@ -66,13 +66,16 @@ def main() -> int:
     parser = parser_of("tools/load", __doc__, "%(prog)s --port P [OPTION ..]")
     add = parser.add_argument
     add("--port", type=number(int, 1, 65_535), required=True, metavar="P", help="the server's port on 127.0.0.1")
-    add("--clients", type=number(int, 1, 100), default=4, metavar="N", help="1 to 100 (default: 4)")
-    add("--rate", type=number(float, 0.01, 1e6), default=100.0, metavar="N",
+    add("--clients", type=number(int, 1, 100), default=4, metavar="N", help="how many clients, 1 to 100 (default: 4)")
+    add("--rate", type=number(float, 0.01, 1_000_000), default=100.0, metavar="N",
         help="offers a second of all clients together, 0.01 to 1,000,000 (default: 100)")
-    add("--delay", type=span, default=0, metavar="TIME", help="until an element expires, such as 2s (default: 0s)")
-    add("--fail", type=number(float, 0, 1), default=0.0, metavar="SHARE", help="of the jobs, 0 to 1 (default: 0)")
-    add("--seconds", type=number(float, 0.1, 86_400), default=10.0, metavar="N", help="0.1 to 86,400 (default: 10)")
-    add("--record", metavar="FILE", help="writes what the clients sent and were answered")
+    add("--delay", type=span, default=0, metavar="TIME",
+        help="how long after its offer an element expires, such as 2s (default: 0s)")
+    add("--fail", type=number(float, 0, 1), default=0.0, metavar="SHARE",
+        help="the share of the jobs that fail, 0 to 1 (default: 0)")
+    add("--seconds", type=number(float, 0.1, 86_400), default=10.0, metavar="N",
+        help="how many seconds the clients stay, 0.1 to 86,400 (default: 10)")
+    add("--record", metavar="FILE", help="writes each request and its reply to this file")
     given = parser.parse_args()
     try:
         return run(given)

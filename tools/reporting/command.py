@@ -1,27 +1,27 @@
 """Reports on histories: tools/report HISTORY .. [--job ORIGIN | PAYLOAD] [--html PAGE] [--began TIME] [--attempts N]
 
 A HISTORY is a text that `rb_broker` wrote with --history, in any of the three versions, compressed if its name ends in
-.gz. Several are runs of which each continues the one before, as --from does; they may be named in any order, and none
-may be missing. Printed are the calls by kind, how deep the queue was, how late elements were given, attempts, jobs that
-were offered again or given latest, and what looks wrong. With --job the life of the job of this origin or payload is
-printed instead, or a list if there are several. With --html the file PAGE is written too: one page for a browser, with
+.gz. Several are runs, each of which continues the previous one, as --from does; name them in any order, and leave none
+out. The report has the calls by kind, how deep the queue was, how late elements were given, attempts, jobs that were
+offered again or given latest, and what looks wrong. With --job the tool prints the life of the job of this origin or
+payload instead, or a list if there are several. With --html it also writes the file PAGE: one page for a browser, with
 plots, tables, and the life of a job by its origin or payload.
 
---began tells when the first run began; moments are then shown as dates in UTC. A TIME is a date such as
-2026-11-26T08:00:00Z, without a zone in UTC, or seconds since 1970, such as @1795680000. Moments of runs that --from
-continued leave out the time between two runs, so dates of later runs are too early by it; those of tools/service count
-it. `--began dates` is for an archive of a queue on Redis, whose moments are dates.
+--began says when the first run began; the report then shows moments as dates in UTC. A TIME is a date such as
+2026-11-26T08:00:00Z, in UTC unless it names a zone, or seconds since 1970, such as @1795680000. The moments of runs
+that --from continued leave out the time between two runs, so the dates of later runs are too early by that time; the
+moments of tools/service count it. Say `--began dates` for an archive of a queue on Redis, whose moments are dates.
 
-With --attempts, the option of the run, the jobs that were given their last attempt are listed: they are done or dead,
-which no history tells apart. `rb_broker replay --chains` tells whether all returns are right.
+With --attempts, the option of the run, the report lists the jobs that were given their last attempt. Whether such a job
+was done or died, no history says. `rb_broker replay --chains` says whether all jobs came back as the options ask.
 
 Up to 1,000,000 events take some seconds and, with short payloads, at most 200 MB. A series takes memory for all its
 runs. If standard error is a terminal, a report that takes longer than two seconds shows its progress there. The report
-trusts the order in which elements were given; `rb_broker replay` checks whether that was right.
+trusts the order in which elements were given; `rb_broker replay` checks whether that order was right.
 
-Exit status: 0; 1 if a history is damaged, or does not continue the one before, in which case one line says what is
-wrong and where, or if there is no such job; 2 if an argument is wrong, a file can't be read or written, or there is not
-enough memory.
+Exit status: 0; 1 if a history is damaged or does not continue the previous one, where one line says what is wrong and
+in which line of the text, or if there is no such job; 2 if an argument is wrong, a file can't be read or written, or
+there is not enough memory.
 """
 import argparse
 import os
@@ -101,18 +101,19 @@ def time(word: str) -> int | None:
     """The date, or nothing where moments are dates."""
     try:
         return None if word == "dates" else nanoseconds_of(word)
-    except ValueError:
-        raise argparse.ArgumentTypeError(f"{word!r} is no TIME") from None
+    except ValueError as fault:
+        raise argparse.ArgumentTypeError(f"{word!r} is no TIME: {fault}") from None
 
 
 def main() -> int:
     parser = parser_of("tools/report", __doc__)
     parser.add_argument("histories", metavar="HISTORY", nargs="+", help="the text of a history")
-    parser.add_argument("--html", metavar="PAGE", help="the file that gets the page")
+    parser.add_argument("--html", metavar="PAGE", help="writes the page to this file")
     parser.add_argument("--job", metavar="WORD", help="prints the life of the job of this origin or payload")
     parser.add_argument("--began", metavar="TIME", type=time, default=argparse.SUPPRESS,
                         help="when the first run began, or `dates`")
-    parser.add_argument("--attempts", metavar="N", type=number(int, 1, 1000), help="how many attempts a job had")
+    parser.add_argument("--attempts", metavar="N", type=number(int, 1, 1000),
+                        help="how many attempts a job had, 1 to 1000")
     options = parser.parse_args()
     if options.html and os.path.exists(options.html):
         if any(os.path.exists(history) and os.path.samefile(options.html, history) for history in options.histories):

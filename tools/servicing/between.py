@@ -24,7 +24,7 @@ def resumed(parts: Parts) -> Current | Next:
     if last is None:
         return _first(parts)
     if settings.begin_with:
-        raise Unusable(f"--from begins an empty folder, and {parts.folder.path} has runs")
+        raise Unusable(f"--from needs an empty folder, and {parts.folder.path} has runs")
     kept = parts.memory.found(last.number)
     server = Server(parts.memory, last.number, kept) if kept else None
     if server is not None and server.input is None:
@@ -71,7 +71,7 @@ def _await_end(parts: Parts, server: Server) -> None:
         say("info", "waiting", run=server.run, clients="the server")
     while not server.has_ended:
         if parts.signals.count:
-            raise LeftBehind(f"the server of run {server.run} ends; start the service again to save its history")
+            raise LeftBehind(f"the server of run {server.run} has not ended yet; start the service again to save its history")
         parts.signals.wait(LOOK)
 
 

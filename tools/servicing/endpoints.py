@@ -26,14 +26,14 @@ JOBS = "/jobs"
 
 def serve_pages(board: Board, folder: str, http: tuple[str, int] | None, allows_changes: bool = False) -> None:
     """Shows what is on a board at the socket of a folder, and at an address if there is one. Raises an `Unusable` if
-    that can't be had."""
+    nothing can listen there."""
     board.token = secrets.token_urlsafe() if allows_changes else ""
     answer, posted = functools.partial(answer_of, board, folder), functools.partial(change, board)
     if http:
         try:
             HttpServer(http, answer, posted)
         except OSError as fault:
-            raise Unusable(f"--http {http[0]}:{http[1]}: {fault.strerror}") from None
+            raise Unusable(f"--http: cannot listen at {http[0]}:{http[1]}: {fault.strerror}") from None
         if not is_loopback(http[0]):
             say("warning", "pages", text=f"{http[0]} is not a loopback address: whoever can reach it can read what the "
                 "page shows, and payloads in reports, without a password or encryption; "

@@ -145,7 +145,10 @@ def checked(program: str, history: int, policy: Sequence[str]) -> Checked:
         raise Damaged((said + errors).strip() or f"status {replay.returncode}")
     if left is None:
         raise Damaged("it is no history of the third version")
-    return Checked(json.loads(said), left, digest)
+    try:
+        return Checked(json.loads(said), left, digest)
+    except ValueError:
+        raise Damaged(f"{program} replay prints no audit") from None
 
 
 def checked_file(program: str, path: str, policy: Sequence[str] = ()) -> Checked:

@@ -15,7 +15,7 @@ from servicing.opening import NoIdsLeft
 from servicing.parts import AGAIN, Parts
 from servicing.runs import Next, Runs
 from servicing.saying import Signals, notify, say
-from servicing.server import NotStarted, Server, made
+from servicing.server import Damaged, NotStarted, Server, checked_file, made
 from servicing.settings import Settings
 from servicing.publisher import Publisher
 from servicing.state import Board, Phase, Reason
@@ -40,7 +40,7 @@ def serve(settings: Settings, folder: Folder, board: Board, signals: Signals) ->
 
 
 def _serve(parts: Parts) -> None:
-    door, found, before = parts.memory.door(), resumed(parts), None
+    door, found, before = _handed(parts), resumed(parts), None
     with door or _bound(parts.settings.port) as door:
         while not before or not parts.signals.count:
             current = found if isinstance(found, Current) else _started(parts, door, found, before)
@@ -55,12 +55,25 @@ def _serve(parts: Parts) -> None:
             before.next_own.withdraw(door)
 
 
+def _handed(parts: Parts) -> socket.socket | None:
+    """The socket at which systemd listens, if there is one. Raises an `Unusable` unless it is at the service's port."""
+    door, place = parts.memory.door(), (HOST, parts.settings.port)
+    if door is not None and door.getsockname() != place:
+        raise Unusable(f"systemd listens at {_shown(door.getsockname())} for this service, not at {_shown(place)}")
+    return door
+
+
+def _shown(place: object) -> str:
+    """The address of a socket, such as 127.0.0.1:7011."""
+    return ":".join(map(str, place)) if isinstance(place, tuple) else str(place)
+
+
 def _bound(port: int) -> socket.socket:
     """A socket at which clients connect, whatever becomes of servers. Raises an `Unusable`."""
     try:
         return socket.create_server((HOST, port), backlog=ROOM)
     except OSError as fault:
-        raise Unusable(f"port {port} can't be had: {os.strerror(fault.errno or 0)}") from None
+        raise Unusable(f"cannot listen at port {port}: {os.strerror(fault.errno or 0)}") from None
 
 
 def _say_serving(parts: Parts, current: Current, before: Current | None) -> None:
@@ -117,9 +130,20 @@ def _listening(
         while not server.listens:
             parts.signals.wait(POLL, server.input)
             if server.has_ended and not server.listens:
-                raise NotStarted(server.last_line or "its process has ended")
+                raise NotStarted(_why_ended(server, parts.settings.program, file))
     except NotStarted:
         parts.runs.drop(record)
         server.close()
         raise
     return Current(parts, record, server, opening.first_aside, before.next_own if before else None)
+
+
+def _why_ended(server: Server, program: str, opening: str) -> str:
+    """Why a server did not listen: its last line, and what `replay` says of its opening if that is the reason."""
+    why = server.last_line or "its process has ended"
+    if why.endswith(": bad opening"):
+        try:
+            checked_file(program, opening)
+        except Damaged as fault:
+            return f"{why}: `rb_broker replay` says of {os.path.basename(opening)}: {fault}"
+    return why

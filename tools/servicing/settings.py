@@ -57,7 +57,7 @@ def _option(
     help: str, read: Callable[[str], Any], default: Any = None, metavar: str | None = "TIME", **more: Any
 ) -> Any:
     """An option, named as its field is unless it has a `flag`. Its default is told behind its help."""
-    told = f"{help} ({default})" if default is not None else help
+    told = f"{help} (default: {default})" if default is not None else help
     return field(metadata={"help": told, "type": read, "default": default, "metavar": metavar, **more})
 
 
@@ -66,40 +66,43 @@ class Settings:
     """How the service is to run. Spans are nanoseconds."""
 
     port: int = _option("the port on 127.0.0.1", number(int, 1, 65_535), 7011, "P")
-    folder: str = _option("where the runs are kept (~/.local/state/rb_broker/PORT)", _path, None, "DIR")
-    program: str = _option("the program that serves (that of ./broker)", program_named, None, "PATH")
+    folder: str = _option("the folder of the runs (default: ~/.local/state/rb_broker/PORT)", _path, None, "DIR")
+    program: str = _option("the program that serves (default: that of ./broker)", program_named, None, "PATH")
     begin_with: str | None = _option(
         "begins an empty folder with what this history left", _path, None, "HISTORY", flag="--from", dest="begin_with")
     accept_loss: int | None = _option(
-        "goes on though what run N did is gone or was changed", number(int, 1, 999_999_999), None, "N")
+        "continues without run N, whose history or record is missing or changed", number(int, 1, 999_999_999), None,
+        "N")
     workers: int = _option("clients served at once, 1 to 16", number(int, 1, 16), 16, "N")
-    sessions: int = _option("sessions of a run, 1 to 10000", number(int, 1, 10_000), 10_000, "N")
-    calls: int = _option("calls of a run, 1 to 1000000", number(int, 1, 1_000_000), 1_000_000, "N")
-    wait: int = _option("how long a TAKE or POLLFOR waits at most, %(type)s", _span("0s", "20000s"), "1s")
-    delay: int = _option("how long after a failure the job comes back", _span("0s", "213503d"), "30s")
-    rate: int | None = _option("instead: the time from one attempt's expiry to the next", _span("0s", "213503d"))
-    attempts: int = _option("attempts of a job, 1 to 1000", number(int, 1, 1000), 20, "N")
+    sessions: int = _option("sessions in a run, 1 to 10000", number(int, 1, 10_000), 10_000, "N")
+    calls: int = _option("calls in a run, 1 to 1000000", number(int, 1, 1_000_000), 1_000_000, "N")
+    wait: int = _option("the longest that a TAKE or POLLFOR waits, %(type)s", _span("0s", "20000s"), "1s")
+    delay: int = _option("a failed job comes back this long after it failed", _span("0s", "213503d"), "30s")
+    rate: int | None = _option(
+        "instead of --delay: the time from one attempt's expiry to the next", _span("0s", "213503d"))
+    attempts: int = _option("attempts that a job has, 1 to 1000", number(int, 1, 1000), 20, "N")
     timer: str = _option(
-        "how the next element is found", str, "heap", None, choices=["list", "heap", "pairing", "wheel"])
+        "the structure that finds the next element", str, "heap", None, choices=["list", "heap", "pairing", "wheel"])
     every: int = _option(
-        "after how long a run's end begins; a killed server loses its run, %(type)s", _span("1s", "30d"), "5m")
+        "how long a run goes on before its end begins, %(type)s; a killed server loses its run", _span("1s", "30d"),
+        "5m")
     stop_within: int = _option(
-        "how long a run's end waits for clients that hold jobs, before it ends their sessions, %(type)s",
+        "how long a run's end waits for clients that hold jobs before it ends their sessions, %(type)s",
         _span("1s", "1h"), "60s")
     turn_within: int = _option(
-        "how long a client waits for a worker before a run ends early, so that those who wait have theirs, %(type)s",
+        "how long a client waits for a worker before the run ends early to free one, %(type)s",
         _span("1s", "1d"), "15s")
     silent: int = _option(
-        "ends sessions over which nothing came or went for so long, so no job may run longer, %(type)s",
+        "ends a session over which nothing came or went for this long, so no job may run longer, %(type)s",
         _span("1s", "1d"), "10m")
     away: int = _option(
-        "the longest that the machine may have been off; the service waits while its date tells of more, %(type)s",
+        "the longest that the machine may have been off; while its date says more, no run begins, %(type)s",
         _span("1s", "36500d"), "30d")
     keep: Keep = _option("how many old runs are kept, or for how long", _keep, "7d", "N|TIME")
     http: tuple[str, int] | None = _option(
-        "serves a page, /metrics and /health there (nowhere)", _address, None, "HOST:PORT")
+        "serves a page, /metrics and /health at this address (default: nowhere)", _address, None, "HOST:PORT")
     allow_changes: bool = field(default=False, metadata={
-        "help": "lets whoever sees the page end the run there", "action": "store_true"})
+        "help": "lets anyone who sees the page end the run there", "action": "store_true"})
 
     @property
     def policy(self) -> tuple[str, ...]:
@@ -123,9 +126,9 @@ def parser(doc: str | None) -> argparse.ArgumentParser:
         told = {**it.metadata}
         add = retry.add_argument if it.name in ("delay", "rate") else made.add_argument
         add(told.pop("flag", f"--{it.name.replace('_', '-')}"), **told)
-    made.add_argument("--status", action="store_true", help="prints the status of the service of the folder")
+    made.add_argument("--status", action="store_true", help="prints the status of the folder's service")
     made.add_argument("--acknowledge", action="store_true",
-                      help="ends the alerts of the service of the folder that a run, or jobs, were lost")
+                      help="ends the alerts of the folder's service about lost runs and lost jobs")
     return made
 
 

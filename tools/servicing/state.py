@@ -223,7 +223,7 @@ class Board:
         served for so long."""
         state, alerts = self._state, []
         if time.monotonic() - self._put > LONGEST:
-            alerts.append(Alert(STALE, f"the service has found nothing for {LONGEST:g} seconds", state.at))
+            alerts.append(Alert(STALE, f"the service has told nothing new for {LONGEST:g} seconds", state.at))
         if state.closed_since is not None and time.time() - state.closed_since > CLOSED:
             alerts.append(Alert(CLOSED_LONG, f"no new client is served for {CLOSED:g} seconds", state.closed_since))
         return replace(state, alerts=(*state.alerts, *alerts)) if alerts else state

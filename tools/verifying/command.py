@@ -1,28 +1,30 @@
 """Compares a history with what its clients sent and received: tools/verify HISTORY .. RECORD .. [OPTION ..]
 
-HISTORY is the text that a server wrote with --history, compressed if its name ends in .gz. Several are files of which
-each continues the one named before it. A RECORD has what clients sent and received, one JSON object on each line, as
+A HISTORY is the text that a server wrote with --history, compressed if its name ends in .gz. Several are files, each of
+which continues the one named before it. A RECORD has what clients sent and received, one JSON object on each line, as
 `tools/load --record` and the Python package write it. docs/HISTORY.md describes both. All records must come from the
 machine on which the server ran, and from that run alone. `rb_broker replay` says whether the history is legal; this
-tool says whether it is that of these clients:
+tool says whether it is the history of these clients:
 
   - each reply is one that its request may get, and its call is in the history once;
   - a session's calls are all at one seat, in the order of its requests, with nothing between them;
   - the history keeps the order of real time: a call whose reply had come before another was sent comes before it.
 
-A session whose replies name no element may fit at several places. Up to 500 places are tried for each such session
-before a fault is reported. If very many such sessions run at the same time, a reported fault may be wrong. So may be a
-fault of the kinds `return`, `unrecorded` and `time` at a seat where such a session follows a request without a reply.
+A session whose replies name no element may fit at several places in the history. The tool tries up to 500 places for
+each such session before it reports a fault. If very many such sessions run at the same time, a reported fault may be
+false. So may a fault of the kinds `return`, `unrecorded` and `time` at a seat where such a session follows a request
+without a reply.
 
-With --shards the HISTORY files are those of an archive of one name over N queues on Redis, NAME.K-NUMBER.txt; replies
-that name no element which came or left are then not compared. With --leases a session may end before its client leaves.
+With --shards the HISTORY files are those of an archive of one name over N queues on Redis, NAME.K-NUMBER.txt; the tool
+then does not compare replies that name no element which came or left. With --leases a session may end before its client
+leaves.
 
-Printed are the first ten faults of each kind, each with its record, line and session, then how much was compared, and
-a sentence for each kind with the number of its faults. Events of clients without a record are counted; with --all they
-are faults.
+The tool prints the first ten faults of each kind, each with its record, line and session, then how much it compared,
+and a sentence for each kind with the number of its faults. It counts events of clients without a record; with --all
+they are faults.
 
-1,000,000 events take half a minute and 250 MB. Exit status: 0 if there is no fault, 1 if there is one, 2 if an
-argument is wrong, or a file can't be read, or is neither a history nor a record: one line then says which and where.
+1,000,000 events take half a minute and 250 MB. Exit status: 0 if there is no fault, 1 if there is one, 2 if an argument
+is wrong, or if a file can't be read or is neither a history nor a record; one line then says which file, and where.
 """
 import argparse
 import os
@@ -92,10 +94,10 @@ def verify(options: argparse.Namespace) -> int:
 def main() -> int:
     parser = parser_of("tools/verify", __doc__)
     add = parser.add_argument
-    add("history", metavar="HISTORY", help="a history; those that continue it may follow")
+    add("history", metavar="HISTORY", help="a history; histories that continue it may follow")
     add("records", metavar="RECORD", nargs="+", help="what clients sent and received")
     add("--all", action="store_true", help="the records are those of all clients of the run")
-    add("--leases", action="store_true", help="sessions may end with the lease of a gateway on Redis")
+    add("--leases", action="store_true", help="a session may end with the lease of its gateway on Redis")
     add("--shards", metavar="N", type=number(int, 1, MOST_SHARDS), default=1,
         help="the histories are those of N queues")
     options = parser.parse_args()

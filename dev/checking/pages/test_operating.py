@@ -189,7 +189,7 @@ def test_tls(served: Service, tmp_path: Path) -> None:
     assert (ran.returncode, ran.stdout) == (0, "SIZE 0\n"), ran
 
 
-TAKEN = ".. is in use by the service of process ..", "port .. can't be had: Address already in use"
+TAKEN = ".. is in use by the service of process ..", "cannot listen at port ..: Address already in use"
 
 
 def ends() -> list[tuple[str, str]]:

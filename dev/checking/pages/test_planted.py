@@ -18,7 +18,7 @@ REDIS, JAVA, PYTHON = "redis/README.md", "clients/java/README.md", "clients/pyth
 PLANTED = [
     (OPERATING, "| `--delay TIME` | 30s |", "| `--delay TIME` | 31s |", "test_a_default_of_the_service"),
     (OPERATING, "event=not-listening", "event=not-heard", "test_the_events_of_a_service"),
-    (OPERATING, "`port .. can't be had", "`port .. is occupied", "test_the_lines_of_a_service_that_ends"),
+    (OPERATING, "`cannot listen at port", "`cannot serve at port", "test_the_lines_of_a_service_that_ends"),
     (PROTOCOL, "`cannot start worker`", "`cannot begin worker`", "test_the_faults_of_a_run"),
     (PROTOCOL, "| 3 | `cannot read input`", "| 1 | `cannot read input`", "test_the_faults_of_a_run"),
     (PROTOCOL, "`ERR 5 not-held` | `DONE`", "`ERR 5 unheld` | `DONE`", "test_the_refusals_of_requests"),

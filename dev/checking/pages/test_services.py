@@ -141,4 +141,5 @@ def test_the_default_port_and_delay() -> None:
     port, seconds = re.search(r"^serves 127\.0\.0\.1:(\d+)\b.* comes back after (\d+) seconds", text, re.M).groups()
     told = subprocess.run([sys.executable, "-B", f"{TOP}/tools/service", "--help"], capture_output=True, text=True,
                           check=True).stdout
-    assert f"({port})" in told and re.search(rf"--delay TIME .*\({seconds}s\)", told)
+    told = " ".join(told.split())
+    assert f"(default: {port})" in told and re.search(rf"--delay TIME [^()]*\(default: {seconds}s\)", told)

@@ -20,7 +20,7 @@ class Alarm:
     def __init__(self, loop: asyncio.AbstractEventLoop, rings: Callable[[], None]) -> None:
         descriptor = _LIBC.timerfd_create(time.CLOCK_MONOTONIC, os.O_NONBLOCK | os.O_CLOEXEC)
         if descriptor < 0:
-            raise OSError(ctypes.get_errno(), "no timer is to be had")
+            raise OSError(ctypes.get_errno(), "the system gives no timer")
         self._timer, self._rings = os.fdopen(descriptor, "rb", 0), rings
         loop.add_reader(self._timer, self._expired)
 

@@ -20,26 +20,27 @@ from .words import Parser, add_command, add_queue_words, duration, queues_in, wh
 
 SOON = 10.0  # seconds after which something is tried again that failed
 
-ABOUT = """takes the events of a queue out of the Redis, into files
+ABOUT = """moves the events of a queue from the Redis into files
 
-A file NAME-NUMBER.txt is a history: its NUMBER is that of its first event, and it begins with the elements that the
-file before it left. It is written and synced before its events are taken out of the Redis, so a kill at any moment
-loses none. Leave the last file in the folder: the next one begins where it ends. One process at a time writes to a
+A file NAME-NUMBER.txt is a history: NUMBER is that of its first event, and it begins with the elements that the file
+before it left. The file is written and synced before its events are taken out of the Redis, so a kill at any moment
+loses none. Leave the last file in the folder: the next one begins where it ends. Only one process at a time writes to a
 folder.
 
-A job that is in hand may still come back, and its return belongs in the file with the event that gave it. So the latest
-events stay in the Redis until it is known what becomes of their jobs. If twice --events are there and no good place for
-a cut, the best one is taken, and a line says that only `judge` takes the next file. Either takes one policy, so it
-refuses a file within which --change-policy changed that: take the events out before, while no job is in hand.
+A job in hand may still come back, and its return belongs in the file with the event that gave it. So the latest events
+stay in the Redis until it is known what becomes of their jobs. If twice --events are there without a good place to cut,
+the file ends at the best place there is, and a line says that only `judge` accepts the next file. `judge` and `replay
+--chains` take one policy, so they refuse a file within which --change-policy changed it: before such a change take the
+events out, while no job is in hand.
 
-If the Redis itself comes back without events that are in a file already, that file is renamed to NAME-NUMBER.lost-1,
-and the history goes on with what the Redis has. If it, or a replica that takes over, has lost only that a job was done,
-the job comes back behind the file with the event that gave it: then too only `judge` takes the file with its return.
+If the Redis comes back without events that are already in a file, that file is renamed to NAME-NUMBER.lost-1, and the
+history goes on with what the Redis has. If the Redis, or a replica that takes over, has lost only that a job was done,
+the job comes back behind the file with the event that gave it: then, too, only `judge` accepts the file of its return.
 
-Without --every it ends once the events that are there are taken. With --every it goes on until SIGTERM, and what goes
-wrong is said and tried again.
+Without --every the command ends once it has taken the events that are there. With --every it goes on until SIGTERM; if
+something goes wrong, it says so and tries again.
 
-Status: 0; 1 if the files and the Redis do not go together, or another process writes to the folder; 2 if a word is
+Status: 0; 1 if the files and the Redis do not fit together, or another process writes to the folder; 2 if a word is
 wrong or a file can't be written; 3 if the Redis can't be reached.
 """
 
@@ -47,13 +48,15 @@ wrong or a file can't be written; 3 if the Redis can't be reached.
 def add_to(commands: argparse._SubParsersAction[Parser]) -> None:
     """Adds the command."""
     parser = add_command(commands, "archive", ABOUT, run)
-    parser.add_argument("folder", metavar="FOLDER", type=Path, help="where the files are; it is made if it is not there")
+    parser.add_argument("folder", metavar="FOLDER", type=Path,
+                        help="the folder of the files, which is made if it is missing")
     add_queue_words(parser)
     parser.add_argument("--events", metavar="N", type=whole(1, MOST_EVENTS), default=MOST_EVENTS,
-                        help=f"of a file at most (default: {MOST_EVENTS}, which is the most)")
-    parser.add_argument("--every", metavar="TIME", type=duration, help="goes on, and takes what is there that often: 10m")
+                        help=f"how many events a file has at most, 1 to {MOST_EVENTS} (default: {MOST_EVENTS})")
+    parser.add_argument("--every", metavar="TIME", type=duration,
+                        help="takes the events again and again, this often, such as 10m")
     parser.add_argument("--anew", action="store_true",
-                        help="gives up the events that are there, and begins a new series with the queue as it is")
+                        help="gives up the events that are there, and begins new files with the queue as it is")
 
 
 def run(asked: argparse.Namespace) -> int:

@@ -1,4 +1,4 @@
-"""rb_broker's line protocol over queues that stand in a Redis: python3 -m rb_broker_redis COMMAND .."""
+"""The line protocol of rb_broker, over queues in a Redis: python3 -m rb_broker_redis COMMAND .."""
 from __future__ import annotations
 
 import logging

@@ -16,8 +16,9 @@ CHUNK = 1_000  # dead jobs that are read at a time
 
 ABOUT = """lists the jobs whose last attempt failed, offers them again or drops them
 
-Without --offer or --drop a line for each job has the id of its last attempt, when that failed, its number, and the
-payload. A job that is offered again is a new one: it gets a new id, and begins with its first attempt.
+Without --offer or --drop the command prints a line for each job: the id of its last attempt, when that attempt failed,
+its number, and the payload. A job that is offered again is a new one: it gets a new id, and begins with its first
+attempt.
 
 Status: 0; 1 if an ID is that of no dead job, or an offer is refused; 2 if a word is wrong; 3 if the Redis can't be
 reached.
@@ -32,15 +33,16 @@ def add_to(commands: argparse._SubParsersAction[Parser]) -> None:
     what = parser.add_mutually_exclusive_group()
     what.add_argument("--offer", action="store_true", help="offers the jobs again")
     what.add_argument("--drop", action="store_true", help="forgets the jobs")
-    parser.add_argument("--all", action="store_true", help="all dead jobs, in place of ids")
-    parser.add_argument("--delay", metavar="TIME", type=duration, default=0, help="of the new offers: 30s (default: 0s)")
+    parser.add_argument("--all", action="store_true", help="offers or drops all dead jobs, instead of those of ids")
+    parser.add_argument("--delay", metavar="TIME", type=duration, default=0,
+                        help="how long after the offer the jobs expire, such as 30s (default: 0s)")
 
 
 def run(asked: argparse.Namespace) -> int:
     """Lists the jobs, or does something with them."""
     if not asked.offer and not asked.drop:
         if asked.ids or asked.all:
-            asked.parser.error("jobs are chosen for --offer or --drop")
+            asked.parser.error("ids and --all need --offer or --drop")
         return _list(asked)
     if bool(asked.ids) == asked.all:
         asked.parser.error("name the jobs by their ids, or write --all")

@@ -19,16 +19,17 @@ from .words import Parser, add_command, add_policy_words, policy_in, whole
 
 ABOUT = """lets `rb_broker replay --chains` judge the files of an archive as one history
 
-FILES are those of one queue, in any order; each has to begin with what the one before it left. They are put together,
-and judged in as few pieces as `replay` can take, which is 1,000,000 events each. A piece ends where the fewest jobs
-cross.
+Name the FILEs of one queue, in any order; each has to begin with what the one before it left. The command puts them
+together and has them judged in as few pieces as `replay` can take, of 1,000,000 events each. It cuts where the fewest
+jobs cross.
 
-A job that was given before its piece, and comes back in it, is given once more at the piece's beginning. That can't be
-where an element of the queue is earlier: then the chains of the piece are not judged, and a line says so. If the queue
-has more than 1,000,000 elements, those that no event of the piece names are left out, but for the earliest, which shows
-whatever is wrong because of a later one; sizes are told without them. So each text is legal just if the piece is.
+If a job was given before its piece and comes back in it, the piece begins by giving it once more. Where another element
+would have to be given first, that is impossible: then the chains of the piece are not judged, and a line says so. If
+the queue has more than 1,000,000 elements, the piece leaves out those that none of its events names, except the
+earliest, which shows whatever is wrong because of a later one; sizes are counted without them. So the text of a piece
+is legal exactly if the piece is.
 
-Status: 0; 1 if a history is refused, or the files do not follow one another; 2 if a word is wrong or a file can't be
+Status: 0; 1 if a history is refused, or the files do not continue one another; 2 if a word is wrong or a file can't be
 read; 3 if there is no `rb_broker`.
 """
 
@@ -39,8 +40,9 @@ def add_to(commands: argparse._SubParsersAction[Parser]) -> None:
     parser.add_argument("files", metavar="FILE", type=Path, nargs="+", help="a file of the archive")
     add_policy_words(parser, "30s", 20)
     parser.add_argument("--events", metavar="N", type=whole(1, MOST_EVENTS), default=MOST_EVENTS,
-                        help=f"of a piece at most (default: {MOST_EVENTS}, which is the most)")
-    parser.add_argument("--program", metavar="FILE", default="rb_broker", help="default: rb_broker, of the path")
+                        help=f"how many events a piece has at most, 1 to {MOST_EVENTS} (default: {MOST_EVENTS})")
+    parser.add_argument("--program", metavar="FILE", default="rb_broker",
+                        help="the program that judges (default: rb_broker, on the path)")
 
 
 def run(asked: argparse.Namespace) -> int:
@@ -91,7 +93,7 @@ def _opening_of(path: Path) -> FollowedQueue:
 def _opening_lines(path: Path, lines: Iterator[bytes]) -> list[bytes]:
     """The lines with which a file begins, up to its first event."""
     if next(lines, b"") != HEADER:
-        raise Failed(f"{path}: no file of an archive")
+        raise Failed(f"{path}: it is no file of an archive")
     head = next(lines).rstrip(b"\n")
     return [head, *(next(lines).rstrip(b"\n") for _ in range(int(head.split(b" ")[3])))]
 
@@ -103,7 +105,7 @@ def _pieces(queue: FollowedQueue, files: Sequence[Path], most: int) -> Iterator[
     for path in files:
         with open(path, "rb") as file:
             if next(file, b"") != HEADER or any(next(file, b"") != it for it in queue.opening()):
-                raise Failed(f"{path}: it does not begin with what the one before it left")
+                raise Failed(f"{path}: it does not begin with what the file before it left")
             for line in file:
                 if line.startswith(b"end "):
                     break

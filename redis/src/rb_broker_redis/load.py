@@ -25,17 +25,17 @@ from .words import Parser, add_command, add_queue_words, queues_in, sentence_of
 
 DATES = "dates"
 
-ABOUT = """loads what the run of a server left into a queue
+ABOUT = """loads what a server's run left into a queue
 
 HISTORY is a text that `rb_broker` wrote with --history, in any version, or compressed by gzip if its name ends in .gz;
 check it with `rb_broker replay` first. Each element keeps its job and its attempt. A server's moments begin with its
-run, and --began says when that was: a date such as 2026-11-26T08:00:00Z, in UTC if it has no zone, or seconds since
-1970 such as @1795680000. `--began dates` is for a file of `archive`, whose moments are dates.
+run, and --began says when that was: a date such as 2026-11-26T08:00:00Z, in UTC unless it names a zone, or seconds
+since 1970, such as @1795680000. Say `--began dates` for a file of `archive`, whose moments are dates.
 
-The queue must be one that nobody has used. It is loaded once: a second start with the same words changes nothing, and
-one after a kill goes on. Nobody is served from the queue before all is there. Several histories, each with a --began
-in the same order, become one queue. The elements keep their ids if there is one history; otherwise the ids of each
-begin behind those of the one before.
+Nobody may have used the queue before. It is loaded once: the same command changes nothing the second time, and goes on
+after a kill. No gateway serves the queue before everything is there. Several histories, each with a --began in the same
+order, become one queue. The elements of a single history keep their ids; otherwise the ids of each history begin behind
+those of the one before.
 
 Status: 0; 1 if a history is damaged or the queue is in use; 2 if a word is wrong or a file can't be read; 3 if the
 Redis can't be reached.
@@ -97,7 +97,7 @@ def load(queue: Queue, left: FollowedQueue) -> bool:
         return False
     seconds, microseconds = map(int, queue.command("TIME"))
     if left.last > (seconds * 1_000_000 + microseconds) * 1_000:
-        raise NotLoaded(f"the run would have ended at {date_text(left.last)}, which is still to come: look at --began")
+        raise NotLoaded(f"by --began the run would have ended at {date_text(left.last)}, which is in the future")
     try:
         queue.load(token, left)
     except redis.ResponseError as fault:
@@ -128,10 +128,10 @@ def run(asked: argparse.Namespace) -> int:
     """Loads, or shows what would be loaded."""
     if asked.abandon:
         for it in queues_in(asked):
-            print(f"{it.name}: {'emptied' if abandon(it) else 'no load has begun that has not ended'}")
+            print(f"{it.name}: {'emptied' if abandon(it) else 'there is no unfinished load'}")
         return 0
     if not asked.histories or len(asked.histories) != len(asked.began):
-        asked.parser.error("there is a HISTORY, and a --began for each")
+        asked.parser.error("name at least one HISTORY, and a --began for each")
     runs = [read_judged(it) for it in asked.histories]
     left = left_by(runs, [run.opened_at if it is None else it for run, it in zip(runs, asked.began)])
     if asked.show:

@@ -6,10 +6,12 @@ import contextlib
 import os
 import sys
 from collections.abc import Iterator
+from functools import partial
 from itertools import chain
 from pathlib import Path
 from typing import BinaryIO
 
+from rb_broker_formats.durations import read_duration
 from rb_broker_formats.faults import Damaged
 from rb_broker_formats.grammar import GREATEST_OPENING_ID, HEADER, MOST_OPENING_ELEMENTS
 from rb_broker_formats.queue import FollowedQueue
@@ -21,7 +23,7 @@ from .protocol import MOST_CALLS, ErrorReply
 from .queue import Queue, connect
 from .session import BYE
 from .waits import LATER, STOPPED
-from .words import Parser, add_command, add_policy_words, add_redis_word, address_in, policy_in, whole
+from .words import Parser, add_command, add_policy_words, add_redis_word, address_in, policy_in, sentence_of, whole
 
 SEAT = b"0 "
 LEASE = 60_000_000
@@ -33,14 +35,16 @@ BUFFER_BYTES = 64 * 1024
 
 def add_to(commands: argparse._SubParsersAction[Parser]) -> None:
     """Adds the command."""
-    parser = add_command(commands, "script", "one session at standard input, on a queue of its own", run)
+    parser = add_command(commands, "script", "serves one session at standard input, on a queue of its own", run)
     add_redis_word(parser)
-    add_policy_words(parser, "1us", 3)
+    # As `rb_broker script` does, for which this stands in, it takes nanoseconds.
+    add_policy_words(parser, "1us", 3, sentence_of(partial(read_duration, bare=1)))
     add = parser.add_argument
-    add("--calls", type=whole(1, MOST_CALLS), default=10_000, metavar="N", help="calls of the run (default: 10000)")
-    add("--history", metavar="FILE", help="where the history is written")
-    add("--from", dest="opening", metavar="FILE", help="a legal history that the run continues")
-    add("--timer", choices=("list", "heap", "pairing", "wheel"), help="taken, and without effect")
+    add("--calls", type=whole(1, MOST_CALLS), default=10_000, metavar="N", help="calls in the run (default: 10000)")
+    add("--history", metavar="FILE", help="writes the history to this file")
+    add("--from", dest="opening", metavar="FILE",
+        help="continues the run of this history, which `rb_broker replay FILE` has to accept")
+    add("--timer", choices=("list", "heap", "pairing", "wheel"), help="has no effect")
 
 
 def run(asked: argparse.Namespace) -> int:

@@ -29,6 +29,15 @@ from .words import (
 
 LOOPBACK = "127.0.0.1"
 
+ABOUT = """serves clients from a queue
+
+A TIME is a number with ns, us, ms, s, m, h or d, such as 30s. Once clients can connect, a line `listening HOST:PORT`
+appears on standard output. SIGTERM and Ctrl-C end the gateway in good order, and a second signal ends it at once.
+
+Status: 0 after an end in good order; 2 if a word is wrong; 3 if the Redis can't be reached, the queue can't be served,
+or nothing can listen at the port. One line on standard error then says why.
+"""
+
 REFUSALS = {
     "POLICY": "queue {queue} has --{1} {2}ns --attempts {3}: say the same, or nothing, or --change-policy",
     "FORMAT": "queue {queue} has format {1}, of a later version of this package, which knows format {2}",
@@ -41,43 +50,46 @@ REFUSALS = {
 
 def add_to(commands: argparse._SubParsersAction[Parser]) -> None:
     """Adds the command."""
-    parser = add_command(commands, "serve", "serves clients from a queue", run)
+    parser = add_command(commands, "serve", ABOUT, run)
     add_queue_words(parser)
     add = parser.add_argument
-    add("--port", type=whole(0, 65_535), required=True, metavar="P", help="the port; 0 for one that is free")
+    add("--port", type=whole(0, 65_535), required=True, metavar="P", help="the port, or 0 for a free one")
     add("--bind", default=LOOPBACK, metavar="A", type=sentence_of(ipaddress.ip_address),
-        help=f"the address; another than a loopback's needs --cert or --plain (default: {LOOPBACK})")
+        help=f"where to listen; an address that other machines reach needs --cert or --plain (default: {LOOPBACK})")
     add_policy_words(parser, "30s", 20)
-    add("--change-policy", action="store_true", help="gives the queue this policy, if it has another")
+    add("--change-policy", action="store_true",
+        help="gives the queue these --delay, --rate and --attempts if it has others")
     add("--wait", metavar="TIME", type=duration, default=SECOND,
-        help="a TAKE or POLLFOR waits so long at most (default: 1s)")
+        help="the longest that a TAKE or POLLFOR waits (default: 1s)")
     add("--lease", metavar="TIME", type=duration, default=15 * SECOND,
-        help="the sessions of a gateway that dies end after this time, 1s or more (default: 15s)")
+        help="how long after a gateway died its sessions end, 1s or more (default: 15s)")
     add("--grace", metavar="TIME", type=duration, default=30 * SECOND,
-        help="at SIGTERM, sessions that hold jobs may end these for so long; nothing is fetched (default: 30s)")
+        help="how long after SIGTERM a session may finish jobs that it holds; it fetches no others (default: 30s)")
     add("--timeout", metavar="TIME", type=duration, default=5 * SECOND,
-        help="a Redis that does not answer for so long is given up (default: 5s)")
+        help="a Redis that does not answer for this long counts as away (default: 5s)")
     add("--replicas", metavar="N", type=replicas_of, default=0,
-        help="replies are sent once N replicas have what was done, or `all` that a Sentinel reaches, which are a majority"
-        " with the primary (default: 0)")
+        help="sends a reply once N replicas have what was done; `all` means all that a Sentinel reaches, which with the"
+        " primary must be a majority (default: 0)")
     kept = parser.add_mutually_exclusive_group()
     kept.add_argument("--no-history", dest="mode", action="store_const", const="silent", default="",
-                      help="a queue that is made now keeps no events")
+                      help="a new queue keeps no events")
     kept.add_argument("--brief-history", dest="mode", action="store_const", const="brief",
-                      help="it keeps none of a POLL, POLLFOR or DRAIN that found nothing; tools/verify misses them")
+                      help="a new queue keeps no event of a POLL, POLLFOR or DRAIN that found nothing; tools/verify calls"
+                      " those missing")
     add("--history-events", metavar="N", type=whole(0, 10**9),
-        help=f"it keeps at most N of about 100 bytes; 0 for no end (default: {MOST_EVENTS}, if the queue is made now)")
+        help=f"the queue keeps at most N events of about 100 bytes; 0 for no limit (default: {MOST_EVENTS}, if new)")
     add("--history-end", choices=("drop", "refuse"),
-        help="at N the oldest events go, or offers are refused until an archive takes some (default: drop)")
+        help="at N events drops the oldest, or refuses offers until an archive takes some (default: drop)")
     add("--http", metavar="HOST:PORT", type=sentence_of(place_of),
-        help="serves a page there, with /metrics and /health: 127.0.0.1:7080")
-    add("--allow-changes", action="store_true", help="lets dead jobs be offered again or dropped by that page")
+        help="serves a page, /metrics and /health at this address, such as 127.0.0.1:7080")
+    add("--allow-changes", action="store_true", help="lets anyone who sees the page offer dead jobs again or drop them")
     add("--allow-eviction", action="store_true",
         help="serves from a Redis whose maxmemory-policy is not noeviction, which may throw the queue away")
-    add("--cert", metavar="FILE", help="the certificate with which clients are served over TLS")
-    add("--key", metavar="FILE", help="its key, if it is not in the same file")
-    add("--client-ca", metavar="FILE", help="serves only clients whose certificate is signed by one of these")
-    add("--plain", action="store_true", help="serves other machines without TLS: whoever reaches the port is let in")
+    add("--cert", metavar="FILE", help="serves clients over TLS with this certificate")
+    add("--key", metavar="FILE", help="the certificate's key, if it is in another file")
+    add("--client-ca", metavar="FILE", help="serves only clients whose certificate one of these authorities signed")
+    add("--plain", action="store_true",
+        help="serves other machines without TLS, and lets in anyone who reaches the port")
 
 
 def run(asked: argparse.Namespace) -> int:
@@ -100,7 +112,7 @@ def check(asked: argparse.Namespace) -> None:
     if asked.key and not asked.cert or asked.client_ca and not asked.cert:
         refuse("--key and --client-ca need --cert")
     if asked.plain and asked.cert:
-        refuse("--plain is without TLS, and --cert with it")
+        refuse("--plain serves without TLS and --cert with it: say one of them")
     if not ipaddress.ip_address(asked.bind).is_loopback and not asked.cert and not asked.plain:
         refuse(f"other machines reach {asked.bind}: serve them over TLS with --cert, or say --plain")
     if asked.replicas is None and address_in(asked).kind is not Kind.SENTINEL:
@@ -138,11 +150,11 @@ async def serve(asked: argparse.Namespace) -> int:
     policy = policy_in(asked) if names_policy(asked) else NO_POLICY
     await gateway.join(
         address_in(asked), asked.queue, asked.lease, policy, mode, most_in(asked), asked.allow_eviction)
-    at = f"{asked.bind}:{asked.port}"
+    at = f"cannot listen at {asked.bind}:{asked.port}"
     try:
         port = await gateway.listen(str(asked.bind), asked.port, tls)
         if asked.http:
-            at = "--http {}:{}".format(*asked.http)
+            at = "--http: cannot listen at {}:{}".format(*asked.http)
             site = show(gateway, asked, port)
     except OSError as fault:  # the port is in use, or may not be used
         await gateway.leave()

@@ -17,14 +17,14 @@ from .queue_events import members_of
 from .shards import MOST_SHARDS, Rendezvous, shard_names
 from .words import Parser, add_command, add_redis_word, address_in, sentence_of, whole
 
-ABOUT = """changes how many queues there are under a name, and moves the jobs
+ABOUT = """changes how many queues share a name, and moves their jobs
 
-The queues have to be at rest: stop the gateways in good order, and let `archive` take the events. Nobody is served
-before all is moved. A job keeps its expiry and its attempt, and gets another id if its queue goes; dead jobs move too.
-If the number grows from two or more, no job moves: new offers are spread over all queues. After a kill, start the same
-command again, and it goes on.
+The queues have to be at rest: stop the gateways in good order, and let `archive` take the events. No gateway serves
+them before everything is moved. A job keeps its expiry and its attempt, and gets another id if its queue is removed;
+dead jobs move too. If the number grows from two or more, no job moves, and new offers are spread over all queues. After
+a kill, start the same command again: it goes on.
 
-The history of a queue that has got jobs begins anew with what is in it then, in the next file of its archive.
+The history of a queue that has received jobs begins anew with what is then in it, in the next file of its archive.
 
 Status: 0; 1 if the queues are not at rest or there are none; 2 if a word is wrong; 3 if the Redis can't be reached.
 """
@@ -43,9 +43,10 @@ class Left(NamedTuple):
 def add_to(commands: argparse._SubParsersAction[Parser]) -> None:
     """Adds the command."""
     parser = add_command(commands, "shards", ABOUT, run)
-    parser.add_argument("count", metavar="N", type=whole(1, MOST_SHARDS), help="how many there are to be")
+    parser.add_argument("count", metavar="N", type=whole(1, MOST_SHARDS), help="the new number of queues")
     add_redis_word(parser)
-    parser.add_argument("--queue", metavar="NAME", required=True, type=sentence_of(checked_name), help="their name")
+    parser.add_argument("--queue", metavar="NAME", required=True, type=sentence_of(checked_name),
+                        help="the name of the queues")
 
 
 def run(asked: argparse.Namespace) -> int:
@@ -82,7 +83,7 @@ def _begin(named: Queue, before: int, count: int) -> tuple[int, str]:
     named.command("HSETNX", named.state, "moving", f"{before} {count} {os.urandom(8).hex()}")
     first, to, token = named.command("HGET", named.state, "moving").decode().split(" ")
     if int(to) != count:
-        raise Failed(f"{named.name}: a move to {to} shards has not ended: say that number")
+        raise Failed(f"{named.name}: a move to {to} shards has not ended: end it first, by shards {to}")
     return int(first), f"shards {token}"
 
 

@@ -291,6 +291,6 @@ class Upkeep:
                 return await make()
             except (OSError, ErrorAnswer) as fault:
                 if str(fault) != told:
-                    LOG.warning("the Redis of queue %s is not to be had: %s", self._queue, fault)
+                    LOG.warning("the Redis of queue %s can't be reached: %s", self._queue, fault)
                 told = str(fault)
                 await asyncio.sleep(SECONDS_BETWEEN_TRIES)

@@ -30,7 +30,8 @@ def add_command(
 ) -> Parser:
     """Adds a command. What it is about begins with a sentence, which an empty line ends."""
     sentence, _, rest = about.partition("\n\n")
-    parser = commands.add_parser(name, help=sentence, description=f"{sentence}." if rest else None, epilog=rest,
+    described = f"{sentence[0].upper()}{sentence[1:]}." if rest else None
+    parser = commands.add_parser(name, help=sentence, description=described, epilog=rest,
                                  allow_abbrev=False, formatter_class=argparse.RawDescriptionHelpFormatter)
     parser.set_defaults(run=run, parser=parser)
     return parser
@@ -65,7 +66,7 @@ def whole(least: int, most: int) -> Callable[[str], int]:
 def add_redis_word(parser: argparse.ArgumentParser) -> None:
     """--redis."""
     parser.add_argument("--redis", metavar="URL", default=None, type=sentence_of(address_of),
-                        help=f"the Redis, or @FILE for a file that has its URL (default: ${VARIABLE}, or {DEFAULT})")
+                        help=f"the URL of the Redis, or @FILE, which has the URL (default: ${VARIABLE}, or {DEFAULT})")
 
 
 def address_in(asked: argparse.Namespace) -> Address:
@@ -82,7 +83,7 @@ def add_queue_words(parser: argparse.ArgumentParser) -> None:
     parser.add_argument("--queue", metavar="NAME", required=True, type=sentence_of(checked_name),
                         help="the name of the queue")
     parser.add_argument("--shards", metavar="N", type=whole(1, MOST_SHARDS), default=1,
-                        help="the number of queues under that name (default: 1)")
+                        help="how many queues share that name (default: 1)")
 
 
 def queues_in(asked: argparse.Namespace) -> list[Queue]:
@@ -98,13 +99,15 @@ def queues_in(asked: argparse.Namespace) -> list[Queue]:
     return queues
 
 
-def add_policy_words(parser: argparse.ArgumentParser, delay: str, attempts: int) -> None:
-    """--delay, --rate and --attempts, with what the first and the last are without a word."""
+def add_policy_words(
+    parser: argparse.ArgumentParser, delay: str, attempts: int, read: Callable[[str], object] = duration
+) -> None:
+    """--delay, --rate and --attempts, with what the first and the last are without a word. `read` reads a time."""
     pace = parser.add_mutually_exclusive_group()
-    pace.add_argument("--delay", metavar="TIME", type=duration,
-                      help=f"the next attempt expires so long after a failure (default: {delay})")
-    pace.add_argument("--rate", metavar="TIME", type=duration,
-                      help="it expires so long after the first expiry, for each attempt so far")
+    pace.add_argument("--delay", metavar="TIME", type=read,
+                      help=f"a failed job comes back this long after it failed (default: {delay})")
+    pace.add_argument("--rate", metavar="TIME", type=read,
+                      help="instead of --delay: it comes back this long after its first expiry for each attempt so far")
     parser.add_argument("--attempts", metavar="N", type=whole(1, MOST_ATTEMPTS),
                         help=f"a job has N attempts in all, 1 to {MOST_ATTEMPTS} (default: {attempts})")
     parser.set_defaults(default_delay=read_duration(delay), default_attempts=attempts)

@@ -34,7 +34,7 @@ def test_options_in_unit_and_file() -> None:
     joined = re.sub(r"\n#    +", " ", defaults)  # in which what is told of an option is in one line
     for name, default in re.findall(r"^#   (--\S+) [A-Z].*?(?:default (\w+)|$)", joined, re.M):
         entry = re.search(rf"{name} [A-Z].*?(?= --[a-z])", says)
-        assert entry and (not default or f"({default})" in entry[0]), name
+        assert entry and (not default or f"(default: {default})" in entry[0]), name
     assert not options_in(defaults) - options_in(says)
 
 

@@ -28,6 +28,11 @@ class ProgramTest(RoomTest):
                 built_program()
         self.assertEqual((end.exception.code, build.return_value.wait.call_count), (130, 2))
 
+    def test_a_build_that_this_process_has_killed_says_nothing(self) -> None:
+        with mock.patch("subprocess.Popen") as build:
+            build.return_value.wait.side_effect = [KeyboardInterrupt, -9]
+            self.assertRaises(KeyboardInterrupt, built_program)
+
     def test_a_program_that_is_named(self) -> None:
         path = self.file("program", "")
         for word in (path, f"{self.room}/none", "no-such-command"):

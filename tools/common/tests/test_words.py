@@ -3,6 +3,7 @@ import argparse
 import contextlib
 import io
 import os
+import re
 import subprocess
 import sys
 import unittest
@@ -56,15 +57,17 @@ class WordsTest(unittest.TestCase):
         self.assertEqual(number(float, 0, 1)("0.5"), 0.5)
         for word in ("0", "65536"):
             self.assertIn(f"{word} is not from 1 to 65535", self.ended("--number", word)[1])
-        self.assertIn("invalid int value: 'x'", self.ended("--number", "x")[1])
+        self.assertIn("'3s' is no number from 1 to 65535", self.ended("--number", "3s")[1])
         self.assertRaises(argparse.ArgumentTypeError, number(float, 0, 1), "nan")
 
     def test_times(self) -> None:
         self.assertEqual([*map(span, ("0s", "9ns", "1.5s", "2m", f"{2**64 - 1}ns"))],
                          [0, 9, 1_500_000_000, 120_000_000_000, 2**64 - 1])
-        for word, says in (("30", "30 has no unit: write 30s, or 30ms"), ("-1s", "'-1s' is no time"),
-                           ("1 s", "no time"), ("", "no time"), (f"{2**64}ns", "at most 2")):
-            with self.subTest(word), self.assertRaisesRegex(argparse.ArgumentTypeError, says):
+        for word, says in (("30", "30 has no unit: write 30s (units are ns, us, ms, s, m, h, d)"),
+                           ("1.5", "1.5 has no unit: write 1.5s"), ("-1s", "'-1s' is no duration: write 30s or 1.5h"),
+                           ("1 s", "no duration"), ("", "'' is no duration"), ("1.2.3", "no duration"),
+                           ("0.1ns", "not a whole number of nanoseconds"), (f"{2**64}ns", "longer than 2^64 - 1 nanoseconds")):
+            with self.subTest(word), self.assertRaisesRegex(argparse.ArgumentTypeError, re.escape(says)):
                 span(word)
 
     def test_the_version_is_that_of_git_or_of_the_package(self) -> None:

@@ -80,7 +80,7 @@ def test_files_that_are_named(program: str, tmp_path: Path) -> None:
 def test_a_file_that_is_malformed_or_absent(tmp_path: Path) -> None:
     misspelt = tmp_path / "misspelt.case"
     misspelt.write_text("case a\n> SIZE\nend input 0\n")
-    assert conform(misspelt) == (2, [], f"{misspelt}:3: no word of a case: end\n")
+    assert conform(misspelt) == (2, [], f"conform: {misspelt}:3: no word of a case: end\n")
     status, lines, errors = conform("none.case")
     assert (status, lines) == (2, []) and "none.case" in errors
 

@@ -35,7 +35,7 @@ class StrangeServerTest(RoomTest):
         with socket.create_server(("127.0.0.1", 0)) as listener:
             port = listener.getsockname()[1]
         status, lines, errors = load("--port", port, "--seconds", 1)
-        told = f"load: no connection to 127.0.0.1:{port}: [Errno 111] Connection refused\n"
+        told = f"load: no connection to 127.0.0.1:{port}: Connection refused\n"
         self.assertEqual((status, lines, errors), (1, [], told))
 
     def test_servers_that_are_no_broker(self) -> None:

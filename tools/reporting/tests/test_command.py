@@ -14,7 +14,7 @@ DAMAGED = RUN.replace("size 1", "size 2")
 REFUSED = [
     ("", "the following arguments are required"), ("run.txt more", "more: No such file or directory"),
     ("run.txt --ht x", "unrecognized arguments: --ht"),
-    ("run.txt --attempts 0", "0 is not from 1 to 1000"), ("run.txt --attempts 1s", "invalid int value: '1s'"),
+    ("run.txt --attempts 0", "0 is not from 1 to 1000"), ("run.txt --attempts 1s", "'1s' is no number from 1 to 1000"),
     ("run.txt --html run.txt", "--html names a history itself"),
 ]
 

@@ -131,11 +131,16 @@ class FolderTest(ServiceTest):
         self.file("plain", "")
         self.file("unread/run-1.json", "{")
         self.file("bare/run-1.json", "{}")
+        refuses = 'case $1 in serve) echo "rb_broker: bad opening" >&2;; *) echo "unreadable 2 opening";; esac'
+        other = self.file("program", f"#!/bin/sh\n{refuses}\nexit 1\n")
+        os.chmod(other, 0o700)
+        opening = "rb_broker: bad opening: `rb_broker replay` says of opening-1.txt: unreadable 2 opening"
         for folder, program, says, lines in (
             ("", "", "argument --folder: '' is no path", 1),
             ("plain/runs", "", "Not a directory", 1), ("unread", "", "run-1.json is no record of a run: Expecting", 1),
             ("bare", "", "run-1.json is no record of a run: it has no 'end'", 1),
             ("runs", "/bin/false", f"no server at port {self.port}: its process has ended", 2),
+            ("others", other, f"service: no server at port {self.port}: {opening}", 2),
         ):
             service = Service(self.path(folder) if folder else "", port=self.port, program=program)
             self.assertEqual((service.end(), len(service.lines)), (1 if folder else 2, lines), service.lines)

@@ -63,7 +63,7 @@ class PathsTest(RoomTest):
         with mock.patch.object(served, "LONGEST", -1.0):
             health = self.answer("/health")
             self.assertEqual(health.status, 503)
-            self.assertIn("\n! the service has found nothing for -1 seconds (since 2026-11-26 08:00:00", health.text)
+            self.assertIn("\n! the service has told nothing new for -1 seconds (since 2026-11-26 08:00:00", health.text)
             self.assertIn('rb_broker_alert{port="7011",name="stale"} 1\n', self.answer("/metrics").text)
 
     def test_what_is_asked_of_the_service(self) -> None:

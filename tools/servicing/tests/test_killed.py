@@ -295,6 +295,13 @@ class ServerKilledTest(CutTest):
 
 
 class TakenTest(ServiceTest):
+    def test_a_socket_at_another_port(self) -> None:
+        """A unit of systemd listens at one port, and its service is told another."""
+        store, port = self.store(), free_port()
+        service = self.start("--port", port, store=store, program="/bin/false")
+        says = f"service: systemd listens at 127.0.0.1:{self.port} for this service, not at 127.0.0.1:{port}"
+        self.assertEqual((service.end(), service.lines[-1]), (1, says))
+
     def test_what_is_taken(self) -> None:
         """A second service says who has the folder, and a second folder is refused at the port."""
         service = self.begin()
@@ -305,7 +312,7 @@ class TakenTest(ServiceTest):
         for _ in range(2):  # a run that could not begin leaves nothing behind
             other = self.start("--from", history, folder=self.path("others"))
             self.assertEqual(other.end(), 1)
-            self.assertIn(f"port {self.port} can't be had: Address already in use", other.lines[-1])
+            self.assertIn(f"cannot listen at port {self.port}: Address already in use", other.lines[-1])
         self.has_left(0)
         os.unlink(self.path("runs/lock"))  # which tells who has the folder, and is not what keeps others out
         third = Service(self.path("runs"), port=free_port())

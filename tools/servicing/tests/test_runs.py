@@ -97,7 +97,7 @@ class RunsTest(ServiceTest):
             self.assertRegex(self.ask("TAKE", "DONE 0")[0], "^ITEM 0 9 1 mail$")
         service = self.start("--from", history)
         self.assertEqual(service.end(), 1)
-        self.assertIn("--from begins an empty folder", service.lines[-1])
+        self.assertIn("--from needs an empty folder", service.lines[-1])
 
     def test_old_runs_are_compressed_and_dropped(self) -> None:
         with self.serving("--every", "1s", "--keep", "2") as service:

@@ -117,7 +117,7 @@ class StatusTest(ServiceTest):
         self.enterContext(socket.create_server(("127.0.0.1", self.page)))
         ran = run_tool("service", "--port", self.port, "--folder", self.path("other"), "--program", tested_program(),
                        "--http", f"127.0.0.1:{self.page}")
-        says = f"service: --http 127.0.0.1:{self.page}: Address already in use\n"
+        says = f"service: --http: cannot listen at 127.0.0.1:{self.page}: Address already in use\n"
         self.assertEqual((ran.returncode, ran.stderr), (1, says))
 
 

@@ -1,12 +1,13 @@
-"""The package as a command: rb-broker COMMAND .. --port P, or python3 -m rb_broker_client
+"""Asks a server, or works for it: rb-broker COMMAND .. --port P, or python3 -m rb_broker_client
 
-A worker calls the function with each job, until SIGTERM or Ctrl-C; a second signal ends it at
-once. It logs to standard error, looks for a server until it is stopped, and at the end prints what
-became of its jobs. The module is looked for in the current folder too. A coroutine function runs in
-an event loop. `dead` is about the file that DeadLetters wrote. The others print the server's
-replies as docs/PROTOCOL.md has them, such as `SIZE 3`. COMMAND --help has an example.
+`worker` calls a function with each job, until SIGTERM or Ctrl-C; a second signal ends it at once.
+It logs to standard error, looks for a server until it is stopped, and at the end prints what
+became of its jobs. It also looks for the module in the current folder, and runs a coroutine
+function in an event loop. `dead` reads the file that DeadLetters wrote. `tasks` is about an app of
+rb_broker_client.tasks. The other commands print the server's replies as docs/PROTOCOL.md has them,
+such as `SIZE 3`. COMMAND --help has an example.
 
-Exit status: 0; 1 if there is no server, or it refuses, or something else fails; 2 if a word is
+Exit status: 0; 1 if there is no server, if it refuses, or if something else fails; 2 if a word is
 wrong, or an option names a file that can't be used. Standard error says why.
 """
 
@@ -24,13 +25,14 @@ from contextlib import contextmanager
 from functools import partial
 from typing import Any
 
+from rb_broker_formats.durations import SECOND, read_duration
 from rb_broker_formats.protocol import MOST_HELD
 
 from . import __version__
 from .answers import BrokerError
 from .broker import Broker
 from .dead_letters import payload_of, read_letters, take_letters
-from .durations import from_text, seconds
+from .durations import seconds
 from .producer import Producer
 from .request import Request
 from .servers import LOOPBACK, Servers
@@ -68,15 +70,16 @@ def _command(commands: Any, name: str, help: str, run: Callable[..., Any], examp
     added.set_defaults(run=run)
     add: Callable[..., Any] = added.add_argument
     add("--port", type=_port, required=name != "dead", metavar="P",
-        help="the server's port, or HOST:PORT,HOST:PORT,.. of gateways of one queue, of which one is used at a time")
-    add("--host", default=LOOPBACK, metavar="H", help=f"where it is (default: {LOOPBACK})")
-    add("--patience", type=_seconds, default=5.0, metavar="SECONDS",
-        help="how long a server is looked for, and a reply waited for (default: 5)")
-    add("--record", type=argparse.FileType("a"), metavar="FILE", help="adds each request and its reply to this file")
-    add("--tls", action="store_true", help="encrypts, as the next three do; the certificate must be for --host")
-    add("--ca", metavar="FILE", help="the certificates whose owners are trusted (default: those of the system)")
-    add("--cert", metavar="FILE", help="the certificate that is shown to the server")
-    add("--key", metavar="FILE", help="its key, if it is not in the same file")
+        help="the server's port, or HOST:PORT,HOST:PORT,.. of a queue's gateways, which are used one at a time")
+    add("--host", default=LOOPBACK, metavar="H", help=f"the server's host (default: {LOOPBACK})")
+    add("--patience", type=_time, default=5.0, metavar="TIME",
+        help="how long to look for a server, and to wait for a reply (default: 5s)")
+    add("--record", type=argparse.FileType("a"), metavar="FILE", help="appends each request and its reply to this file")
+    add("--tls", action="store_true",
+        help="uses TLS, as the next three options do; the server's certificate must be for --host")
+    add("--ca", metavar="FILE", help="trusts the certificates in this file (default: those of the system)")
+    add("--cert", metavar="FILE", help="shows this certificate to the server")
+    add("--key", metavar="FILE", help="the key of --cert, if it is in another file")
     return add
 
 
@@ -89,37 +92,41 @@ def _parser() -> argparse.ArgumentParser:
     commands = parser.add_subparsers(metavar="COMMAND", required=True)
     command = partial(_command, commands)
     add = command("worker", "calls a function with each job", _work, "letters:deliver --concurrency 8 ")
-    add("handler", type=_function, metavar="MODULE:FUNCTION", help="what is called with each job")
+    add("handler", type=_function, metavar="MODULE:FUNCTION", help="the function to call with each job")
     add("--concurrency", type=_whole(1, MOST_HELD), default=1, metavar="N",
         help=f"how many jobs run at the same time, 1 to {MOST_HELD} (default: 1)")
-    add("--timeout", type=_seconds, metavar="SECONDS", help="fails a job that takes longer")
+    add("--timeout", type=_time, metavar="TIME", help="fails a job that takes longer, such as 30s")
     add("--on-dead", type=_function, metavar="MODULE:FUNCTION",
-        help="what is called with each job that failed and won't come back")
+        help="a function to call with each job that failed and won't come back")
     add("--attempts", type=_whole(1, 1_000), metavar="N",
-        help="those of the server, so that --on-dead is told of a last one that ended with its session")
-    add = command("offer", "offers jobs that expire after this delay", _offer, "2s letter-17 letter-18 ")
-    add("delay", type=_delay, metavar="DELAY", help="5s, 2m, 1.5h, or a number of seconds (units: ns us ms s m h d)")
+        help="the server's --attempts, so that --on-dead also gets jobs whose last attempt ended with a session")
+    add = command("offer", "offers jobs that expire after a delay", _offer, "2s letter-17 letter-18 ")
+    add("delay", type=_delay, metavar="DELAY", help="a time such as 5s, 2m or 1.5h (units: ns us ms s m h d)")
     add("payloads", nargs="*", metavar="PAYLOAD",
         help="1 to 64 characters of printable ASCII, no space (default: the lines of standard input)")
     command("size", "counts the elements in the queue, expired or not", partial(_ask, lambda _: [Request.size()]))
     command("peek", "shows an element of least expiry, expired or not", partial(_ask, lambda _: [Request.peek()]))
-    command("clear", "takes all elements out, expired or not", partial(_ask, lambda _: [Request.clear()]))
-    add = command("remove", "takes the elements of these ids out, expired or not",
+    command("clear", "removes all elements, expired or not", partial(_ask, lambda _: [Request.clear()]))
+    add = command("remove", "removes the elements of these ids, expired or not",
                   partial(_ask, lambda asked: map(Request.remove, asked.ids)), "17 18 ")
-    add("ids", nargs="+", type=_whole(0, 2**64 - 1), metavar="ID", help="what `OFFERED` told")
-    add = command("drain", "takes out the jobs that have expired, and finishes each", _drain, "10 ")
-    add("most", nargs="?", type=_whole(1, 10**9), default=10**9, metavar="MOST", help="how many (default: all)")
+    add("ids", nargs="+", type=_whole(0, 2**64 - 1), metavar="ID", help="an id from an `OFFERED` reply")
+    add = command("drain", "takes the jobs that have expired, prints and finishes each", _drain, "10 ")
+    add("most", nargs="?", type=_whole(1, 10**9), default=10**9, metavar="MOST",
+        help="how many jobs to take (default: all)")
     add = command("dead", "shows dead letters, or offers them again", _dead, "dead.jsonl --offer ")
-    add("file", metavar="FILE", help="what DeadLetters wrote")
-    add("--offer", action="store_true", help="offers each, which needs --port, and takes it out of the file")
-    added = commands.add_parser("tasks", help="runs the tasks of an app, shows its dead ones, or offers these again")
+    add("file", metavar="FILE", help="the file that DeadLetters wrote")
+    add("--offer", action="store_true", help="offers each again, and removes it from the file; needs --port")
+    added = commands.add_parser("tasks", help="runs the tasks of an app, shows its dead tasks, or offers them again")
     added.set_defaults(run=_tasks, host=None, port=None)
     added.add_argument("action", choices=["run", "dead", "again"])
-    added.add_argument("app", type=partial(_named, Tasks), metavar="MODULE:APP", help="an object of the class Tasks")
-    added.add_argument("ids", nargs="*", metavar="ID", help="which to offer again, as `dead` shows them (default: all)")
-    added.add_argument("--threads", type=_whole(1, MOST_HELD), default=4, metavar="N", help="of `run` (default: 4)")
+    added.add_argument("app", type=partial(_named, Tasks), metavar="MODULE:APP",
+                       help="the app, an object of the class Tasks")
+    added.add_argument("ids", nargs="*", metavar="ID",
+                       help="the dead tasks to offer again, by the ids that `dead` shows (default: all)")
+    added.add_argument("--threads", type=_whole(1, MOST_HELD), default=4, metavar="N",
+                       help="how many threads `run` has in each process, 1 to 64 (default: 4)")
     added.add_argument("--processes", type=_whole(0, 1_000), default=0, metavar="N",
-                       help="so many processes, each with its threads, of which one ends with a task that hangs")
+                       help="runs tasks in N processes, of which one ends with a task that hangs (default: 0, in this one)")
     return parser
 
 
@@ -238,15 +245,16 @@ def _address(word: str) -> int | str:
     return port
 
 
-_port, _delay = partial(_told, _address), partial(_told, from_text)
-_seconds = partial(_told, lambda word: seconds(float(word)))
+_port = partial(_told, _address)
+_delay = partial(_told, lambda word: read_duration(word) / SECOND)
+_time = partial(_told, lambda word: seconds(read_duration(word) / SECOND))
 
 
 def _named(kind: Any, word: str) -> Any:
     try:
         found = pkgutil.resolve_name(word)
     except Exception as fault:  # whatever goes wrong in a module of the caller
-        raise argparse.ArgumentTypeError(f"{word} can't be had: {type(fault).__name__}: {fault}") from None
+        raise argparse.ArgumentTypeError(f"{word} can't be imported: {type(fault).__name__}: {fault}") from None
     if not isinstance(found, kind):
         raise argparse.ArgumentTypeError(f"{word} is a {type(found).__name__}, which can't be used here")
     return found

@@ -37,7 +37,7 @@ def seconds(duration: Duration) -> float:
     """A duration in seconds. Raises `ValueError` unless it is above 0."""
     value = duration.total_seconds() if isinstance(duration, timedelta) else float(duration)
     if not value > 0:
-        raise ValueError(f"a duration is above 0 seconds here, not {duration}")
+        raise ValueError(f"this duration has to be above 0 seconds, not {duration}")
     return value
 
 

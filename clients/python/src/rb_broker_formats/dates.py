@@ -29,7 +29,7 @@ def nanoseconds_of(text: str) -> int:
         date_and_time = datetime.fromisoformat(f"{day}T{minute or '00:00'}{second or ''}{zone}")
         passed = (date_and_time - EPOCH) // timedelta(seconds=1)
     else:
-        raise ValueError("no date and time")
+        raise ValueError("write 2026-11-26T08:00:00Z, or seconds since 1970 as @1795680000")
     if passed < 0:
         raise ValueError("it is before 1970")
     if passed >= (LIMIT - EPOCH) // timedelta(seconds=1):

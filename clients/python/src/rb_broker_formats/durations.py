@@ -12,6 +12,7 @@ UNITS = {
 }
 """The nanoseconds of each unit."""
 
+_UNITS = f"units are {', '.join(UNITS)}"
 _DURATION = re.compile(rf"([0-9]+(?:\.[0-9]+)?)({'|'.join(UNITS)}|)", re.ASCII)
 
 
@@ -23,12 +24,14 @@ def nanoseconds_in(text: str, bare: int = 0) -> Fraction | None:
     return Fraction(found[1]) * unit if found and unit else None
 
 
-def read_duration(text: str) -> int:
-    """The nanoseconds of `30s`, `1.5h` or `250`, which are nanoseconds as for the program. Raises `ValueError` with a
-    sentence that says what is wrong."""
-    duration = nanoseconds_in(text, bare=1)
+def read_duration(text: str, bare: int = 0) -> int:
+    """The nanoseconds of `30s` or `1.5h`. A number without a unit is of so many nanoseconds, or refused if these are 0.
+    Raises `ValueError` with a sentence that says what is wrong."""
+    duration = nanoseconds_in(text, bare)
+    if duration is None and nanoseconds_in(text, bare=1) is not None:
+        raise ValueError(f"{text} has no unit: write {text}s ({_UNITS})")
     if duration is None:
-        raise ValueError(f"{text} is no duration: write 30s, 2m or 1h (ns, us, ms, s, m, h, d), or nanoseconds")
+        raise ValueError(f"{text!r} is no duration: write 30s or 1.5h ({_UNITS})")
     if duration.denominator != 1:
         raise ValueError(f"{text} is not a whole number of nanoseconds")
     if duration > GREATEST_NUMBER:

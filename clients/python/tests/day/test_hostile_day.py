@@ -45,7 +45,7 @@ class WorkerProcess:
         self.record, self.handler = record, handler
         open(record, "ab").close()
         words = [sys.executable, "-m", "rb_broker_client", "worker", f"hostile_handlers:{handler}", "--port", port,
-                 "--concurrency", HELD, "--timeout", 1, "--record", record]
+                 "--concurrency", HELD, "--timeout", "1s", "--record", record]
         self._process = started([*map(str, words)], os.path.dirname(os.path.realpath(__file__)), subprocess.DEVNULL)
 
     @property

@@ -110,7 +110,7 @@ class ServedTest(ServingTest):
 
     def command(self, port, *words):
         """Runs the package's command to its end. Its status, and what it wrote."""
-        words = [sys.executable, "-m", "rb_broker_client", *words, "--port", port, "--patience", PATIENCE]
+        words = [sys.executable, "-m", "rb_broker_client", *words, "--port", port, "--patience", f"{PATIENCE}s"]
         ran = subprocess.run([*map(str, words)], capture_output=True, encoding="ascii", timeout=2 * PATIENCE)
         return ran.returncode, ran.stdout, ran.stderr
 

@@ -40,11 +40,11 @@ class CommandTest(ServedTest):
         for functions in (("handlers:deliver", "handlers:keep"), ("handlers:deliver_async", "handlers:keep_async")):
             server = self.serve("--sessions", 6, "--workers", 2, "--attempts", 2)
             self.assertEqual(self.assert_done(server, "peek"), "NONE\n")
-            said = self.assert_done(server, "offer", "0.001", "letter")
+            said = self.assert_done(server, "offer", "1ms", "letter")
             self.assertRegex(said, "^OFFERED 0 [0-9]+\n$")
             told = [self.assert_done(server, it) for it in ("peek", "size")]
             self.assertEqual(told, [f"HEAD 0 {said.split()[2]} 1 letter\n", "SIZE 1\n"])
-            self.assert_done(server, "offer", "0", "bad")
+            self.assert_done(server, "offer", "0s", "bad")
             worker = self.start(server, "--on-dead", functions[1], "--concurrency", "4", handler=functions[0])
             self.assertEqual({worker.stdout.readline() for _ in range(2)}, {"letter 1\n", "dead bad 2\n"})
             errors = self.assert_exits(worker, "done 1, again 1, dead 1, lost 0, unheard 0\n")
@@ -54,7 +54,7 @@ class CommandTest(ServedTest):
     def start_slow(self, sessions=2, *options):
         """A server, and a worker in the middle of a slow job."""
         server = self.serve("--sessions", sessions, *options)
-        self.assert_done(server, "offer", 0, "slow")
+        self.assert_done(server, "offer", "0s", "slow")
         worker = self.start(server)
         self.assertEqual(worker.stdout.readline(), "slow has begun\n")
         return server, worker
@@ -87,13 +87,13 @@ class CommandTest(ServedTest):
         server = self.serve("--sessions", 9)
         record = Path(self.file("record", ""))
         worker = self.start(server, "--record", str(record))
-        self.assert_done(server, "offer", 0, "first")
+        self.assert_done(server, "offer", "0s", "first")
         self.assertEqual(worker.stdout.readline(), "first 1\n")
         self.wait_until(lambda: "DONE 0" in record.read_text())
         server.kill()
         time.sleep(1)  # it looks for the next one meanwhile
         following = self.serve("--sessions", 2, port=server.port)
-        self.assert_done(following, "offer", 0, "second")
+        self.assert_done(following, "offer", "0s", "second")
         self.assertEqual(worker.stdout.readline(), "second 1\n")
         lost, again, run = self.assert_exits(worker, "done 2, again 0, dead 0, lost 0, unheard 0\n").splitlines()
         place = f"127.0.0.1:{server.port}"

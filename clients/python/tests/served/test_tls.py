@@ -66,7 +66,7 @@ class TlsTest(ServedTest):
     def test_the_command(self):
         proxy, words = self.protect(), self.words()
         worker = self.start_worker(proxy.port, "builtins:print", *words, stderr=subprocess.DEVNULL)
-        self.assertRegex(self.assert_done(proxy, "offer", 0, "letter", *words), r"\AOFFERED 0 [0-9]+\n\Z")
+        self.assertRegex(self.assert_done(proxy, "offer", "0s", "letter", *words), r"\AOFFERED 0 [0-9]+\n\Z")
         self.assertIn("letter", worker.stdout.readline())
         self.assert_exits(worker, "done 1, again 0, dead 0, lost 0, unheard 0\n")
         status, _, errors = self.command(proxy.port, "size", *words[:-1], self.certificates.key("stranger"))

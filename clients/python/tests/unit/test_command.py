@@ -33,10 +33,10 @@ class CommandTest(ScriptedTest):
         two = "OFFER 2000000000 a > OFFERED 0 5; OFFER 2000000000 b > OFFERED 1 6"
         drains = "DRAIN 64 > DRAINED 1, ITEM 0 5 1 a; DONE 0; DRAIN 64 > DRAINED 1, ITEM 1 6 3 b; DONE 1; DRAIN 64 > "
         for words, lines, steps, *told in (
-            ("offer 2.5 a", "", "OFFER 2500000000 a > OFFERED 17 5000000123", "OFFERED 17 5000000123"),
+            ("offer 2.5s a", "", "OFFER 2500000000 a > OFFERED 17 5000000123", "OFFERED 17 5000000123"),
             ("offer 2s a b", "", two, "OFFERED 0 5", "OFFERED 1 6"),
-            ("offer 2", "a\nb\n", two, "OFFERED 0 5", "OFFERED 1 6"),
-            ("offer 2", "a\r\nb", two, "OFFERED 0 5", "OFFERED 1 6"),
+            ("offer 2s", "a\nb\n", two, "OFFERED 0 5", "OFFERED 1 6"),
+            ("offer 2s", "a\r\nb", two, "OFFERED 0 5", "OFFERED 1 6"),
             ("size", "", "SIZE > SIZE 3; QUIT", "SIZE 3"),
             ("peek", "", "PEEK > HEAD 0 150 2 a; QUIT", "HEAD 0 150 2 a"),
             ("peek", "", "PEEK > NONE; QUIT", "NONE"),
@@ -53,16 +53,16 @@ class CommandTest(ScriptedTest):
 
     def test_delays(self):
         for word, delay in {
-            "0": 0, "250": 250 * 10**9, "0.5": 5 * 10**8, "250ns": 250, "3us": 3_000, "5ms": 5 * 10**6,
+            "0s": 0, "0.5s": 5 * 10**8, "250ns": 250, "3us": 3_000, "5ms": 5 * 10**6,
             "007s": 7 * 10**9, "2m": 120 * 10**9, "1.5h": 5_400 * 10**9, "1d": 86_400 * 10**9,
         }.items():
             self.assertEqual(nanoseconds(_delay(word)), delay, word)
 
     def test_what_is_not_done(self):
         for words, steps, told in (
-            ("offer 0 a", "OFFER 0 a > ERR 3 range", "ERR 3 range"), ("size", "SIZE > ERR 6 full", "ERR 6 full"),
-            ("offer 0 a --patience 0.1", "OFFER 0 a > hangs up", "OFFER 0 a was accepted or not: .*"),
-            ("offer 0 a --patience 0.1", None, "OFFER 0 a was not accepted: .*Connection refused"),
+            ("offer 0s a", "OFFER 0 a > ERR 3 range", "ERR 3 range"), ("size", "SIZE > ERR 6 full", "ERR 6 full"),
+            ("offer 0s a --patience 100ms", "OFFER 0 a > hangs up", "OFFER 0 a was accepted or not: .*"),
+            ("offer 0s a --patience 100ms", None, "OFFER 0 a was not accepted: .*Connection refused"),
             ("size", None, ".*Connection refused"),
         ):
             port = self.play(f"AT 0; {steps}").port if steps else free_port()
@@ -73,11 +73,20 @@ class CommandTest(ScriptedTest):
     def test_words_that_are_wrong(self):
         rows = [it.split(" | ") for it in table("command.txt").splitlines()]
         wrong = [shlex.split(f"{first} {it}") for first, *rest in rows for it in rest or [""]]
-        for words in ([], ["offer", "0", "a\nCLEAR", "--port", "1"], *wrong):
+        for words in ([], ["offer", "0s", "a\nCLEAR", "--port", "1"], *wrong):
             with self.subTest(words=words):
                 status, said, errors = run(*words)
                 self.assertEqual((status, said), (2, ""))
                 self.assertRegex(errors, r"(?m)^(rb_broker_client: |python3 -m rb_broker_client.*: error: )[^\n]+\n\Z")
+
+    def test_a_time_needs_its_unit(self):
+        says = r"error: argument {}: 30 has no unit: write 30s \(units are ns, us, ms, s, m, h, d\)\n\Z"
+        for words, option in (("size --patience 30", "--patience"), ("offer 30 a", "DELAY"),
+                              ("worker test_command:handle --timeout 30", "--timeout")):
+            with self.subTest(words=words):
+                status, said, errors = run(*words.split(), "--port", 1)
+                self.assertEqual((status, said), (2, ""))
+                self.assertRegex(errors, says.format(option))
 
     def test_a_record(self):
         server = self.play("AT 0; SIZE > SIZE 3; QUIT")

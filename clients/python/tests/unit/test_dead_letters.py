@@ -79,7 +79,7 @@ class CommandTest(FileCase):
     def test_what_was_not_offered_stays_in_the_file(self):
         self.keep("a", "b", "c")
         server = self.play("AT 0; OFFER 0 c > OFFERED 0 5; OFFER 0 b > hangs up")
-        self.assertEqual(run("dead", self.path, "--offer", "--port", server.port, "--patience", 0.5)[0], 1)
+        self.assertEqual(run("dead", self.path, "--offer", "--port", server.port, "--patience", "500ms")[0], 1)
         self.assertEqual(self.payloads(), ["a", "b"])
 
     def test_what_is_no_dead_letter(self):
