@@ -308,6 +308,18 @@ class TwoReplicasTest(LostTest):
                            self.struck(strike, "--replicas", "all", "--timeout", "60s"))
         self.assertEqual(total.lost, 0)
 
+    def test_a_primary_before_that_a_replica_still_follows(self) -> None:
+        """As many have what it does as have to have what the next one does."""
+
+        def strike(sentinels: Sentinels) -> None:
+            for it in sentinels.watched.replicas:  # each may take over, and none follows another one
+                it.ask("ACL", "SETUSER", "default", "-replicaof", "-slaveof", "+slaveof|no")
+            self.fail_over(sentinels)
+
+        total = self.tried("2 replicas, --replicas all, SENTINEL FAILOVER, one follows the primary before",
+                           self.struck(strike, "--replicas", "all", "--timeout", "60s"))
+        self.assertEqual(total.lost, 0)
+
     def test_all_that_are_up(self) -> None:
         """Nothing is lost, and offers are answered while a replica is dead."""
 

@@ -1,10 +1,12 @@
 """How many replicas are waited for, by what Sentinels and the primary say."""
 from __future__ import annotations
 
+import asyncio
 import unittest
+from unittest import mock
 
 from rb_broker_redis.address import read_address
-from rb_broker_redis.replicas import Replica, Replicas, Told
+from rb_broker_redis.replicas import MOST_REPLICAS, Replica, Replicas, Told
 from rb_broker_redis.resp import ErrorAnswer
 
 ONE, TWO, THREE = (("127.0.0.1", port) for port in (7001, 7002, 7003))
@@ -33,6 +35,24 @@ def info(*lines: tuple[tuple[str, int], str, int, int]) -> bytes:
 def role(*offsets: tuple[tuple[str, int], int]) -> list[object]:
     """What its ROLE says of replicas, with what each has."""
     return [b"master", 9, [[host.encode(), b"%d" % port, b"%d" % offset] for (host, port), offset in offsets]]
+
+
+class FakeSentinel:
+    """A Sentinel that answers each question by the next of these words, and the others by the last of them."""
+
+    def __init__(self, *told: Told) -> None:
+        self._told = [*told]
+
+    def _next(self) -> Told:
+        return self._told.pop(0) if len(self._told) > 1 else self._told[0]
+
+    async def sentinel_get_master_addr_by_name(self, master: str) -> tuple[str, int]:
+        return self._next().primary
+
+    async def sentinel_slaves(self, master: str) -> list[dict[str, object]]:
+        return [{"ip": host, "port": port, "is_sdown": is_down, "is_odown": False, "role-reported": "slave",
+                 "master-link-status": "ok" if follows else "err"}
+                for (host, port), is_down, follows in self._next().replicas]
 
 
 class ReplicasTest(unittest.TestCase):
@@ -76,6 +96,14 @@ class ReplicasTest(unittest.TestCase):
         self.assert_wanted(1, Told(TWO, [apart(ONE), follows(THREE)]))
         self.assertEqual(self.replicas.primary, TWO)
         self.assert_wanted(2, Told(TWO, [follows(ONE), follows(THREE)]))
+
+    def test_nor_once_they_name_it_though_as_many_follow_as_that_one_waits_for(self) -> None:
+        self.assertEqual(self.replicas.wanted_at(ONE), MOST_REPLICAS)
+        for told, wanted in ((Told(ONE, [follows(TWO), follows(THREE)]), (2, MOST_REPLICAS)),
+                             (Told(TWO, [apart(ONE), follows(THREE)]), (MOST_REPLICAS, 1))):
+            self.replicas.take([told, told, Told(ONE, [follows(TWO), follows(THREE)])])
+            self.replicas.see(role((THREE, 9)))
+            self.assertEqual((self.replicas.wanted_at(ONE), self.replicas.wanted_at(TWO)), wanted)
 
     def test_one_that_has_just_stood_still_is_not_waited_for_either(self) -> None:
         self.assert_wanted(2, Told(ONE, [follows(TWO), follows(THREE)]))
@@ -143,3 +171,16 @@ class ReplicasTest(unittest.TestCase):
         self.replicas.see(role((TWO, 7), (THREE, 7)))
         self.assertEqual(self.replicas.wanted, 2)
         self.assert_wanted(2, Told(ONE, [down(("b", 7002)), down(("c", 7003))]))
+
+    def assert_looked(self, count: int, *sentinels: FakeSentinel) -> None:
+        """So many have to have what the first node does, once these Sentinels were asked."""
+        with mock.patch("rb_broker_redis.replicas.Sentinel", return_value=mock.Mock(sentinels=[*sentinels])):
+            replicas = Replicas(read_address("redis+sentinel://a,b,c/main"))
+        asyncio.run(replicas.look())
+        self.assertEqual(replicas.wanted_at(ONE), count)
+
+    def test_what_a_sentinel_says_of_two_primaries_is_not_taken_for_one_word(self) -> None:
+        """It may learn of the next one while it is asked."""
+        before, after = Told(ONE, [follows(TWO), follows(THREE)]), Told(TWO, [apart(ONE), follows(THREE)])
+        self.assert_looked(2, *(FakeSentinel(before) for _ in range(3)))
+        self.assert_looked(MOST_REPLICAS, *(FakeSentinel(before, after) for _ in range(3)))

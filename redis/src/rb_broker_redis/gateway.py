@@ -11,15 +11,13 @@ from .calls import Calls
 from .claim import claim_shards
 from .link import is_set_in_time
 from .protocol import SECOND
+from .replicas import MOST_REPLICAS
 from .session import Session
 from .sharded_calls import ShardedCalls
 from .upkeep import Upkeep
 from .waits import Waits
 
 LOG = logging.getLogger(__name__)
-
-MOST_REPLICAS = 100
-"""None are as many: nothing is answered before it is known how many there are."""
 
 SECONDS_TO_END = 10.0
 """If no session ends for so long, those that are left are closed, and end with the gateway's lease."""

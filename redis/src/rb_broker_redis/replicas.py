@@ -2,8 +2,9 @@
 
 All have to that a Sentinel can reach, since each of those may take over: also one that is back, and has not got all yet,
 since a Sentinel may know of its state before that. A primary that is replaced, and does not know it yet, has lost the
-replica that replaces it: so it can answer nothing any more. It need not have what is done itself before it follows the
-new one: the Sentinels know that it has less.
+replica that replaces it: so it can answer nothing any more. Once a majority names the new one it may not, either: what is
+wanted is of the new one then, and as many may still follow the one before. That need not have what is done itself before
+it follows the new one: the Sentinels know that it has less.
 
 Who follows the primary by its own word is waited for in any case, from the first call on that it answers with that
 replica. A Sentinel may not reach one that follows, or not know yet that the primary before follows now. Both words are
@@ -24,6 +25,9 @@ from redis.exceptions import RedisError
 
 from .address import Address
 from .resp import Answer
+
+MOST_REPLICAS = 100
+"""None are as many: nothing is answered before it is known how many there are."""
 
 SECONDS_TO_ANSWER = 1.0
 MOST_LAG = 2
@@ -80,6 +84,12 @@ class Replicas:
             return max(self._least, len(reached), len(following))
         return max(self._least, len(reached | following))
 
+    def wanted_at(self, place: Place) -> int:
+        """How many replicas have to have what this node does: more than there are if it is not the one that a majority
+        named last, or that is not known."""
+        wanted = self.wanted if place == self.primary else None
+        return MOST_REPLICAS if wanted is None else wanted
+
     async def look(self) -> None:
         """Asks them."""
         told = await asyncio.gather(*map(self._told_by, self._sentinels), return_exceptions=True)
@@ -117,10 +127,11 @@ class Replicas:
 
     async def _told_by(self, sentinel: Redis[bytes]) -> Told:
         async with asyncio.timeout(SECONDS_TO_ANSWER):
+            # The replicas first: of a Sentinel that learns of another primary meanwhile, that one is not among them.
+            replicas = await sentinel.sentinel_slaves(self._master)  # type: ignore[no-untyped-call]
             primary = await sentinel.sentinel_get_master_addr_by_name(self._master)  # type: ignore[no-untyped-call]
             if primary is None:
                 raise RedisError("it knows no such primary")
-            replicas = await sentinel.sentinel_slaves(self._master)  # type: ignore[no-untyped-call]
             return Told(_place(*primary), [*map(_replica, replicas)])
 
     async def close(self) -> None:

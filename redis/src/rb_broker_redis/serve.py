@@ -15,9 +15,10 @@ from rb_broker_formats.grammar import MOST_EVENTS
 
 from .address import Kind
 from .ending import Failed
-from .gateway import MOST_REPLICAS, Gateway
+from .gateway import Gateway
 from .protocol import SECOND
 from .queue import Queue, connect
+from .replicas import MOST_REPLICAS
 from .resp import ErrorAnswer
 from .shards import shard_names
 from .site import Site

@@ -262,13 +262,10 @@ class Upkeep:
         """Lets replies wait for all replicas that are up, and leaves a primary that the Sentinels have replaced."""
         replicas = Replicas(self._address)
 
-        def want() -> None:
-            if replicas.wanted is not None:
-                self._calls.replicas = replicas.wanted
-
         def see(role: Answer) -> None:
             replicas.see(role)
-            want()
+            if self._link:
+                self._calls.replicas = replicas.wanted_at(self._link.place)
 
         self._calls.saw_role = see
         try:
@@ -277,9 +274,10 @@ class Upkeep:
                 with contextlib.suppress(OSError, ErrorAnswer):
                     if self._link:
                         replicas.follow(await self._link.ask("INFO", "replication"))
-                want()
                 if self._link and replicas.primary not in (None, self._link.place):
                     self._link.close()
+                if replicas.primary:  # to which this link leads, or the next one
+                    self._calls.replicas = replicas.wanted_at(replicas.primary)
                 await asyncio.sleep(SECONDS_BETWEEN_LOOKS)
         finally:
             await replicas.close()
