@@ -38,10 +38,11 @@ def role(*offsets: tuple[tuple[str, int], int]) -> list[object]:
 
 
 class FakeSentinel:
-    """A Sentinel that answers each question by the next of these words, and the others by the last of them."""
+    """A Sentinel that answers each question by the next of these words, and the others by the last of them. A replica
+    that is down has these flags."""
 
-    def __init__(self, *told: Told) -> None:
-        self._told = [*told]
+    def __init__(self, *told: Told, flags: str = "s_down,slave") -> None:
+        self._told, self._flags = [*told], flags
 
     def _next(self) -> Told:
         return self._told.pop(0) if len(self._told) > 1 else self._told[0]
@@ -50,7 +51,8 @@ class FakeSentinel:
         return self._next().primary
 
     async def sentinel_slaves(self, master: str) -> list[dict[str, object]]:
-        return [{"ip": host, "port": port, "is_sdown": is_down, "is_odown": False, "role-reported": "slave",
+        return [{"ip": host, "port": port, "is_sdown": is_down, "is_odown": False,
+                 "flags": self._flags if is_down else "slave", "role-reported": "slave",
                  "master-link-status": "ok" if follows else "err"}
                 for (host, port), is_down, follows in self._next().replicas]
 
@@ -184,3 +186,8 @@ class ReplicasTest(unittest.TestCase):
         before, after = Told(ONE, [follows(TWO), follows(THREE)]), Told(TWO, [apart(ONE), follows(THREE)])
         self.assert_looked(2, *(FakeSentinel(before) for _ in range(3)))
         self.assert_looked(MOST_REPLICAS, *(FakeSentinel(before, after) for _ in range(3)))
+
+    def test_one_that_was_chosen_to_take_over_is_waited_for_though_no_sentinel_reaches_it(self) -> None:
+        told = Told(ONE, [down(TWO), follows(THREE)])
+        for flags, count in (("s_down,slave", 1), ("s_down,slave,promoted", 2)):
+            self.assert_looked(count, FakeSentinel(told), FakeSentinel(told), FakeSentinel(told, flags=flags))

@@ -1,10 +1,11 @@
 """How many replicas have to have what is done, before it is answered, so that none that takes over lacks it.
 
 All have to that a Sentinel can reach, since each of those may take over: also one that is back, and has not got all yet,
-since a Sentinel may know of its state before that. A primary that is replaced, and does not know it yet, has lost the
-replica that replaces it: so it can answer nothing any more. Once a majority names the new one it may not, either: what is
-wanted is of the new one then, and as many may still follow the one before. That need not have what is done itself before
-it follows the new one: the Sentinels know that it has less.
+since a Sentinel may know of its state before that; and one that was chosen to take over and stands still, since it will
+once it goes on. A primary that is replaced, and does not know it yet, has lost the replica that replaces it: so it can
+answer nothing any more. Once a majority names the new one it may not, either: what is wanted is of the new one then, and
+as many may still follow the one before. That need not have what is done itself before it follows the new one: the
+Sentinels know that it has less.
 
 Who follows the primary by its own word is waited for in any case, from the first call on that it answers with that
 replica. A Sentinel may not reach one that follows, or not know yet that the primary before follows now. Both words are
@@ -41,6 +42,7 @@ class Replica(NamedTuple):
 
     place: Place
     is_down: bool
+    """Whether it can't be reached, and was not chosen to take over."""
     follows: bool
     """Whether it has the primary's data, and gets what is new."""
 
@@ -142,7 +144,8 @@ class Replicas:
 
 def _replica(it: dict[str, Any]) -> Replica:
     follows = (_text(it["role-reported"]), _text(it["master-link-status"])) == ("slave", "ok")
-    return Replica(_place(it["ip"], it["port"]), it["is_sdown"] or it["is_odown"], follows)
+    is_down = (it["is_sdown"] or it["is_odown"]) and "promoted" not in it["flags"]
+    return Replica(_place(it["ip"], it["port"]), is_down, follows)
 
 
 def _place(host: bytes | str, port: object) -> Place:
