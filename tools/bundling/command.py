@@ -5,7 +5,8 @@ the Python packages of clients and of gateways to Redis, and the documents for u
 tool packs the program byte for byte as it is; without --program, ./broker first builds it if it has to. The version is
 the repository's: its tag, or else the time and the name of the last commit. The same files make the same package.
 
-The tool needs git and debhelper, and no network. It prints the path of the package.
+The tool needs git and debhelper, which it looks for before all else, and no network. It prints the path of the
+package.
 
 Exit status: 0 if the package was made, 2 if it was not; one line on standard error then says why.
 """
@@ -15,7 +16,7 @@ from pathlib import Path
 from common.program import built_program
 from common.words import parser_of
 from bundling import Fault
-from bundling.debian import make_package
+from bundling.debian import look_ahead, make_package
 
 
 def main() -> int:
@@ -25,6 +26,7 @@ def main() -> int:
                         help="the folder of the package (default: this folder)")
     given = parser.parse_args()
     try:
+        look_ahead(given.output)
         print(make_package(Path(built_program(given.program)), given.output))
         return 0
     except (Fault, OSError) as fault:

@@ -14,6 +14,7 @@ from common.program import TOP
 FOLDERS = ("clients/java", "clients/python", "docs", "examples", "packaging", "redis", "tools")
 PAGES = ("CHANGELOG.md", "CONTRIBUTING.md", "README.md")
 NOT_PACKED = shutil.ignore_patterns("tests", "__pycache__", "*.py[co]")
+NEEDED = {"/usr/bin/make": "make", "dh": "debhelper", "git": "git"}  # commands, each with Debian's package of it
 
 # What changed is told by CHANGELOG.md, which lies beside it as changelog.gz.
 CHANGELOG = """rb-broker ({}) unstable; urgency=medium
@@ -24,12 +25,20 @@ CHANGELOG = """rb-broker ({}) unstable; urgency=medium
 """
 
 
+def look_ahead(folder: Path) -> None:
+    """Raises a `Fault` if no package can be made in a folder, whatever the program: its build takes long."""
+    if not folder.is_dir():
+        raise Fault(f"{folder} is no folder")
+    for command, package in NEEDED.items():
+        if not shutil.which(command):
+            raise Fault(f"there is no {command}: apt install {package}")
+    version_of_repository()
+
+
 def make_package(program: Path, folder: Path) -> Path:
     """Makes the package of a program in a folder, and returns its path. The same files make the same package."""
     if not program.is_file() or program.read_bytes()[:4] != b"\x7fELF":
         raise Fault(f"{program} is no {'ELF program' if program.is_file() else 'file'}")
-    if not folder.is_dir():
-        raise Fault(f"{folder} is no folder")
     version, moment = version_of_repository()
     with tempfile.TemporaryDirectory(prefix="rb-package-") as room:
         tree = Path(room, "tree")
@@ -57,11 +66,8 @@ def copy_to(tree: Path, program: Path) -> None:
 
 def build(tree: Path) -> None:
     """Makes the package beside a tree. The times in it are at most that of its changelog."""
-    try:
-        made = subprocess.run(["debian/rules", "binary"], cwd=tree, env={**os.environ, "LC_ALL": "C"}, encoding="utf-8",
-                              stdin=subprocess.DEVNULL, capture_output=True, check=False)
-    except OSError as fault:
-        raise Fault(f"there is no {fault.filename}") from None
+    made = subprocess.run(["debian/rules", "binary"], cwd=tree, env={**os.environ, "LC_ALL": "C"}, encoding="utf-8",
+                          stdin=subprocess.DEVNULL, capture_output=True, check=False)
     if made.returncode:
         raise Fault(f"debhelper makes no package: {' '.join(made.stderr.split())}")
 
@@ -73,15 +79,18 @@ def version_of_repository() -> tuple[str, int]:
     all others. If the checkout has changes that are not committed, `+changed` follows.
     """
     dated = "--date=format-local:%Y%m%d%H%M%S"
-    moment, _, text = git("log", "-1", "--abbrev=8", dated, "--format=%ct 0~%cd.%h").partition(" ")
-    if not moment:
-        raise Fault("git knows no commit of this folder, which names the package's version")
-    tagged = re.sub(r"-(\d+)-g([0-9a-f]+)$", r"+\1.\2", git("describe", "--abbrev=8", "--match=v[0-9]*"))[1:]
-    return (tagged or text) + ("+changed" if git("status", "--porcelain") else ""), int(moment)
+    last, why = git("log", "-1", "--abbrev=8", dated, "--format=%ct 0~%cd.%h")
+    if not last:
+        raise Fault(f"git knows no commit of this folder, which names the package's version: {why}")
+    moment, _, text = last.partition(" ")
+    described, _ = git("describe", "--abbrev=8", "--match=v[0-9]*")
+    changed, _ = git("status", "--porcelain")
+    tagged = re.sub(r"-(\d+)-g([0-9a-f]+)$", r"+\1.\2", described)[1:]
+    return (tagged or text) + ("+changed" if changed else ""), int(moment)
 
 
-def git(*words: str) -> str:
-    """What git says about the repository, or nothing if it fails. It tells dates in UTC."""
+def git(*words: str) -> tuple[str, str]:
+    """What git says about the repository, or nothing and why it fails, in one line. It tells dates in UTC."""
     words, environment = ("git", "-C", TOP, *words), {**os.environ, "TZ": "UTC"}
     ran = subprocess.run(words, capture_output=True, encoding="utf-8", env=environment, check=False)
-    return "" if ran.returncode else ran.stdout.strip()
+    return ("", " ".join(ran.stderr.split())) if ran.returncode else (ran.stdout.strip(), "")
