@@ -65,6 +65,7 @@ class Build:
                 self._progress.hear(running.crate, running.output())
                 if has_ended:
                     self._end(running)
+            self._progress.break_silence()
         return self._progress.seconds()
 
     def _begin_those_that_may(self) -> None:

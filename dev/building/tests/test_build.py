@@ -1,5 +1,6 @@
 """Builds by ./broker: which crates, in which order, what is told of them, and how they fail."""
 import os
+import re
 import unittest
 
 from building.build import ROOM, may_begin
@@ -36,8 +37,8 @@ class BuildTest(CheckoutTest):
         status, output, errors = self.build("script", "--from", "two words", told="input\n")
         self.assertEqual((status, output), (7, "words script --from two words\ninput\n"), errors)
         lines = errors.splitlines()
-        begins = "broker: building rb_broker, which takes minutes the first time, since its proofs are checked"
-        self.assertEqual(lines[0], begins)
+        first = "which takes 20 minutes or more, and 6 GB, the first time, since its proofs are checked"
+        self.assertEqual(lines[0], f"broker: building rb_broker, {first}")
         self.assertRegex(lines[-2], r"^broker: \d+ s: (.*; )?rb_broker took \d+ s; 5 of 5 crates built$")
         self.assertRegex(lines[-1], r"^broker: built rb_broker in \d+ s$")
 
@@ -86,6 +87,14 @@ class BuildTest(CheckoutTest):
         self.assertRegex(errors, r"(?m)^broker: \d+ s: proving rb_right$")
         third = r"(?m)^broker: \d+ s: rb_\w+ took \d+ s; 3 of 5 crates built\n"
         self.assertRegex(errors, third + r"broker: \d+ s: rb_right took \d+ s; 4 of 5 crates built$")
+
+    def test_a_long_proof_is_told_again(self) -> None:
+        progress = self.top / "dev/building/progress.py"
+        progress.write_text(re.sub(r"(?m)^SILENCE = [\d.]+", "SILENCE = 0.5", progress.read_text("utf-8")), "utf-8")
+        self.does("rb_right", "sleep 2.5")
+        _, _, errors = self.build(before=ONE)
+        self.assertRegex(errors, r"(?m)^broker: \d+ s: still proving rb_right for \d s$")
+        self.assertNotIn("still proving rb_base", errors)
 
     def test_a_crate_whose_proof_is_kept_is_named_only_if_rt_waits(self) -> None:
         self.does("rb_left.kept", "")

@@ -11,7 +11,8 @@ from building.tests.checkout import CheckoutTest
 class SurroundingsTest(CheckoutTest):
     def test_commands(self) -> None:
         lacks = "broker: rb_broker has to be built, and"
-        no_rt = f"{lacks} the command rt, which builds it, is not on the PATH\n"
+        origin = "(from whoever gave you this repository)"
+        no_rt = f"{lacks} the command rt, which builds it, is not on the PATH {origin}\n"
         no_python = f"{lacks} python3, which dev/build needs, is not on the PATH\n"
         self.assertEqual(self.run_with("bash", "readlink", "find", "python3"), (127, no_rt))
         self.assertEqual(self.run_with("bash", "readlink", "find"), (127, no_python))
