@@ -75,7 +75,8 @@ def main() -> int:
     files = [*takewhile(lambda word: word.endswith(".case"), given.words)]
     command = given.words[len(files):]
     if command and not shutil.which(command[0]):
-        parser.error(f"there is no program {command[0]}")
+        is_table = command[0].endswith(".rows")
+        parser.error(f"{command[0]}: tables are run by dev/cases" if is_table else f"there is no program {command[0]}")
     try:
         cases = [case for path in files or sorted(CASES.glob("*.case")) for case in read_cases(str(path))
                  if given.only in case.name or given.only in case.file]

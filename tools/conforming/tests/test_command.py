@@ -100,6 +100,7 @@ def test_a_file_that_is_no_program(tmp_path: Path) -> None:
 
 @pytest.mark.parametrize(("words", "told"), [
     (["/nowhere/broker", "--only", "no such case"], "there is no program /nowhere/broker"),
+    (["/nowhere/queues.rows"], "/nowhere/queues.rows: tables are run by dev/cases"),
     (["--only", "no such case", "true"], "no case has 'no such case' in its name"),
 ])
 def test_words_that_are_refused(words: list[str], told: str) -> None:
