@@ -135,10 +135,19 @@ def check(cases: Sequence[Case]) -> None:
         names.add(case.name)
 
 
+def read_text(path: str) -> str:
+    """The text of a file. Raises a `Malformed`."""
+    try:
+        return Path(path).read_text("utf-8")
+    except UnicodeDecodeError as fault:
+        line = 1 + fault.object.count(b"\n", 0, fault.start)
+        raise Malformed(f"{path}:{line}: {fault.reason}, where UTF-8 is needed") from None
+
+
 def read_cases(path: str) -> list[Case]:
     """The cases of a file. Raises a `Malformed`."""
     cases: list[Case] = []
-    for number, line in enumerate(Path(path).read_text("utf-8").split("\n"), start=1):
+    for number, line in enumerate(read_text(path).split("\n"), start=1):
         word, _, told = line.partition(" ")
         if word == "case":
             cases.append(Case(os.path.basename(path), number, told))

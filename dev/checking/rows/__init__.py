@@ -1,9 +1,7 @@
 """rb_cases, its program and its tables of rows."""
-import difflib
 import fcntl
 import os
 import shutil
-import subprocess
 import sys
 from pathlib import Path
 
@@ -14,28 +12,24 @@ CRATE = Path(TOP, "crates/rb_cases")
 PROVED, UNPROVED = CRATE / "out/rb_cases", CRATE / "out/unproved"
 
 
-def rb_cases(room: str) -> Path:
-    """The program that the gate left, or an earlier call of this. If there is none, or a source is newer, `rt try` makes
-    one without proofs, which takes some minutes."""
+def kept() -> Path | None:
+    """The program that the gate left, or an earlier call of `rb_cases`, unless a source is newer."""
     newest = max(source.stat().st_mtime for source in (CRATE / "src").rglob("*.rt"))
+    there = (path for path in (PROVED, UNPROVED) if os.access(path, os.X_OK))
+    return next((path for path in there if path.stat().st_mtime > newest), None)
+
+
+def rb_cases(room: str) -> Path:
+    """The program that is kept. If there is none, `rt try` makes one without proofs, which takes some minutes."""
     UNPROVED.parent.mkdir(exist_ok=True)
     with open(UNPROVED.with_suffix(".lock"), "w") as turn:
         fcntl.flock(turn, fcntl.LOCK_EX)  # who comes meanwhile takes what is made here
-        for path in (PROVED, UNPROVED):
-            if os.access(path, os.X_OK) and path.stat().st_mtime > newest:
-                return path
-        print("cases: making rb_cases without proofs", file=sys.stderr)
+        if program := kept():
+            return program
+        print("cases: making rb_cases without proofs, which takes three minutes or more", file=sys.stderr)
         shutil.move(built(str(CRATE), room), UNPROVED)
         os.utime(UNPROVED)
     return UNPROVED
-
-
-def differences_of(program: Path, crate: Path) -> tuple[list[str], str]:
-    """Runs all that a folder's `args` name. What differs from its `stdout`, as lines of a diff, and the last line."""
-    files, wanted = ((crate / name).read_text("utf-8").splitlines() for name in ("args", "stdout"))
-    ran = subprocess.run([program, *files], cwd=crate / "data", stdout=subprocess.PIPE, encoding="utf-8", check=False)
-    told = ran.stdout.splitlines()
-    return [*difflib.unified_diff(wanted, told, "stdout", "rb_cases", lineterm="", n=0)], told[-1]
 
 
 def tables_of(path: Path) -> list[list[str]]:

@@ -12,7 +12,7 @@ from typing import Callable, Iterator
 import pytest
 
 from checking.pages.reading import blocks, section
-from checking.rows import CRATE, differences_of, rb_cases, tables_of
+from checking.rows import CRATE, rb_cases, tables_of
 from common.program import TOP
 
 OTHER = " @"  # what is put behind an answer, which no answer ends with
@@ -87,21 +87,19 @@ def test_the_command_of_the_page() -> None:
     assert re.search(r"^0 cases and \d+ tables, 0 not as they must be\n\Z", ran.stdout, re.M)
 
 
-def test_what_the_gate_wants_to_be_printed(tmp_path: Path) -> None:
-    """A case that stdout lacks, and the counts with it, are what differs."""
-    (tmp_path / "data").mkdir()
-    (tmp_path / "data/a.case").write_text("case one\n> SIZE\n< SIZE 0\nends input 0\n\ncase two\nends input 0\n")
-    (tmp_path / "args").write_text("a.case\n")
-    (tmp_path / "stdout").write_text("a.case: one: ok\n1 cases and 0 tables, 0 not as they must be\n")
-    told, counts = differences_of(rb_cases(str(tmp_path)), tmp_path)
-    assert counts == "2 cases and 0 tables, 0 not as they must be"
-    assert [line for line in told if line[:1] in "+-" and line[:3] not in ("+++", "---")] == [
-        "-1 cases and 0 tables, 0 not as they must be", "+a.case: two: ok", f"+{counts}"]
+def test_a_wrong_case_is_told_with_its_line(tmp_path: Path) -> None:
+    path = tmp_path / "a.case"
+    path.write_text("case one\n> SIZE\n< SIZE 0\nends input 0\n\ncase two\n> SIZE\n< SIZE 1\nends input 0\n")
+    ran = cases(str(path))
+    first, second, counts = ran.stdout.splitlines()
+    assert (ran.returncode, first) == (1, f"{path}: one: ok"), ran.stderr
+    assert second.startswith(f"{path}:6: two: over list, ") and second.endswith(r'"SIZE 0\n" in place of "SIZE 1\n"')
+    assert counts == "2 cases and 0 tables, 1 not as they must be"
 
 
 @pytest.mark.parametrize(("name", "text", "told"), [
     ("a.rows", "table queue a\nbegin 1 = begun\n0 0 sise = size 0\n", "3: no such command"),
-    ("a.case", "case a\n> SIZE\nend input 0\n", "3: no word of a case"),
+    ("a.case", "case a\n> SIZE\nend input 0\n", "3: no word of a case: end"),
 ])
 def test_a_misspelt_word(tmp_path: Path, name: str, text: str, told: str) -> None:
     (tmp_path / name).write_text(text)
