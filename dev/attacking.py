@@ -1,6 +1,6 @@
 """Tries the attacks of crates: wrong bodies that the prover must refuse, like the must-fail edits.
 
-    dev/attack NAME ..    the attacks of these crates (default: all)
+    dev/attack NAME ..    the attacks of these crates (default: all), or of a crate the one that NAME/ATTACK names
     dev/attack --landing  the attacks of crates that changed since the landing before, those that changed themselves,
                           and a tenth of all, by the number in dev/tenth, to which each landing adds one
     --minutes M           gives up the attacks that have no result after M minutes
@@ -11,6 +11,9 @@ that the gate left in out/ and what earlier checks kept there. It tries an attac
 more than one. The command leaves the checkout as it is, and removes the copies at the end. It keeps on this machine
 which attacks were refused, with the texts that the check read, and does not try these again while the texts are the
 same.
+
+Where a library that a crate stands on is missing, or older than its sources, it is proved first, which a line on
+standard error says.
 
 It prints a line for each crate, the attacks that were not refused, each with the prover's words, the attacks that were
 refused only because a proof names what the edit removed, and finally `N refused, M not`, with `, K not tried` if time
@@ -28,7 +31,7 @@ from collections import Counter
 from concurrent.futures import ThreadPoolExecutor
 from pathlib import Path
 from queue import SimpleQueue
-from typing import Callable, Collection, NamedTuple, Sequence
+from typing import Callable, Collection, Iterable, NamedTuple, Sequence
 
 from building.build import available_memory
 from building.crates import own_uses, read_uses, with_those_below
@@ -89,6 +92,20 @@ def attacks_of_landing(number: int, changed: Collection[tuple[str, str]]) -> Cho
     return chosen
 
 
+def attacks_named(words: Iterable[str]) -> Chosen:
+    """The attacks that words name: NAME those of a crate, and NAME/ATTACK one of them. Raises a `ValueError`."""
+    chosen: Chosen = {}
+    for word in words:
+        crate, _, one = word.partition("/")
+        if crate not in USES:
+            raise ValueError(f"crates.txt has no crate {crate}")
+        edits = [edit for edit in edits_of(crate) if not one or edit in (one, f"{one}.edit")]
+        if one and not edits:
+            raise ValueError(f"crates/{crate}/{ATTACKS} has no {one}")
+        chosen[crate] = sorted({*chosen.get(crate, []), *edits})
+    return {crate: edits for crate, edits in chosen.items() if edits}
+
+
 def edited(crate: Path, edit: Path) -> dict[Path, str]:
     """The files that an edit changes of a crate, with their texts then. Raises a `ValueError` if an old text does not
     stand there once: the prover would never see the edit."""
@@ -125,7 +142,8 @@ class Copies:
         table = [f"{name}: {' '.join(named)}\n" for name, named in read_uses(TOP).items() if name in needed]
         (first / "crates.txt").write_text("".join(table), "utf-8")
         shutil.copy2(f"{TOP}/HANDLES", first)
-        stamp_libraries(first, USES)
+        if needed - {self.crate} - stamp_libraries(first, USES):
+            print(f"attack: proving {self.crate} and what it stands on first", file=sys.stderr)
         self.free.put(first)
         many = places()
         status, said = self.check({}, many)
@@ -276,19 +294,20 @@ def attack(chosen: Chosen, until: float, room: Path) -> int:
 
 def main() -> int:
     parser = parser_of("dev/attack", __doc__)
-    parser.add_argument("crates", nargs="*", metavar="NAME", help="a crate of crates.txt (default: all)")
+    parser.add_argument("names", nargs="*", metavar="NAME",
+                        help="a crate of crates.txt (default: all), or one of its attacks, as CRATE/ATTACK")
     parser.add_argument("--landing", action="store_true", help="the attacks of what changed, and a tenth of all, by dev/tenth")
     parser.add_argument("--minutes", type=number(float, 0, 10_000), default=10_000, metavar="M",
                         help="gives up the attacks that have no result after M minutes")
     given = parser.parse_args()
-    for name in given.crates:
-        if name not in USES:
-            parser.error(f"crates.txt has no crate {name}")
+    try:
+        chosen = attacks_named(given.names or USES)
+    except ValueError as fault:
+        parser.error(str(fault))
     if not shutil.which("rt"):
         parser.error("there is no command rt on the path")
-    if given.landing and given.crates:
+    if given.landing and given.names:
         parser.error("--landing names the crates")
-    chosen = {crate: edits for crate in dict.fromkeys(given.crates or USES) if (edits := edits_of(crate))}
     if given.landing:
         chosen = attacks_of_landing(int(Path(TOP, TENTH).read_text("ascii")), changed_attacks())
     until = time.monotonic() + 60 * given.minutes

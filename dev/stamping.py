@@ -27,17 +27,18 @@ for crate in rtlib.crates_below(top):
 """
 
 
-def stamp_libraries(top: Path, uses: dict[str, list[str]]) -> None:
-    """Stamps the libraries of a checkout that are younger than their sources, and than those of all that they stand on.
-    Where the kit has another form, they are proved once more."""
+def stamp_libraries(top: Path, uses: dict[str, list[str]]) -> set[str]:
+    """Stamps the libraries of a checkout that are younger than their sources, and than those of all that they stand on,
+    and returns their names. Where the kit has another form, they are proved once more."""
     there = {path.name: path for path in (top / "crates").iterdir()}
     changed = {name: changed_at(path) for name, path in there.items()}
     built = [name for name, path in there.items() if (path / f"out/rlib/{name}.rlib").is_dir()]
-    fresh = [name for name in built if (there[name] / "out/rlib").stat().st_mtime > max(
-        changed[below] for below in with_those_below([name], uses))]
+    fresh = {name for name in built if (there[name] / "out/rlib").stat().st_mtime > max(
+        changed[below] for below in with_those_below([name], uses))}
     kit = os.path.dirname(os.path.realpath(shutil.which("rt") or "rt"))
     subprocess.run([sys.executable, "-c", STAMP, kit, str(top), *fresh], stdout=subprocess.DEVNULL,
                    stderr=subprocess.DEVNULL, stdin=subprocess.DEVNULL, check=False)
+    return fresh
 
 
 def changed_at(crate: Path) -> float:

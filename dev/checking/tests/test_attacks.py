@@ -2,7 +2,9 @@
 import os
 import subprocess
 import sys
+import time
 from pathlib import Path
+from typing import Callable
 
 import pytest
 
@@ -34,6 +36,8 @@ for name, why in found:
 print("fn rb_bell::bell::fresh: proved", "logic=not-proved" if found else "logic=proved", sep="\\n")
 sys.exit(bool(found))
 """
+
+Files = Callable[[dict[str, str]], Path]
 
 
 def attack(folder: Path, prover: str, *words: str, kit: str = "a kit") -> subprocess.CompletedProcess[str]:
@@ -119,6 +123,39 @@ def test_libraries_that_are_stamped(tmp_path: Path, monkeypatch: pytest.MonkeyPa
     stamping.stamp_libraries(tmp_path, {"low": [], "left": ["low"], "right": ["low"], "bare": ["low"]})
     stamps = {path.parts[-4]: path.read_text() for path in tmp_path.glob("crates/*/out/rlib/stamp")}
     assert stamps == {"low": "low", "left": "left"}
+
+
+def test_it_is_told_that_libraries_are_proved_first(files: Files, monkeypatch: pytest.MonkeyPatch,
+                                                    capsys: pytest.CaptureFixture[str]) -> None:
+    top = files({"crates.txt": "low:\nhigh: low\n", "HANDLES": "", "crates/low/src/lib.rt": "",
+                 "crates/high/src/lib.rt": "", "bin/rt": "#!/bin/sh\nexit 1\n"})
+    (top / "bin/rt").chmod(0o755)
+    monkeypatch.setenv("PATH", f"{top}/bin:{os.environ['PATH']}")
+    monkeypatch.setattr(attacking, "TOP", str(top))
+    monkeypatch.setattr(attacking, "USES", {"low": [], "high": ["low"]})
+    for room, said in (("without", "attack: proving high and what it stands on first\n"), ("with", "")):
+        attacking.Copies("high", top / room, time.monotonic() + PATIENCE).proved()
+        assert capsys.readouterr().err == said
+        (top / "crates/low/out/rlib/low.rlib").mkdir(parents=True, exist_ok=True)
+
+
+@pytest.mark.parametrize(("words", "edits"), [
+    (["rb_bell/rests_in_seconds.edit"], ["rests_in_seconds.edit"]),
+    (["rb_bell/rests_in_seconds", "rb_bell/wakes_who_looks_in_time"],
+     ["rests_in_seconds.edit", "wakes_who_looks_in_time.edit"]),
+    (["rb_bell/rests_in_seconds", "rb_bell"], attacking.edits_of("rb_bell")),
+])
+def test_attacks_that_are_named(words: list[str], edits: list[str]) -> None:
+    assert attacking.attacks_named(words) == {"rb_bell": edits}
+
+
+@pytest.mark.parametrize(("word", "said"), [
+    ("rb_bel", "crates.txt has no crate rb_bel"),
+    ("rb_bell/rests.edit", "crates/rb_bell/attacks has no rests.edit"),
+])
+def test_a_name_that_is_refused(tmp_path: Path, word: str, said: str) -> None:
+    ran = attack(tmp_path, "", word)
+    assert (ran.returncode, ran.stdout, ran.stderr.splitlines()[-1]) == (2, "", f"dev/attack: error: {said}")
 
 
 def test_a_crate_that_is_not_proved(tmp_path: Path) -> None:
