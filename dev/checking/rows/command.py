@@ -82,6 +82,7 @@ def run_side_by_side(program: Path, files: Sequence[str], entries: Sequence[Entr
 
 
 def cases(files: Sequence[str], room: str) -> int:
+    """Runs these files, or all, and returns the exit status."""
     try:
         return run_named(files, room) if files else run_all(room)
     except Malformed as fault:
