@@ -17,6 +17,7 @@ from servicing.clock import Reading
 from servicing.state import End, Reason, Run
 
 _RUN = re.compile(r"run-([1-9][0-9]{0,8})\.(json|txt|txt\.gz)")
+_OPENING = re.compile(r"opening-([1-9][0-9]{0,8})\.txt")
 
 Kind = TypeVar("Kind")
 
@@ -100,6 +101,10 @@ class Folder:
         """The numbers of the runs of which there is something, in their order."""
         return sorted({int(it[1]) for it in map(_RUN.fullmatch, os.listdir(self.path)) if it})
 
+    def openings(self) -> list[int]:
+        """The numbers of the runs of which there is an opening."""
+        return [int(it[1]) for it in map(_OPENING.fullmatch, os.listdir(self.path)) if it]
+
     def run(self, number: int) -> Run | None:
         """What is known of a run. Raises an `Unusable` if that can't be read."""
         name = f"run-{number}.json"
@@ -107,6 +112,8 @@ class Folder:
             return run_in(self.read(name))
         except FileNotFoundError:
             return None
+        except OSError as fault:
+            raise Unusable(f"{self.file(name)} can't be read: {fault.strerror}") from None
         except (ValueError, KeyError, TypeError) as fault:
             why = f"it has no {fault}" if isinstance(fault, KeyError) else fault
             raise Unusable(f"{self.file(name)} is no record of a run: {why}") from None
@@ -114,9 +121,9 @@ class Folder:
     def history(self, number: int) -> str | None:
         return history_in(self.path, number)
 
-    def set_aside(self, number: int) -> None:
-        path = self.history(number)
-        if path is not None:
+    def set_aside(self, path: str) -> None:
+        """Gives the history or the record of a run another name, under which it is kept."""
+        with contextlib.suppress(FileNotFoundError):
             os.rename(path, self.file(os.path.basename(path).replace("run", "damaged", 1)))
 
     def drop(self, number: int) -> None:

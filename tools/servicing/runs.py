@@ -51,11 +51,27 @@ class Next:
 class Runs:
     def __init__(self, folder: Folder) -> None:
         self.folder = folder
-        self.records = {number: run for number in folder.numbers() if (run := folder.run(number))}
+        self.records: dict[int, Run] = {}
+        self._unread: dict[int, str] = {}  # what is wrong with the records that can't be read
+        self._accepted: list[Misfit] = []  # of which nothing is written down yet
+        self._read()
         self._acknowledged, self._tidied = (0, 0), 0  # and the last run of which there is one compressed history
         with contextlib.suppress(OSError, ValueError):  # nothing is yet
             runs, jobs = map(int, folder.read(ACKNOWLEDGED).split())
             self._acknowledged = runs, jobs
+
+    def _read(self) -> None:
+        for number in self.folder.numbers():
+            try:
+                if run := self.folder.run(number):
+                    self.records[number] = run
+            except Unusable as fault:
+                self._unread[number] = str(fault)
+
+    @property
+    def is_new(self) -> bool:
+        """Whether there is no record of a run, not even a damaged one."""
+        return not self.records and not self._unread
 
     @property
     def last(self) -> Run | None:
@@ -72,14 +88,29 @@ class Runs:
 
     def prepare(self, number: int, following: Next, now: Reading, settings: Settings) -> tuple[Run, Opening]:
         """Writes down the next run, whose clock goes from now on. Raises an `OSError` if the disk is full."""
-        opening, (lost, lost_jobs) = following.at(now), self.lost
-        record = Run(number, now, opening.moment, opening.next_id, len(opening.elements), len(opening.aside),
-                     settings.calls, settings.policy, lost_before=lost, lost_jobs_before=lost_jobs,
-                     follows=digest_of(self.last))
+        opening = following.at(now)
+        record = self._record(number, now, opening, settings)
         self.folder.remove(f"aside-{number}.txt")
         aside = {f"aside-{number}.txt": replace(opening, elements=opening.aside).text} if opening.aside else {}
         self.write(record, {**aside, f"opening-{number}.txt": opening.text})
         return record, opening
+
+    def _record(self, number: int, began: Reading, opening: Opening, settings: Settings) -> Run:
+        """The record of a run behind all others."""
+        lost, lost_jobs = self.lost
+        return Run(number, began, opening.moment, opening.next_id, len(opening.elements), len(opening.aside),
+                   settings.calls, settings.policy, lost_before=lost, lost_jobs_before=lost_jobs,
+                   follows=digest_of(self.records.get(number - 1)))
+
+    def made_again(self, number: int, settings: Settings) -> Run:
+        """The record of a run that has none any more, by its opening. Its clock is that of the last run with a record.
+        Raises an `Unusable`."""
+        path, path_aside = (self.folder.file(f"{it}-{number}.txt") for it in ("opening", "aside"))
+        left = left_of(path)
+        aside = left_of(path_aside).elements if os.path.exists(path_aside) else {}
+        began = (self.last.began.after(left.moment - self.last.moment) if self.last
+                 else Reading("", 0, os.stat(path).st_mtime_ns))
+        return self._record(number, began, Opening(left.next_id, left.moment, left.elements, aside), settings)
 
     def drop(self, record: Run) -> None:
         """Removes a run whose server served nobody, before what is in memory of it is gone: no service may take it for
@@ -104,16 +135,57 @@ class Runs:
             raise Unusable(f"{path} is not what run {record.number} began with: restore it")
         return self.after(record, left, given)
 
+    def history(self, number: int) -> str | None:
+        """The history of a run, unless that is given up."""
+        is_given_up = any(it.run == number and it.next is None for it in self._accepted)
+        return None if is_given_up else self.folder.history(number)
+
     def misfit(self) -> Misfit | None:
-        """What does not fit in the folder, which has a record."""
-        return misfit_in(self.records, [it for it in self.folder.numbers() if self.folder.history(it)])
+        """What does not fit in the folder, apart from what was accepted."""
+        for number, what in self._unread.items():
+            if not self.is_accepted(number):
+                return Misfit(number, what)
+        histories = [it for it in self.folder.numbers() if self.history(it)]
+        return misfit_in(self.records, histories) if self.records else None
+
+    def is_accepted(self, number: int) -> bool:
+        return any(it.run == number for it in self._accepted)
+
+    @property
+    def unrecorded(self) -> int | None:
+        """The run that has served last, if it has no record any more."""
+        known, end = (self.last.number, self.last.end) if self.last else (0, None)
+        begun = [it for it in self.folder.openings() if it > known]
+        if end is not None and end.is_followed:
+            return max(begun, default=known + 1)
+        return max((it for it in {*begun, *self._unread} if it > known and self.is_accepted(it)), default=None)
 
     def accept(self, misfit: Misfit) -> None:
-        """Goes on without what a run did, and keeps its history as a damaged one. Raises an `OSError`."""
+        """Goes on without what a run did. Nothing is changed before `settle`."""
+        self._accepted.append(misfit)
         if misfit.next is not None:
-            self.write(replace(misfit.next, follows=""))
+            self.records[misfit.next.number] = replace(misfit.next, follows="")
+
+    @property
+    def accepted(self) -> Misfit | None:
+        """The first thing that was accepted and is not settled."""
+        return next(iter(self._accepted), None)
+
+    def settle(self) -> None:
+        """Writes down the first thing that was accepted, and keeps what is given up under another name. Raises an
+        `OSError`."""
+        misfit = self._accepted[0]
+        if misfit.next is not None:
+            self.write(self.records[misfit.next.number])
         else:
-            self.folder.set_aside(misfit.run)
+            self._set_aside(misfit.run)
+        del self._accepted[0]
+
+    def _set_aside(self, number: int) -> None:
+        while history := self.folder.history(number):
+            self.folder.set_aside(history)
+        if self._unread.pop(number, None):
+            self.folder.set_aside(self.folder.file(f"run-{number}.json"))
 
     @property
     def lost(self) -> tuple[int, int]:
@@ -163,6 +235,6 @@ def left_of(path: str) -> Left:
         with open_history(path) as file:
             return left_in(file)
     except OSError as fault:
-        raise Unusable(f"{path}: {fault.strerror}") from None
+        raise Unusable(f"{path}: {fault.strerror}: restore it") from None
     except (ValueError, IndexError, KeyError):
-        raise Unusable(f"{path} is no history of the third version") from None
+        raise Unusable(f"{path} is no history of the third version: restore it") from None

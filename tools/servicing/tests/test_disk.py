@@ -137,8 +137,8 @@ class FolderTest(ServiceTest):
         opening = "rb_broker: bad opening: `rb_broker replay` says of opening-1.txt: unreadable 2 opening"
         for folder, program, says, lines in (
             ("", "", "argument --folder: '' is no path", 1),
-            ("plain/runs", "", "Not a directory", 1), ("unread", "", "run-1.json is no record of a run: Expecting", 1),
-            ("bare", "", "run-1.json is no record of a run: it has no 'end'", 1),
+            ("plain/runs", "", "Not a directory", 1), ("unread", "", "run-1.json is no record of a run: Expecting", 2),
+            ("bare", "", "run-1.json is no record of a run: it has no 'end'. Put what was there back, or start with", 2),
             ("runs", "/bin/false", f"no server at port {self.port}: its process has ended", 2),
             ("others", other, f"service: no server at port {self.port}: {opening}", 2),
         ):
