@@ -178,7 +178,8 @@ def _end_of(why: Reason, told: Checked, server: Server | None, cut: int = 0) -> 
 
 
 def saved(parts: Parts, run: Current) -> Next:
-    """Has the history of a run that has ended checked, and writes it, or the run is lost. Returns what follows."""
+    """Has the history of a run that has ended checked, and writes it, or the run is lost. Returns what follows. Raises
+    an `Unusable` if it can't be checked, and then a later service will."""
     record, server, looks = run.record, run.server, run.looks
     why = Reason.ASKED if parts.signals.count and run.why is not Reason.UNKNOWN else run.why
     parts.publisher.enter(Phase.BETWEEN, why)
@@ -194,6 +195,9 @@ def saved(parts: Parts, run: Current) -> Next:
             following = parts.runs.again(record, 0)
             parts.runs.drop(record)
         parts.publisher.count(looks.offered, looks.left, 0)
+    except Unusable:
+        server.leave()
+        raise
     else:
         end = _end_of(why, told, server, run.cut)
         _write_end(parts, record, end, server)

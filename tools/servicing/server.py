@@ -10,6 +10,7 @@ import subprocess
 from typing import Iterator, NamedTuple, Sequence
 
 from rb_broker_formats.files import open_history
+from servicing.folder import Unusable
 from servicing.memory import Kept, Memory
 from servicing.opening import Left, left_in
 
@@ -131,10 +132,10 @@ def _close(*descriptors: int | None) -> None:
 
 
 def checked(program: str, history: int, policy: Sequence[str]) -> Checked:
-    """Has a history checked, and meanwhile reads what is left in it: clients wait for it. Raises a `Damaged`."""
-    words, left, pipe = [program, "replay", f"/dev/fd/{history}", *policy], None, subprocess.PIPE
-    with subprocess.Popen(words, stdin=subprocess.DEVNULL, stdout=pipe, stderr=pipe, pass_fds=[history],
-                          encoding="utf-8", errors="replace", start_new_session=True) as replay:
+    """Has a history checked, and meanwhile reads what is left in it: clients wait for it. Raises a `Damaged`, or an
+    `Unusable` if the program is gone."""
+    left = None
+    with _replaying(program, history, policy) as replay:
         with open(_opened_again(history, os.O_RDONLY), "rb") as file:
             digest = hashlib.file_digest(file, "sha256").hexdigest()
             file.seek(0)
@@ -149,6 +150,16 @@ def checked(program: str, history: int, policy: Sequence[str]) -> Checked:
         return Checked(json.loads(said), left, digest)
     except ValueError:
         raise Damaged(f"{program} replay prints no audit") from None
+
+
+def _replaying(program: str, history: int, policy: Sequence[str]) -> subprocess.Popen[str]:
+    try:
+        return subprocess.Popen(
+            [program, "replay", f"/dev/fd/{history}", *policy], stdin=subprocess.DEVNULL, stdout=subprocess.PIPE,
+            stderr=subprocess.PIPE, pass_fds=[history], encoding="utf-8", errors="replace", start_new_session=True)
+    except OSError as fault:
+        raise Unusable(f"the program {program} can't be run: {fault.strerror}: install it, and start the service "
+                       "again") from None
 
 
 def checked_file(program: str, path: str, policy: Sequence[str] = ()) -> Checked:

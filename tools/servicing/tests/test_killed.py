@@ -302,6 +302,24 @@ class TakenTest(ServiceTest):
         says = f"service: systemd listens at 127.0.0.1:{self.port} for this service, not at 127.0.0.1:{port}"
         self.assertEqual((service.end(), service.lines[-1]), (1, says))
 
+    def test_a_program_that_is_removed(self) -> None:
+        """One line says so, and the next service has all, whoever keeps the descriptors."""
+        for name, make in (("alone", lambda: None), ("kept", self.store)):
+            store, folder = make(), self.path(name)
+            program = self.file("program", f'#!/bin/sh\nexec "{tested_program()}" "$@"\n')
+            os.chmod(program, 0o700)
+            service = self.begin(program=program, folder=folder, store=store)
+            self.offer(3)
+            os.unlink(program)
+            says = f"service: the program {program} can't be run: No such file or directory: install it, and start " \
+                "the service again"
+            self.assertEqual((service.stop(), service.lines[-1]), (1, says))
+            self.assertNotIn("Traceback", " ".join(service.lines))
+            if store:
+                store.close()
+            with self.serving(folder=folder):
+                self.has_left(3)
+
     def test_what_is_taken(self) -> None:
         """A second service says who has the folder, and a second folder is refused at the port."""
         service = self.begin()
