@@ -53,4 +53,5 @@ def asked(path: str, what: str) -> tuple[bytes, bytes]:
             head, _, told = it.makefile("rb").read().partition(b"\r\n\r\n")
             return head, told
     except OSError as fault:
-        raise Unusable(f"no service answers in {os.path.dirname(path)}: {fault.strerror or fault}") from None
+        raise Unusable(f"no service answers in {os.path.dirname(path)}: {fault.strerror or fault}; --folder names "
+                       "another") from None

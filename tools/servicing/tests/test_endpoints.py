@@ -180,11 +180,12 @@ class StatusTest(RoomTest):
         """Of a folder whose name is longer than that of a socket may be, and in which a killed service has left one."""
         board, folder = Board(7011), self.path("/".join(["long" * 20] * 3))
         os.makedirs(folder)
-        with self.assertRaisesRegex(Unusable, f"^no service answers in {folder}: No such file or directory$"):
+        says = f"^no service answers in {folder}: No such file or directory; --folder names another$"
+        with self.assertRaisesRegex(Unusable, says):
             self.status(folder)
         with socket.socket(socket.AF_UNIX) as left, short_name(f"{folder}/status") as name:
             left.bind(name)
-        with self.assertRaisesRegex(Unusable, "Connection refused$"):
+        with self.assertRaisesRegex(Unusable, "Connection refused; "):
             self.status(folder)
         serve_pages(board, folder, None)
         self.assertEqual(self.status(folder)[0], 1)
