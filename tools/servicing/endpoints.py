@@ -31,7 +31,8 @@ def serve_pages(board: Board, folder: str, http: tuple[str, int] | None, allows_
     answer, posted = functools.partial(answer_of, board, folder), functools.partial(change, board)
     if http:
         try:
-            HttpServer(http, answer, posted)
+            port = HttpServer(http, answer, posted).server_address[1]
+            board.http = f"[{http[0]}]:{port}" if ":" in http[0] else f"{http[0]}:{port}"
         except OSError as fault:
             raise Unusable(f"--http: cannot listen at {http[0]}:{http[1]}: {fault.strerror}") from None
         if not is_loopback(http[0]):

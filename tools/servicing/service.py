@@ -29,7 +29,7 @@ ROOM = 4096  # connections that may wait to be let in, unless the system allows 
 def serve(settings: Settings, folder: Folder, board: Board, signals: Signals) -> None:
     """Serves until a signal asks for the end. Raises an `Unusable` if nothing can be served, and a `LeftBehind`."""
     runs, memory = Runs(folder), Memory(folder)
-    say("info", "service", port=settings.port, folder=folder.path, pid=os.getpid())
+    say("info", "service", port=settings.port, folder=folder.path, http=board.http, pid=os.getpid())
     parts = Parts(settings, folder, signals, runs, Publisher(settings, runs, board), memory)
     try:
         _serve(parts)

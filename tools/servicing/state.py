@@ -209,6 +209,7 @@ class Board:
     """Holds the latest state. The service's own thread puts it there, and any may look at it."""
 
     token = ""  # which a form of the page sends that changes something. Without one nothing can be changed
+    http: str | None = None  # where the page is served
 
     def __init__(self, port: int) -> None:
         self.asked: set[str] = set()  # what somebody asks of the service, which has not done it yet

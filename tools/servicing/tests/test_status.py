@@ -113,6 +113,17 @@ class StatusTest(ServiceTest):
             self.assertRegex(text.splitlines()[-1], "^  1 .* 1  +mail-1$")
             self.assertEqual((status, self.get("/jobs/mail")[1].splitlines()[1:]), (200, ["  none"]))
 
+    def test_where_the_page_is(self) -> None:
+        """It is said, whatever was left to the service or the system, and nothing where there is none."""
+        for options, says in (((), r"None"), (("--http", self.page), rf"127\.0\.0\.1:{self.page}"),
+                              (("--http", "127.0.0.1:0"), r"127\.0\.0\.1:[1-9]\d+")):
+            with self.serving(*options) as service:
+                told = service.all("service")[0].get("http")
+                self.assertRegex(str(told), f"^{says}$")
+                if told:
+                    self.page = int(told.rpartition(":")[2])
+                    self.assertEqual(self.get("/health")[0], 200)
+
     def test_an_address_that_can_not_be_had(self) -> None:
         self.enterContext(socket.create_server(("127.0.0.1", self.page)))
         ran = run_tool("service", "--port", self.port, "--folder", self.path("other"), "--program", tested_program(),
