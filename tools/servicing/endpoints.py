@@ -11,7 +11,7 @@ from http import HTTPStatus
 from urllib.parse import parse_qs, quote, unquote
 
 from servicing.folder import Unusable
-from servicing.http import OwnerServer, asked
+from servicing.http import OwnerServer, asked, why_not_listening
 from servicing.metrics import metrics
 from servicing.page import page
 from servicing.reports import jobs_named, report_on
@@ -34,7 +34,8 @@ def serve_pages(board: Board, folder: str, http: tuple[str, int] | None, allows_
             port = HttpServer(http, answer, posted).server_address[1]
             board.http = f"[{http[0]}]:{port}" if ":" in http[0] else f"{http[0]}:{port}"
         except OSError as fault:
-            raise Unusable(f"--http: cannot listen at {http[0]}:{http[1]}: {fault.strerror}") from None
+            why = why_not_listening(http[1], fault)
+            raise Unusable(f"--http: cannot listen at {http[0]}:{http[1]}: {why}") from None
         if not is_loopback(http[0]):
             say("warning", "pages", text=f"{http[0]} is not a loopback address: whoever can reach it can read what the "
                 "page shows, and payloads in reports, without a password or encryption; "

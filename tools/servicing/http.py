@@ -1,5 +1,6 @@
 """Answers over HTTP at the socket in the folder of a service, and asks there."""
 import contextlib
+import errno
 import os
 import socket
 import struct
@@ -55,3 +56,9 @@ def asked(path: str, what: str) -> tuple[bytes, bytes]:
     except OSError as fault:
         raise Unusable(f"no service answers in {os.path.dirname(path)}: {fault.strerror or fault}; --folder names "
                        "another") from None
+
+
+def why_not_listening(port: int, fault: OSError) -> str:
+    """Why nothing can listen at a port, in one line."""
+    needs = "; ports below 1024 need the right CAP_NET_BIND_SERVICE"
+    return f"{os.strerror(fault.errno or 0)}{needs if fault.errno == errno.EACCES and port < 1024 else ''}"

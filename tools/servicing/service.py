@@ -10,6 +10,7 @@ from servicing.clock import read_clock
 from servicing.connections import HOST
 from servicing.current import Current
 from servicing.folder import Folder, Unusable
+from servicing.http import why_not_listening
 from servicing.memory import Memory
 from servicing.opening import NoIdsLeft
 from servicing.parts import AGAIN, Parts
@@ -73,7 +74,7 @@ def _bound(port: int) -> socket.socket:
     try:
         return socket.create_server((HOST, port), backlog=ROOM)
     except OSError as fault:
-        raise Unusable(f"cannot listen at port {port}: {os.strerror(fault.errno or 0)}") from None
+        raise Unusable(f"cannot listen at port {port}: {why_not_listening(port, fault)}") from None
 
 
 def _say_serving(parts: Parts, current: Current, before: Current | None) -> None:

@@ -1,6 +1,7 @@
 """What is answered to each path, from states that were written by hand and from reports that tools/report makes; the
 page as a text; and the status."""
 import contextlib
+import errno
 import gzip
 import io
 import os
@@ -21,6 +22,7 @@ from servicing.metrics import metrics
 from servicing.page import page
 from servicing.texts import text
 from servicing.endpoints import answer_of, change, print_status, serve_pages
+from servicing.service import _bound
 from servicing.state import Alert, Board, Phase
 from servicing.tests.support import AT, ENDED, FULL_DISK, HELD, LOST, connection, first_state, state, troubled_state
 from rb_broker_redis.watching.http import Answer
@@ -198,6 +200,17 @@ class StatusTest(RoomTest):
         with contextlib.redirect_stderr(io.StringIO()) as said:
             serve_pages(Board(7011), self.path("none"), None)
         self.assertIn("none/status: No such file or directory: --status does not work", said.getvalue())
+
+    def test_a_port_that_needs_a_right(self) -> None:
+        """Which is said if that is the reason."""
+        needs = "Permission denied; ports below 1024 need the right CAP_NET_BIND_SERVICE"
+        for number, port, says in ((errno.EACCES, 80, needs), (errno.EACCES, 8080, "Permission denied"),
+                                   (errno.EADDRINUSE, 80, "Address already in use")):
+            with mock.patch("socket.socket.bind", side_effect=OSError(number, os.strerror(number))):
+                with self.assertRaisesRegex(Unusable, f"^cannot listen at port {port}: {says}$"):
+                    _bound(port)
+                with self.assertRaisesRegex(Unusable, f"^--http: cannot listen at 127.0.0.1:{port}: {says}$"):
+                    serve_pages(Board(7011), self.room, ("127.0.0.1", port))
 
     def test_an_address_that_others_can_reach(self) -> None:
         with contextlib.redirect_stderr(io.StringIO()) as said:
