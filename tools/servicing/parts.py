@@ -53,6 +53,5 @@ class Parts:
                 if self.signals.count > 1 or time.monotonic() - asked > self.settings.stop_within / SECOND:
                     if server:
                         server.leave()
-                    raise LeftBehind(f"{name} can't be written, and {kept:,} bytes are kept in memory; make room in "
-                                     f"{self.folder.path}, and start the service again to write them")
+                    raise LeftBehind(f"{text}; mend that, and start the service again to write them")
             self.signals.wait(AGAIN)

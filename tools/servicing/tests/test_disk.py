@@ -69,7 +69,8 @@ class FullDiskTest(ServiceTest):
                 service = self.begin("--stop-within", "1s", folder=self.small, store=store)
                 self.offer(JOBS)
                 self.assertEqual(service.stop(), 1)
-                self.assertIn("are kept in memory; make room in", service.all("left-behind")[0]["text"])
+                says = r"run-\d\.txt can't be written: No space left on device; [0-9,]+ bytes are kept in memory; "
+                self.assertRegex(service.all("left-behind")[0]["text"], says)
                 if store:
                     store.close()
                 again = self.start(folder=self.small)
@@ -103,6 +104,17 @@ class FullDiskTest(ServiceTest):
         with self.serving(folder=self.small) as again:
             self.assertEqual(again.all("resume")[0]["how"], "collect")
             self.has_left(JOBS)
+
+
+class GoneTest(ServiceTest):
+    def test_a_folder_that_was_deleted(self) -> None:
+        """What is left behind is said with the reason, which is no full disk."""
+        service = self.begin("--stop-within", "1s")
+        self.offer(1)
+        shutil.rmtree(self.path("runs"))
+        self.assertEqual(service.stop(), 1)
+        says = rf"^{self.path('runs')}/run-1.txt can't be written: No such file or directory; \d+ bytes are kept in memory; "
+        self.assertRegex(service.all("left-behind")[0]["text"], says)
 
 
 class SlowDiskTest(RoomTest):
