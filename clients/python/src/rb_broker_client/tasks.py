@@ -24,7 +24,7 @@ from .servers import LOOPBACK
 from .task_runners import Processes, Testing
 from .task_store import STALE, Store, StoredTask, going_on
 from .waiting import Blocking, Kind, Looping, blocking
-from .worker import AsyncWorker, Worker, check_has_run
+from .worker import AsyncWorker, LeftForAnother, Worker, check_has_run
 
 __all__ = ["Backoff", "Middleware", "RetryLater", "StoredTask", "Task", "Tasks", "Testing", "exponential"]
 
@@ -260,7 +260,7 @@ class Tasks:
         file, _, rest = job.payload.partition(".")
         id, _, turn = rest.partition(".")
         if file != self._store.file or not turn.isdecimal():
-            raise LookupError(f"{job.payload} is no task of this file, and is left for another worker")
+            raise LeftForAnother(f"{job.payload} is no task of this file, and is left for another worker")
         task = self._store.claim(id, int(turn), self._owner)
         if task is None or task.state == "claimed" and task.name in self._tasks:
             return task  # None if it was done, or is cancelled, or was offered more than once

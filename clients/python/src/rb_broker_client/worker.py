@@ -33,6 +33,10 @@ Handler = TypeVar("Handler", bound=Function)  # as callers give it: one that ret
 OnDead = TypeVar("OnDead", bound=Function)
 
 
+class LeftForAnother(LookupError):
+    """Why a job is none of a worker's: it fails, and another worker may know it. No traceback tells more."""
+
+
 @dataclass(eq=False)
 class _Call:
     """A handler that runs, or what is told of a dead job, which is of no session any more."""
@@ -245,6 +249,8 @@ class BaseWorker(Generic[Handler, OnDead]):
             called = call.function(job)
             check_has_run(await called if self._session_of._kind.is_async and inspect.isawaitable(called) else called)
             is_done = True
+        except LeftForAnother as fault:
+            log.warning("%s", fault)
         except Exception:
             if call.work is None:
                 log.error("on_dead failed for job %s", job.payload, exc_info=True)

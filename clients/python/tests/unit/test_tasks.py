@@ -19,6 +19,7 @@ from test_command import run
 from rb_broker_client import Greeting, Job, RefusedError, Report, task_store, tasks, waiting
 from rb_broker_client.task_runners import Processes
 from rb_broker_client.tasks import Middleware, RetryLater, Tasks, exponential
+from rb_broker_client.worker import LeftForAnother
 
 EXAMPLES = run_path(str(Path(__file__).parents[2] / "examples/middleware.py"))
 
@@ -121,7 +122,7 @@ class TasksTest(ScriptedTest):
             with patch.dict(self.app._tasks, clear=True):
                 self.passes(moments, (5, 0))
             self.passes(moments, (10, 1))
-            self.assertRaises(LookupError, self.app._claim, Job(0, 0, 1, "00000000.0000.1"))
+            self.assertRaises(LeftForAnother, self.app._claim, Job(0, 0, 1, "00000000.0000.1"))
 
     def test_after_a_lost_run_what_is_not_known_to_wait_is_offered_again(self):
         """Each task is named by the run that it was offered in, or is done, dead or runs."""

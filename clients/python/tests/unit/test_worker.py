@@ -12,6 +12,7 @@ from unittest.mock import AsyncMock, Mock, patch
 from from_threads import for_both_kinds
 from scripted import A, GIVES_A, GIVES_B, LAST, PATIENCE, Awaitable, WorkerCase, fork, free_port, status_of
 from rb_broker_client import AsyncWorker, Job, Pauses, Report, UnknownReplyError, Worker
+from rb_broker_client.worker import LeftForAnother
 
 FULL = "WAIT > ERR 6 full; QUIT"
 ENDS = f"{A}; {GIVES_B}; FAIL 1 > AGAIN 2 1000; WAIT > NONE; WAIT > ITEM 2 1000 3 b; FAIL 2 > DEAD 2; {LAST}"
@@ -125,6 +126,14 @@ class LogTest(WorkerCase):
         lost, again = said.output
         self.assertRegex(lost, f"^WARNING:.*:the session at 127.0.0.1:{self.server.port} was lost: ")
         self.assertRegex(again, f"^INFO:.*:served again at 127.0.0.1:{self.server.port}$")
+
+    def test_a_job_that_is_left_for_another_worker_is_told_in_one_line(self):
+        def leave(job):
+            raise LeftForAnother("b is left for another worker")
+
+        with self.logged("WARNING") as said:
+            self.assert_reports(Report(again=1), f"{GIVES_B}; FAIL 1 > AGAIN 2 5; {LAST}", handler=leave)
+        self.assertEqual(said.output, ["WARNING:rb_broker_client.worker:b is left for another worker"])
 
     def test_the_first_session_is_not_served_again(self):
         with self.logged(logging.INFO) as said:
