@@ -23,6 +23,7 @@ import sys
 from collections.abc import Callable, Iterable, Iterator
 from contextlib import contextmanager
 from functools import partial
+from types import ModuleType
 from typing import Any
 
 from rb_broker_formats.durations import SECOND, read_duration
@@ -119,7 +120,7 @@ def _parser() -> argparse.ArgumentParser:
     added = commands.add_parser("tasks", help="runs the tasks of an app, shows its dead tasks, or offers them again")
     added.set_defaults(run=_tasks, host=None, port=None)
     added.add_argument("action", choices=["run", "dead", "again"])
-    added.add_argument("app", type=partial(_named, Tasks), metavar="MODULE:APP",
+    added.add_argument("app", type=partial(_named, Tasks, "APP"), metavar="MODULE:APP",
                        help="the app, an object of the class Tasks")
     added.add_argument("ids", nargs="*", metavar="ID",
                        help="the dead tasks to offer again, by the ids that `dead` shows (default: all)")
@@ -250,17 +251,19 @@ _delay = partial(_told, lambda word: read_duration(word) / SECOND)
 _time = partial(_told, lambda word: seconds(read_duration(word) / SECOND))
 
 
-def _named(kind: Any, word: str) -> Any:
+def _named(kind: Any, what: str, word: str) -> Any:
     try:
         found = pkgutil.resolve_name(word)
     except Exception as fault:  # whatever goes wrong in a module of the caller
         raise argparse.ArgumentTypeError(f"{word} can't be imported: {type(fault).__name__}: {fault}") from None
+    if isinstance(found, ModuleType) and ":" not in word:
+        raise argparse.ArgumentTypeError(f"{word} is a module: write {word}:{what}")
     if not isinstance(found, kind):
         raise argparse.ArgumentTypeError(f"{word} is a {type(found).__name__}, which can't be used here")
     return found
 
 
-_function = partial(_named, Callable)
+_function = partial(_named, Callable, "FUNCTION")
 
 
 if __name__ == "__main__":

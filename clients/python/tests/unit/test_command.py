@@ -88,6 +88,11 @@ class CommandTest(ScriptedTest):
                 self.assertEqual((status, said), (2, ""))
                 self.assertRegex(errors, says.format(option))
 
+    def test_a_module_without_a_name_in_it(self):
+        for words, what in (("worker json --port 1", "FUNCTION"), ("tasks run json", "APP")):
+            says = f"error: argument MODULE:{what}: json is a module: write json:{what}\n\\Z"
+            self.assertRegex(run(*words.split())[2], says)
+
     def test_a_record(self):
         server = self.play("AT 0; SIZE > SIZE 3; QUIT")
         self.assertEqual(run("size", "--port", server.port, "--record", self.path)[0], 0)
