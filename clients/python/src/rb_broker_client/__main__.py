@@ -14,6 +14,7 @@ wrong, or an option names a file that can't be used. Standard error says why.
 import argparse
 import asyncio
 import inspect
+import io
 import logging
 import os
 import pkgutil
@@ -157,6 +158,8 @@ def _until_signals(stop: Callable[[], object], work: Callable[[], Any]) -> str:
         signal.signal(number, signal.SIG_DFL)  # whoever asks twice does not want to wait
         stop()
 
+    if isinstance(sys.stdout, io.TextIOWrapper):  # a test may have another
+        sys.stdout.reconfigure(line_buffering=True)  # what functions print is seen at once, in a file too
     logging.basicConfig(level=logging.INFO, format="%(asctime)s %(levelname)s %(message)s")
     for number in (signal.SIGINT, signal.SIGTERM):
         signal.signal(number, hear)

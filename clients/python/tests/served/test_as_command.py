@@ -11,14 +11,14 @@ import time
 
 def deliver(job):
     if job.payload == "slow":
-        print("slow has begun", flush=True)
+        print("slow has begun")
         time.sleep(1)
     if job.payload == "bad":
         raise ValueError("it is bad")
-    print(job.payload, job.attempt, flush=True)
+    print(job.payload, job.attempt)
 
 def keep(job):
-    print("dead", job.payload, job.attempt, flush=True)
+    print("dead", job.payload, job.attempt)
 
 async def deliver_async(job):
     deliver(job)

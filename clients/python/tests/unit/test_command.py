@@ -6,7 +6,8 @@ from unittest.mock import patch
 
 import rb_broker_client
 from scripted import ScriptedTest, free_port, table
-from rb_broker_client.__main__ import _delay, main
+from rb_broker_client import Report
+from rb_broker_client.__main__ import _delay, _until_signals, main
 from rb_broker_client.durations import nanoseconds
 
 def handle(job):
@@ -92,6 +93,18 @@ class CommandTest(ScriptedTest):
         for words, what in (("worker json --port 1", "FUNCTION"), ("tasks run json", "APP")):
             says = f"error: argument MODULE:{what}: json is a module: write json:{what}\n\\Z"
             self.assertRegex(run(*words.split())[2], says)
+
+    def test_what_functions_print_is_there_at_once(self):
+        """Though the output is a file."""
+        written = io.BytesIO()
+
+        def work():
+            print("deliver")
+            self.assertEqual(written.getvalue(), b"deliver\n")
+            return Report(done=1)
+
+        with patch("sys.stdout", io.TextIOWrapper(written)), patch("signal.signal"), patch("logging.basicConfig"):
+            self.assertRegex(_until_signals(lambda: None, work), "^done 1, ")
 
     def test_a_record(self):
         server = self.play("AT 0; SIZE > SIZE 3; QUIT")
