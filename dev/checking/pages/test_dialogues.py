@@ -80,10 +80,9 @@ def test_the_commands_of_reports(run: Run, line: str) -> None:
 def test_the_history_that_is_chained(run: Run, tmp_path: Path) -> None:
     text = section(HISTORY, "Why retries are not right")
     history = blocks(text)[-1]
-    says = re.search(r"With a delay of (\d+) and (\w+) attempts this run is chained. Event (\d) fails with a delay of "
-                     r"(\d+) with `(.*?)`, with one attempt with `(.*?)`, and with `FIRST` changed to (\d) with "
-                     r"`(.*?)`\.", text)
-    delay, attempts, event, other, late, many, first, base = says.groups()
+    says = re.search(r"With a delay of (\d+) and (\w+) attempts this run is chained. Event (\d) is refused as `(.*?)` with "
+                     r"a delay of (\d+), as `(.*?)` with one attempt, and as `(.*?)` if its `FIRST` is (\d)\.", text)
+    delay, attempts, event, late, other, many, base, first = says.groups()
     changed = re.sub(r"^(0 0 0 offer 1 \d+ 0) 0", rf"\1 {first}", history, flags=re.M)
     for told, words, verdict in (
         (history, f"--delay {delay} --attempts {('one', 'two', 'three').index(attempts) + 1}", None),

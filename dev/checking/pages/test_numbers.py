@@ -70,7 +70,7 @@ TOLD: list[tuple[str, str, Callable[[], Any]]] = [
     (HISTORY, r"shows at most ([\d,]+) elements", lambda: MOST_ELEMENTS),
     (PROTOCOL, r"has at most (\d+) bytes with it", lambda: LONGEST_REPLY),
     (PROTOCOL, r"\| ([\d,]+) reads, each", lambda: constant("rb_protocol/src/limits.rt", "MOST_READS")),
-    (PROTOCOL, r"The session holds it, (\d+) at most", lambda: MOST_HELD),
+    (PROTOCOL, r"`DRAIN` holds it, (\d+) at most", lambda: MOST_HELD),
     (PROTOCOL, r"a waiting request: after at most (\d+) ms", rest),
     (PROTOCOL, r"a second is `(\d+)`", lambda: SECOND),
     (PROTOCOL, r"Up to (\d+) KiB of replies are gathered", lambda: in_source(
