@@ -22,7 +22,7 @@ fn rest_once<R: Wait + Clock>(rt: &R, bell: &Bell, looks: &AtomicU64, ends: &Ato
     looks.fetch_add(1, Ordering::SeqCst);
     let rested = bell.rest_until(rt, seen, 10, Duration::from_secs(MISSED));
     ends.fetch_add(1, Ordering::SeqCst);
-    rested.woken
+    rested.is_woken()
 }
 
 // Wakes like a call that was woken, found 9 as the least expiry, and gives up. Does so again and

@@ -2,7 +2,7 @@
 
 use crate::tests::callers::{Caller, Counts, FixedClock, with_caller_at};
 use crate::tests::fixtures::{expect, expect_same, offer};
-use rb_blocking::{Bell, Clock, Gate, WaitFault};
+use rb_blocking::{Bell, Clock, Gate, Rested, WaitFault};
 use rb_queue::Ask;
 use std::alloc::Global;
 use std::process::Abort;
@@ -43,7 +43,7 @@ fn is_woken<R: Wait + time::Clock>(rt: &R, scene: &Scene) -> bool {
         if !woken {
             let most = Duration::from_secs(MISSED);
             let rested = scene.bell.rest_until(rt, seen, 10, most);
-            (seen, woken) = (rested.count, rested.woken);
+            (seen, woken) = (rested.count(), rested.is_woken());
         }
     }
     scene.ends.fetch_add(1, Ordering::SeqCst);
@@ -73,12 +73,18 @@ struct SteppingClock(AtomicU64);
 impl Clock for SteppingClock {
     ghost gives = { λ _ _. Unit {0} };
 
+    ghost reads = { λ _ _ _. Unit {0} };
+
     fn now(&self) -> u64 {
         if self.0.fetch_add(1, Ordering::SeqCst) < 2 {
             5
         } else {
             9
         }
+    }
+
+    fn now_for_try(&self, _tries: u64) -> u64 {
+        self.now()
     }
 }
 
@@ -92,6 +98,8 @@ struct FillingGate<'a, R> {
 impl<'a, R: Wait> Gate for FillingGate<'a, R> {
     ghost answers = { λ _ _ _. Unit {0} };
 
+    ghost has_seen = { λ _ _. Unit {0} };
+
     fn turn(&mut self, turns: u64) -> bool {
         if turns == 1 {
             let _ = self.other.call(self.rt, 5, Ask::Size);
@@ -99,6 +107,8 @@ impl<'a, R: Wait> Gate for FillingGate<'a, R> {
         }
         true
     }
+
+    fn rested(&mut self, _rested: Rested) {}
 }
 
 // Makes a wait at a queue with room for two calls, and asserts how it ends. Its clock stands at 5
