@@ -1,3 +1,4 @@
+pub mod GateSteps
 pub mod WaitingCalls
 pub mod WaitLaws
 pub mod RungOffers

@@ -1,5 +1,5 @@
 -- How a call that waits ends, and what the pass has seen after it.
-use Rattle.std.specs.Prelude.{◌≡◌, ℕ, zero, suc, ◌-◌, ◌^◌, min, Bool, true, false, Option, Some, None, Result, Ok, Err}
+use Rattle.std.specs.Prelude.{◌≡◌, ℕ, zero, suc, Bool, true, false, List, [], ◌∷◌, ◌++◌, Option, Some, None, Result, Ok, Err}
 use Rattle.rb_delayed.specs.declared.element.Element.{Element}
 use Rattle.rb_queue.specs.declared.ask.Ask.{Ask}
 use Rattle.rb_queue.specs.declared.reply.Reply.{Reply}
@@ -9,18 +9,17 @@ use Rattle.rb_kept.specs.Tries.{Waits}
 use Rattle.rb_kept.specs.declared.tries.Try.{Try}
 use Rattle.rb_lock.specs.Passes.{PassState, Learns, log_of}
 use Rattle.rb_lock.specs.SharedCalls.{Replied}
+use Rattle.rb_blocking.specs.GateSteps.{GateStep, Asked, told, turns_of}
 use Rattle.rb_blocking.specs.declared.fault.WaitFault.{WaitFault}
 use Rattle.rb_blocking.specs.declared.fault.WaitFault.TheVariants.{Full, Stopped}
+
+-- a clock's reading for the try of a wait that follows this many others
+abbrev pub IsReading : {C : Type 0} → (C → ℕ → Type 0) → (C → ℕ → ℕ → Type 0) → C → ℕ → ℕ → Type 0
+IsReading gives reads clock tries moment = gives clock moment × reads clock tries moment
 
 -- the pass's try of an ask, at a reading
 abbrev pub try_of : PassState → ℕ → Ask → Try
 try_of pass asked ask = record { seat = pass.name; asked = asked; ask = ask }
-
--- The ask was answered, at a reading that the clock gives.
-pub record IsAnswered (gives : ℕ → Type 0) (old new : PassState) (ask : Ask) (reply : Reply) : Type 0 where
-  pub asked : ℕ
-  pub read : gives asked
-  pub replied : Replied old new (try_of old asked ask) reply
 
 -- A try at a reading that the clock gives found nothing that has expired. The pass has learned, has made no
 -- further call, and would still wait.
@@ -33,35 +32,49 @@ pub record FindsNothing (gives : ℕ → Type 0) (old new : PassState) (ask : As
   pub waits : Waits (log_of new) (try_of old asked ask) expiry
   pub mine : new.mine ≡ old.mine
 
--- what the gate is told after a try that follows this many others: their number, or 2^64 - 1 if that is less
-abbrev pub turns_told : ℕ → ℕ
-turns_told tries = min tries (2 ^ 64 - 1)
-
--- This many tries, one after the other, found nothing that has expired, and after each the gate let the wait go on.
-abbrev pub WaitsOn : (ℕ → Type 0) → (ℕ → Bool → Type 0) → PassState → Ask → ℕ → PassState → Type 0
+-- This many tries, one after the other, found nothing that has expired, each at a reading of its own, and after each the
+-- gate let the wait go on.
+abbrev pub WaitsOn : (ℕ → ℕ → Type 0) → (ℕ → Bool → Type 0) → PassState → Ask → ℕ → PassState → Type 0
 WaitsOn gives answers old ask zero new = new ≡ old
 WaitsOn gives answers old ask (suc tries) new =
-    (mid : PassState) × WaitsOn gives answers old ask tries mid × FindsNothing gives mid new ask
-    × answers (turns_told tries) true
+    (mid : PassState) × WaitsOn gives answers old ask tries mid × FindsNothing (gives (told tries)) mid new ask
+    × answers (told tries) true
 
--- The gate stopped the wait after the last of its tries, each of which found nothing that has expired.
-pub record IsStopped (gives : ℕ → Type 0) (answers : ℕ → Bool → Type 0) (old new : PassState) (ask : Ask) : Type 0 where
+-- After tries that found nothing, the ask was answered, at a reading that the clock gives for this try. The gate saw a turn
+-- and a rest behind each of the others, and nothing else.
+pub record IsAnswered (gives : ℕ → ℕ → Type 0) (answers : ℕ → Bool → Type 0) (sees : List GateStep → Type 0)
+    (old new : PassState) (ask : Ask) (reply : Reply) : Type 0 where
   pub tries : ℕ
   pub before : PassState
   pub waited : WaitsOn gives answers old ask tries before
-  pub last : FindsNothing gives before new ask
-  pub stopped : answers (turns_told tries) false
+  pub seen : sees (turns_of tries)
+  pub learns : Learns before new
+  pub asked : ℕ
+  pub read : gives (told tries) asked
+  pub replied : Replied old new (try_of old asked ask) reply
+
+-- The gate stopped the wait after the last of its tries, each of which found nothing that has expired. It saw a turn behind
+-- each, and a rest behind each turn but the last.
+pub record IsStopped (gives : ℕ → ℕ → Type 0) (answers : ℕ → Bool → Type 0) (sees : List GateStep → Type 0)
+    (old new : PassState) (ask : Ask) : Type 0 where
+  pub tries : ℕ
+  pub before : PassState
+  pub waited : WaitsOn gives answers old ask tries before
+  pub seen : sees (turns_of tries ++ Asked (told tries) false ∷ [])
+  pub last : FindsNothing (gives (told tries)) before new ask
+  pub stopped : answers (told tries) false
 
 -- the history that the pass has seen is full, and the pass has made no further call
 pub record EndsFull (old new : PassState) : Type 0 where
   pub full : IsFull (log_of new)
   pub mine : new.mine ≡ old.mine
 
--- how an ask that waits ended
-abbrev pub Waited : (ℕ → Type 0) → (ℕ → Bool → Type 0) → PassState → PassState → Ask → Result Reply WaitFault → Type 0
-Waited gives answers old new ask (Ok reply) = IsAnswered gives old new ask reply
-Waited gives answers old new ask (Err Full) = EndsFull old new
-Waited gives answers old new ask (Err Stopped) = IsStopped gives answers old new ask
+-- how an ask that waits ended, and what the gate saw
+abbrev pub Waited : (ℕ → ℕ → Type 0) → (ℕ → Bool → Type 0) → (List GateStep → Type 0) → PassState → PassState → Ask
+    → Result Reply WaitFault → Type 0
+Waited gives answers sees old new ask (Ok reply) = IsAnswered gives answers sees old new ask reply
+Waited gives answers sees old new ask (Err Full) = EndsFull old new × (tries : ℕ) × sees (turns_of tries)
+Waited gives answers sees old new ask (Err Stopped) = IsStopped gives answers sees old new ask
 
 -- the reply that gives an element, or none
 abbrev pub reply_with : Option Element → Reply

@@ -19,7 +19,7 @@ pub use fault::WaitFault;
 pub use gate::Gate;
 pub use machine_clock::MachineClock;
 pub use offers::offer_ring;
-pub use rb_bell::Bell;
+pub use rb_bell::{Bell, Rested};
 pub use turn_gate::TurnGate;
 pub use waiter::Waiter;
 pub use waits::{call_and_wait, poll_for, take};

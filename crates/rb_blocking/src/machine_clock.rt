@@ -38,10 +38,16 @@ impl<'a, R: time::Clock> Debug for MachineClock<'a, R> {
 impl<'a, R: time::Clock> Clock for MachineClock<'a, R> {
     ghost gives = { λ _ _. Unit {0} };
 
+    ghost reads = { λ _ _ _. Unit {0} };
+
     fn now(&self) -> u64 {
         match self.elapsed() {
             Some(elapsed) => u64::try_from(elapsed.as_nanos()).unwrap_or(u64::MAX),
             None => 0,
         }
+    }
+
+    fn now_for_try(&self, _tries: u64) -> u64 {
+        self.now()
     }
 }

@@ -3,7 +3,7 @@ ghost use Rattle.rb_queue.specs.Calls.{deadline_of};
 ghost use Rattle.rb_queue.specs.declared.ask.Ask.TheVariants.{PollFor};
 
 use crate::fault::WaitFault;
-use rb_bell::{Bell, longest_rest};
+use rb_bell::{Bell, Rested, longest_rest};
 use rb_delayed::add_capped;
 use rb_queue::{Ask, Reply};
 use std::sync::Wait;
@@ -71,12 +71,13 @@ impl Rests {
     }
 
     /// Rests after the last try.
-    pub(crate) fn rest<R: Wait + time::Clock>(&mut self, rt: &R, bell: &Bell) {
+    pub(crate) fn rest<R: Wait + time::Clock>(&mut self, rt: &R, bell: &Bell) -> Rested {
         let most = u64::try_from(self.most.as_nanos()).unwrap_or(u64::MAX);
         let until = add_capped(self.asked.unwrap_or(0), most);
         let rested = bell.rest_until(rt, self.seen, until, self.most);
-        self.seen = rested.count;
-        self.woken = rested.woken;
+        self.seen = rested.count();
+        self.woken = rested.is_woken();
+        rested
     }
 
     /// Called at the end. A call that was woken but took nothing wakes another in its place, which may take what

@@ -1,6 +1,7 @@
 ghost use Rattle.std.specs.Prelude.{◌≡◌, ◌↔◌, ℕ, Bool, ◌<◌, true};
 
 use crate::gate::Gate;
+use rb_bell::Rested;
 
 /// A gate that ends a wait after a number of turns.
 #[derive(Clone, Copy, Debug, PartialEq, Eq)]
@@ -12,6 +13,8 @@ pub struct TurnGate {
 impl Gate for TurnGate {
     ghost answers = { λ gate turns goes_on. (goes_on ≡ true) ↔ (turns < gate.limit) };
 
+    ghost has_seen = { λ gate steps. Unit {0} };
+
     // It says no exactly if the wait has made `limit` turns or more.
     fn turn(&mut self, turns: u64) -> bool
         ensures answers { (result ≡ true) ↔ (turns < self.old.limit) }
@@ -20,4 +23,6 @@ impl Gate for TurnGate {
     {
         turns < self.limit
     }
+
+    fn rested(&mut self, _rested: Rested) {}
 }

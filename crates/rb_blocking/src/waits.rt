@@ -2,7 +2,8 @@ ghost use Rattle.std.specs.Prelude.{◌≡◌, ◌↔◌, ℕ, Bool};
 ghost use Rattle.rb_queue.specs.declared.ask.Ask.TheVariants.{Take, PollFor};
 ghost use Rattle.rb_kept.specs.Tries.{TakesMemory};
 ghost use Rattle.rb_lock.specs.Passes.{Learns};
-ghost use Rattle.rb_blocking.specs.WaitingCalls.{Waited, taken, polled};
+ghost use Rattle.rb_blocking.specs.GateSteps.{Sees};
+ghost use Rattle.rb_blocking.specs.WaitingCalls.{Waited, IsReading, taken, polled};
 
 use crate::clock::Clock;
 use crate::fault::WaitFault;
@@ -37,7 +38,8 @@ pub fn take<T: Timer, C: Clock, G: Gate, R: Wait + time::Clock>(
 ) -> Result<Element, WaitFault>
     requires pass { pass.old.table ≡ shared.now }
     ensures learns { Learns pass.old pass.new }
-    ensures waited { Waited (C.gives clock.now) (G.answers gate.old) pass.old pass.new Take (taken result) }
+    ensures waited { Waited (IsReading C.gives C.reads clock.now) (G.answers gate.old) (Sees G.has_seen gate.old gate.new)
+        pass.old pass.new Take (taken result) }
     ensures gate { (turns : ℕ) (goes_on : Bool) → G.answers gate.new turns goes_on ↔ G.answers gate.old turns goes_on }
 {
     let waiter = Waiter {
@@ -68,7 +70,7 @@ pub fn poll_for<T: Timer, C: Clock, G: Gate, R: Wait + time::Clock>(
 ) -> Result<Option<Element>, WaitFault>
     requires pass { pass.old.table ≡ shared.now }
     ensures learns { Learns pass.old pass.new }
-    ensures waited { Waited (C.gives clock.now) (G.answers gate.old)
+    ensures waited { Waited (IsReading C.gives C.reads clock.now) (G.answers gate.old) (Sees G.has_seen gate.old gate.new)
         pass.old pass.new (PollFor start timeout) (polled result) }
     ensures gate { (turns : ℕ) (goes_on : Bool) → G.answers gate.new turns goes_on ↔ G.answers gate.old turns goes_on }
 {
@@ -98,7 +100,8 @@ pub fn call_and_wait<T: Timer, C: Clock, G: Gate, R: Wait + time::Clock>(
     requires pass { pass.old.table ≡ waiter.now.shared.now }
     requires memory { TakesMemory ask.now → ⊥ }
     ensures learns { Learns pass.old pass.new }
-    ensures waited { Waited (C.gives waiter.now.clock.now) (G.answers gate.old) pass.old pass.new ask.now result }
+    ensures waited { Waited (IsReading C.gives C.reads waiter.now.clock.now) (G.answers gate.old) (Sees G.has_seen gate.old gate.new)
+        pass.old pass.new ask.now result }
     ensures gate { (turns : ℕ) (goes_on : Bool) → G.answers gate.new turns goes_on ↔ G.answers gate.old turns goes_on }
 {
     let mut rests = Rests::new(ask, waiter.bell.count(rt));
@@ -122,14 +125,15 @@ fn try_often<T: Timer, C: Clock, G: Gate, R: Wait + time::Clock>(
     requires pass { pass.old.table ≡ waiter.now.shared.now }
     requires memory { TakesMemory ask.now → ⊥ }
     ensures learns { Learns pass.old pass.new }
-    ensures waited { Waited (C.gives waiter.now.clock.now) (G.answers gate.old) pass.old pass.new ask.now result }
+    ensures waited { Waited (IsReading C.gives C.reads waiter.now.clock.now) (G.answers gate.old) (Sees G.has_seen gate.old gate.new)
+        pass.old pass.new ask.now result }
     ensures gate { (turns : ℕ) (goes_on : Bool) → G.answers gate.new turns goes_on ↔ G.answers gate.old turns goes_on }
 {
     // For the proof: the pass has seen a legal history.
     let _ = pass.name();
     let mut turns: u64 = 0;
     for _ in rt.forever() {
-        let asked = waiter.clock.now();
+        let asked = waiter.clock.now_for_try(turns);
         let expiry = match waiter.shared.call(rt, pass, asked, *ask) {
             Ok(Outcome::Done(reply)) => return Ok(reply),
             Ok(Outcome::Later(expiry)) => expiry,
@@ -140,8 +144,8 @@ fn try_often<T: Timer, C: Clock, G: Gate, R: Wait + time::Clock>(
         if !gate.turn(turns) {
             return Err(WaitFault::Stopped);
         }
+        gate.rested(rests.rest(rt, waiter.bell));
         turns = turns.saturating_add(1);
-        rests.rest(rt, waiter.bell);
     }
     unreachable!()
 }

@@ -36,11 +36,17 @@ impl<'a, R: time::Clock> RunClock<'a, R> {
 impl<'a, R: time::Clock> Clock for RunClock<'a, R> {
     ghost gives = { λ _ _. Unit {0} };
 
+    ghost reads = { λ _ _ _. Unit {0} };
+
     fn now(&self) -> u64 {
         match self.since {
             Some(since) => after_start().saturating_sub(since),
             None => self.made.now(),
         }
+    }
+
+    fn now_for_try(&self, _tries: u64) -> u64 {
+        self.now()
     }
 }
 

@@ -3,21 +3,24 @@ use Rattle.std.specs.Prelude.{Bool, ℕ, List, Option}
 use Rattle.atomic_table.specs.Seated.{TableId}
 use Rattle.std.specs.declared.io.Read as Read
 use Rattle.std.specs.declared.io.Write as Write
+use Rattle.rb_blocking.specs.GateSteps.{GateStep}
 use Rattle.rb_blocking.specs.declared.clock.Clock as Clock
 use Rattle.rb_blocking.specs.declared.gate.Gate as Gate
 use Rattle.rb_retry.specs.declared.policy.Policy.{Policy}
 use Rattle.rb_session.specs.declared.delivery.Delivery.{Delivery}
 use Rattle.rb_serving.specs.declared.service.Service.{Service}
 
--- What a visit's reader and writer tell of their bytes, and what its gate may answer. All sessions have in common the
--- clock that they read and what it may read, when a failed job is offered again, when replies are written, and the queue
+-- What a visit's reader and writer tell of their bytes, and what its gate may answer and has seen. All sessions have in common the
+-- clock that they read, what it may read, and what for which try of a wait, when a failed job is offered again, when replies are written, and the queue
 -- that they call.
 pub record Terms (I O G C : Type 0) : Type 1 where
   pub remaining : I → Option (List ℕ)
   pub contents : O → Option (List ℕ)
   pub answers : G → ℕ → Bool → Type 0
+  pub has_seen : G → List GateStep → Type 0
   pub clock : C
   pub gives : C → ℕ → Type 0
+  pub reads : C → ℕ → ℕ → Type 0
   pub policy : Policy
   pub delivery : Delivery
   pub table : TableId
@@ -30,8 +33,10 @@ module _ {I O G C : Type 0} (reader : Read.Ghosts I) (writer : Write.Ghosts O)
     remaining = reader.remaining;
     contents = writer.contents;
     answers = gate.answers;
+    has_seen = gate.has_seen;
     clock = clock;
     gives = clock_words.gives;
+    reads = clock_words.reads;
     policy = policy;
     delivery = delivery;
     table = table;

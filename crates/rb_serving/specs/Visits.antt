@@ -69,7 +69,7 @@ shared_rules waits policy = record {
 module _ {I O G C : Type 0} (terms : Terms I O G C) where
   -- what the clock of all visits may give, and what their gates may answer
   abbrev pub visit_waits : WaitRules C G
-  visit_waits = record { gives = terms.gives; answers = terms.answers }
+  visit_waits = record { gives = terms.gives; reads = terms.reads; answers = terms.answers; has_seen = terms.has_seen }
 
   -- the rules of the session of a visit with this writer
   abbrev pub visit_rules : O → SessionRules (SharedState C G)

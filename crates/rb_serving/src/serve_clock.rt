@@ -27,7 +27,14 @@ impl<P: Clock> Clock for ServeClock<P> {
     ghost gives = { λ clock moment.
         (passed : ℕ) × P.gives clock.passed passed × (moment ≡ min (clock.first + passed) GREATEST_MOMENT) };
 
+    ghost reads = { λ clock tries moment.
+        (passed : ℕ) × P.reads clock.passed tries passed × (moment ≡ min (clock.first + passed) GREATEST_MOMENT) };
+
     fn now(&self) -> u64 {
         add_capped(self.first, self.passed.now())
+    }
+
+    fn now_for_try(&self, tries: u64) -> u64 {
+        add_capped(self.first, self.passed.now_for_try(tries))
     }
 }

@@ -3,7 +3,7 @@ ghost use Rattle.rb_serving.specs.TcpReasons.{IsWaitEnd};
 
 use crate::ending::{Ending, InputRead, shown_drain};
 use crate::standing::Standing;
-use rb_blocking::Gate;
+use rb_blocking::{Gate, Rested};
 use std::alloc::Global;
 use std::fmt::{self, Debug, Formatter};
 use std::io::ErrorKind;
@@ -87,12 +87,16 @@ impl<'a> Gate for TcpGate<'a> {
     ghost answers = { λ gate turns goes_on. MatchBool goes_on (turns < gate.limit)
         ((gate.limit ≤ turns) ⊎ (IsSome gate.ending ⊎ IsSome gate.watched)) };
 
+    ghost has_seen = { λ gate steps. Unit {0} };
+
     fn turn(&mut self, turns: u64) -> bool {
         match self.end_of_wait(turns) {
             None => true,
             Some(_) => false,
         }
     }
+
+    fn rested(&mut self, _rested: Rested) {}
 
     fn begins(&self) -> bool {
         match shown_drain(self.ending) {

@@ -14,7 +14,8 @@ use Rattle.rb_queue.specs.declared.reply.Reply.{Reply}
 use Rattle.rb_lock.specs.Passes.{PassState, IsSoundPass, Learns, log_at}
 use Rattle.rb_lock.specs.SharedCalls.{Replied}
 use Rattle.rb_lock.proofs.LongerHistories.{events_of-append}
-use Rattle.rb_blocking.specs.WaitingCalls.{try_of, IsStopped}
+use Rattle.rb_blocking.specs.GateSteps.{Sees}
+use Rattle.rb_blocking.specs.WaitingCalls.{try_of, IsReading, IsStopped}
 use Rattle.rb_blocking.specs.WaitLaws.{stopped_unmade}
 use Rattle.rb_retry.specs.Made.{Made, made_after, made_by, GivesOnce}
 use Rattle.rb_retry.specs.Asked.{MayGet, MayWait, IsMomentOf, Makes}
@@ -128,11 +129,13 @@ module _ {C G : Type 0} (rules : WaitRules C G) (old new : SharedState C G) (han
       )
 
   -- a wait that was stopped made no call
-  stops_unmade : IsStopped (rules.gives old.clock) (rules.answers old.gate) old.pass new.pass ask
+  stops_unmade : IsStopped (IsReading rules.gives rules.reads old.clock) (rules.answers old.gate)
+      (Sees rules.has_seen old.gate new.gate) old.pass new.pass ask
       ⊎ IsKeptOut (rules.answers old.gate) old.pass new.pass ask → MayWait ask × (new.pass.mine ≡ old.pass.mine)
   stops_unmade (inl stopped) = (
     may_wait ask _ stopped.last.waits.waits,
-    stopped_unmade (rules.gives old.clock) (rules.answers old.gate) old.pass new.pass ask stopped,
+    stopped_unmade (IsReading rules.gives rules.reads old.clock) (rules.answers old.gate)
+        (Sees rules.has_seen old.gate new.gate) old.pass new.pass ask stopped,
   )
   stops_unmade (inr kept_out) = (kept_out.waits, kept_out.mine)
 

@@ -9,7 +9,8 @@ use Rattle.rb_kept.specs.Tries.{TakesMemory}
 use Rattle.rb_lock.specs.Passes.{PassState, IsSoundPass, Learns, log_of}
 use Rattle.rb_lock.specs.SharedCalls.{Replied}
 use Rattle.rb_lock.specs.declared.pass_record.PassRecord.{PassRecord}
-use Rattle.rb_blocking.specs.WaitingCalls.{try_of, IsStopped, EndsFull}
+use Rattle.rb_blocking.specs.GateSteps.{Sees}
+use Rattle.rb_blocking.specs.WaitingCalls.{try_of, IsReading, IsStopped, EndsFull}
 use Rattle.rb_retry.specs.Made.{Made, made_by}
 use Rattle.rb_retry.specs.Asked.{IsMomentOf, MayWait}
 use Rattle.rb_retry.specs.declared.desk_fault.DeskFault.{DeskFault}
@@ -73,7 +74,8 @@ module _ {C G : Type 0} where
     Ends old handed ask (Err Memory) new =
         (new.pass.mine ≡ old.pass.mine) × HasRoom (log_of new.pass) × TakesMemory ask
     Ends old handed ask (Err Stopped) new =
-        IsStopped (rules.gives old.clock) (rules.answers old.gate) old.pass new.pass ask
+        IsStopped (IsReading rules.gives rules.reads old.clock) (rules.answers old.gate)
+        (Sees rules.has_seen old.gate new.gate) old.pass new.pass ask
         ⊎ IsKeptOut (rules.answers old.gate) old.pass new.pass ask
 
     -- The ask ended in this way, and the pass has learned. The gate's answers are as before, and nothing else has

@@ -1,51 +1,29 @@
 -- A call after a try that found nothing is a call from before that. No public clause cites this module.
-use Rattle.std.proofs.Common.{◌≡◌, ◌<◌, ℕ, zero, suc, Bool, true, false, List, [], ◌∷◌, ◌++◌, length, drop, Result, Ok, Err}
-use Rattle.std.proofs.Common.{refl, sym, ap, subst, ◌∙◌, ◌⊎◌, inl, inr, ◌↔◌}
+use Rattle.std.proofs.Common.{◌≡◌, ℕ, zero, suc, Bool, false, List, [], ◌∷◌, ◌++◌, drop, Result, Ok, Err}
+use Rattle.std.proofs.Common.{refl, sym, ap, subst, ◌∙◌, inl, inr, ◌↔◌}
 use Rattle.rb_queue.specs.declared.ask.Ask.{Ask}
 use Rattle.rb_queue.specs.declared.ask.Ask.TheVariants.{Take, PollFor}
-use Rattle.rb_queue.specs.declared.event.Event.{Event}
-use Rattle.rb_queue.specs.declared.opening.Opening.{Opening}
 use Rattle.rb_queue.specs.declared.reply.Reply.{Reply}
-use Rattle.rb_kept.specs.Tries.{Waits, Records}
-use Rattle.rb_lock.specs.Passes.{PassState, Learns, log_at, log_of}
-use Rattle.rb_lock.specs.SharedCalls.{Replied}
-use Rattle.rb_blocking.proofs.LearnedPasses.{prefix_trans, learns_on}
-use Rattle.rb_blocking.specs.WaitingCalls.{try_of, turns_told, FindsNothing, WaitsOn, IsStopped}
+use Rattle.rb_kept.specs.Tries.{Waits}
+use Rattle.rb_lock.specs.Passes.{PassState, Learns, log_of}
+use Rattle.rb_blocking.proofs.LearnedPasses.{learns_on, replied_after}
+use Rattle.rb_blocking.specs.GateSteps.{GateStep, Sees, Asked, told, turns_of}
+use Rattle.rb_blocking.specs.WaitingCalls.{IsReading, FindsNothing, WaitsOn, IsStopped}
 use Rattle.rb_retry.specs.Asked.{MayWait, IsMomentOf}
 use Rattle.rb_retry.specs.declared.desk_fault.DeskFault.{DeskFault}
 use Rattle.rb_retry.specs.declared.desk_fault.DeskFault.TheVariants.{Full, Memory, Stopped}
 use Rattle.rb_shared_desk.specs.WaitRules.{WaitRules}
-use Rattle.rb_shared_desk.specs.SharedSteps.{SharedState, SharedSteps, TriesShared, MissesShared, Ends, TryEnds, IsKeptOut}
+use Rattle.rb_shared_desk.specs.SharedSteps.{SharedState, SharedSteps, TriesShared, MissesShared, Ends, TryEnds}
 use Rattle.rb_shared_desk.specs.SharedSteps.{made_through, name_of}
 use Rattle.rb_shared_desk.specs.SharedLaws.{own_stays}
 
 -- a pass has learned, and made no call
 module _ (old mid : PassState) (learns : Learns old mid) (unmade : mid.mine ≡ old.mine) (ask : Ask) where
-  -- a reply that it gets then it gets from before
-  pub replied_after : (asked : ℕ) (reply : Reply) (new : PassState) → Replied mid new (try_of mid asked ask) reply
-      → Replied old new (try_of old asked ask) reply
-  replied_after asked reply new replied = record {
-    before = replied.before;
-    event = replied.event;
-    begins = prefix_trans old.seen mid.seen replied.before learns.begins replied.begins;
-    room = subst (λ (capacity : ℕ). length replied.before < capacity) learns.capacity replied.room;
-    seen = replied.seen;
-    mine = replied.mine ∙ ap (λ (mine : List Event). mine ++ replied.event ∷ []) unmade;
-    records =
-        subst (λ (capacity : ℕ). Records
-        (record { opening = old.opening; history = replied.before; capacity = capacity })
-        (try_of old asked ask) reply replied.event) learns.capacity
-        (subst (λ (opening : Opening). Records
-        (record { opening = opening; history = replied.before; capacity = mid.capacity })
-        (try_of old asked ask) reply replied.event) learns.opening
-        (subst (λ (name : ℕ). Records (log_at mid replied.before)
-        (record { seat = name; asked = asked; ask = ask }) reply replied.event) learns.name replied.records));
-  }
-
-  module _ (gives : ℕ → Type 0) (answers : ℕ → Bool → Type 0) where
+  module _ (gives : ℕ → ℕ → Type 0) (answers : ℕ → Bool → Type 0) (sees : List GateStep → Type 0) where
     -- what finds nothing then finds nothing from before
-    nothing_after : (new : PassState) → FindsNothing gives mid new ask → FindsNothing gives old new ask
-    nothing_after new nothing = record {
+    nothing_after : (tries : ℕ) (new : PassState) → FindsNothing (gives (told tries)) mid new ask
+        → FindsNothing (gives (told tries)) old new ask
+    nothing_after tries new nothing = record {
       asked = nothing.asked;
       read = nothing.read;
       expiry = nothing.expiry;
@@ -58,30 +36,37 @@ module _ (old mid : PassState) (learns : Learns old mid) (unmade : mid.mine ≡ 
 
     waited_after : (tries : ℕ) (new : PassState) → WaitsOn gives answers mid ask (suc tries) new
         → WaitsOn gives answers old ask (suc tries) new
-    waited_after zero new (first, same, nothing, went_on) =
-        (old, refl, nothing_after new (subst (λ (from : PassState). FindsNothing gives from new ask) same nothing), went_on)
+    waited_after zero new (first, same, nothing, went_on) = (
+      old,
+      refl,
+      nothing_after zero new (subst (λ (from : PassState). FindsNothing (gives (told zero)) from new ask) same nothing),
+      went_on,
+    )
     waited_after (suc tries) new (between, waited, nothing, went_on) =
         (between, waited_after tries between waited, nothing, went_on)
 
     -- and so does a wait that is stopped
-    pub stopped_after : (new : PassState) → IsStopped gives answers mid new ask → IsStopped gives answers old new ask
-    stopped_after new stopped = by_tries stopped.tries stopped.waited stopped.last stopped.stopped
+    pub stopped_after : (new : PassState) → IsStopped gives answers sees mid new ask → IsStopped gives answers sees old new ask
+    stopped_after new stopped = by_tries stopped.tries stopped.waited stopped.seen stopped.last stopped.stopped
       where
         by_tries : (tries : ℕ) → WaitsOn gives answers mid ask tries stopped.before
-            → FindsNothing gives stopped.before new ask → answers (turns_told tries) false → IsStopped gives answers old new ask
-        by_tries zero same last told = record {
+            → sees (turns_of tries ++ Asked (told tries) false ∷ []) → FindsNothing (gives (told tries)) stopped.before new ask → answers (told tries) false
+            → IsStopped gives answers sees old new ask
+        by_tries zero same seen last said = record {
           tries = zero;
           before = old;
           waited = refl;
-          last = nothing_after new (subst (λ (from : PassState). FindsNothing gives from new ask) same last);
-          stopped = told;
+          seen = seen;
+          last = nothing_after zero new (subst (λ (from : PassState). FindsNothing (gives (told zero)) from new ask) same last);
+          stopped = said;
         }
-        by_tries (suc tries) waited last told = record {
+        by_tries (suc tries) waited seen last said = record {
           tries = suc tries;
           before = stopped.before;
           waited = waited_after tries stopped.before waited;
+          seen = seen;
           last = last;
-          stopped = told;
+          stopped = said;
         }
 
 module _ {C G : Type 0} (rules : WaitRules C G) where
@@ -124,8 +109,8 @@ module _ {C G : Type 0} (rules : WaitRules C G) where
     ends_after new handed ask (Err Full) full = record { full = full.full; mine = full.mine ∙ missed.mine }
     ends_after new handed ask (Err Memory) (same, room, takes) = (same ∙ missed.mine, room, takes)
     ends_after new handed ask (Err Stopped) (inl stopped) =
-        inl (stopped_after old.pass mid.pass missed.learns missed.mine ask (rules.gives old.clock) (rules.answers old.gate)
-        new.pass stopped)
+        inl (stopped_after old.pass mid.pass missed.learns missed.mine ask (IsReading rules.gives rules.reads old.clock)
+        (rules.answers old.gate) (Sees rules.has_seen old.gate new.gate) new.pass stopped)
     ends_after new handed ask (Err Stopped) (inr kept_out) = inr (record {
       waits = kept_out.waits;
       stopped = kept_out.stopped;

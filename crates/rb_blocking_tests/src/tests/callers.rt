@@ -1,7 +1,7 @@
 ghost use Rattle.std.specs.Prelude.{◌≡◌};
 
 use crate::tests::fixtures::{ListPass, ListShared, draft, opened};
-use rb_blocking::{Bell, Clock, Gate, WaitFault, offer_ring, poll_for, take};
+use rb_blocking::{Bell, Clock, Gate, Rested, WaitFault, offer_ring, poll_for, take};
 use rb_delayed::Element;
 use rb_kept::{CallFault, Outcome};
 use rb_queue::{Ask, Draft};
@@ -23,8 +23,14 @@ pub struct FixedClock(pub u64);
 impl Clock for FixedClock {
     ghost gives = { λ clock moment. moment ≡ clock.0 };
 
+    ghost reads = { λ _ _ _. Unit {0} };
+
     fn now(&self) -> u64 {
         self.0
+    }
+
+    fn now_for_try(&self, _tries: u64) -> u64 {
+        self.now()
     }
 }
 
@@ -59,6 +65,8 @@ pub struct CountingGate<'a> {
 impl<'a> Gate for CountingGate<'a> {
     ghost answers = { λ _ _ _. Unit {0} };
 
+    ghost has_seen = { λ _ _. Unit {0} };
+
     fn turn(&mut self, turns: u64) -> bool {
         if turns == 0 {
             self.counts.waits.fetch_add(1, Ordering::SeqCst);
@@ -66,6 +74,8 @@ impl<'a> Gate for CountingGate<'a> {
         self.counts.turns.fetch_add(1, Ordering::SeqCst);
         turns < self.limit
     }
+
+    fn rested(&mut self, _rested: Rested) {}
 }
 
 /// A caller of a shared queue: a pass, with its queue, a bell and what is counted. The value

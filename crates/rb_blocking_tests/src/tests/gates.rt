@@ -2,7 +2,7 @@
 
 use crate::tests::callers::{Caller, FixedClock, with_caller};
 use crate::tests::fixtures::{expect, expect_same};
-use rb_blocking::{Bell, Clock, Gate, MachineClock, WaitFault};
+use rb_blocking::{Bell, Clock, Gate, MachineClock, Rested, WaitFault};
 use std::process::Abort;
 use std::sync::Wait;
 use std::test::Fail;
@@ -26,6 +26,8 @@ struct RingingGate<'a, R> {
 impl<'a, R: Wait> Gate for RingingGate<'a, R> {
     ghost answers = { λ _ _ _. Unit {0} };
 
+    ghost has_seen = { λ _ _. Unit {0} };
+
     fn turn(&mut self, turns: u64) -> bool {
         if turns != self.next {
             return false;
@@ -34,6 +36,8 @@ impl<'a, R: Wait> Gate for RingingGate<'a, R> {
         self.bell.ring(self.rt);
         self.next < TURNS
     }
+
+    fn rested(&mut self, _rested: Rested) {}
 }
 
 // Makes a take whose rests don't last. Returns the number of its turns, counted while each turn has
@@ -83,6 +87,8 @@ struct RestGate<'a, C> {
 impl<'a, C: Clock> Gate for RestGate<'a, C> {
     ghost answers = { λ _ _ _. Unit {0} };
 
+    ghost has_seen = { λ _ _. Unit {0} };
+
     fn turn(&mut self, turns: u64) -> bool {
         let now = self.watch.now();
         if self.asked > 0 && REST <= now.saturating_sub(self.last) {
@@ -92,6 +98,8 @@ impl<'a, C: Clock> Gate for RestGate<'a, C> {
         self.last = now;
         turns < 3
     }
+
+    fn rested(&mut self, _rested: Rested) {}
 }
 
 // Polls at moment 7, and asserts that the call rests at least so often between the questions to its

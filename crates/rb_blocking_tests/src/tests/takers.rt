@@ -2,7 +2,7 @@
 
 use crate::tests::callers::{Caller, Counts, FixedClock, in_threads, with_caller};
 use crate::tests::fixtures::{await_more, expect, expect_same};
-use rb_blocking::{Gate, WaitFault};
+use rb_blocking::{Gate, Rested, WaitFault};
 use std::alloc::Global;
 use std::process::Abort;
 use std::sync::Wait;
@@ -22,6 +22,8 @@ struct LosersGate<'a> {
 impl<'a> Gate for LosersGate<'a> {
     ghost answers = { λ _ _ _. Unit {0} };
 
+    ghost has_seen = { λ _ _. Unit {0} };
+
     fn turn(&mut self, turns: u64) -> bool {
         if turns == 0 {
             self.counts.waits.fetch_add(1, Ordering::SeqCst);
@@ -31,6 +33,8 @@ impl<'a> Gate for LosersGate<'a> {
         }
         self.left > 0
     }
+
+    fn rested(&mut self, _rested: Rested) {}
 }
 
 // The work of thread `number`. The first two take one element, and tell each other who got one. The

@@ -34,9 +34,15 @@ struct CountingClock(AtomicU64);
 impl Clock for CountingClock {
     ghost gives = { λ clock moment. moment ≡ 7 };
 
+    ghost reads = { λ _ _ _. Unit {0} };
+
     fn now(&self) -> u64 {
         self.0.fetch_add(1, Ordering::SeqCst);
         7
+    }
+
+    fn now_for_try(&self, _tries: u64) -> u64 {
+        self.now()
     }
 }
 

@@ -24,8 +24,14 @@ struct MovedClock<'a>(&'a AtomicU64);
 impl<'a> Clock for MovedClock<'a> {
     ghost gives = { λ clock moment. Unit {0} };
 
+    ghost reads = { λ _ _ _. Unit {0} };
+
     fn now(&self) -> u64 {
         self.0.load(Ordering::SeqCst)
+    }
+
+    fn now_for_try(&self, _tries: u64) -> u64 {
+        self.now()
     }
 }
 

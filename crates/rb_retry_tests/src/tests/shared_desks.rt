@@ -4,7 +4,7 @@ ghost use Rattle.std.specs.Prelude.{◌≡◌};
 
 use crate::tests::devices::{FixedClock, ListPass, ListShared, expect_holds, expect_same};
 use crate::tests::fixtures::{expect, expect_set, offer, opened};
-use rb_blocking::{Bell, Gate, TurnGate};
+use rb_blocking::{Bell, Gate, Rested, TurnGate};
 use rb_kept::{CallFault, Kept};
 use rb_queue::{Ask, Event};
 use rb_retry::{Desk, DeskFault, Job, Policy, Verdict, done, fail, take};
@@ -27,10 +27,14 @@ struct CountingGate {
 impl Gate for CountingGate {
     ghost answers = { λ gate turns goes_on. Unit {0} };
 
+    ghost has_seen = { λ _ _. Unit {0} };
+
     fn turn(&mut self, _turns: u64) -> bool {
         self.asked = self.asked.saturating_add(1);
         false
     }
+
+    fn rested(&mut self, _rested: Rested) {}
 }
 
 // Makes calls at a desk and asserts their answers. The clock can't be set, and waits are made at
@@ -118,9 +122,13 @@ struct ClosedGate {
 impl Gate for ClosedGate {
     ghost answers = { λ gate turns goes_on. Unit {0} };
 
+    ghost has_seen = { λ _ _. Unit {0} };
+
     fn turn(&mut self, _turns: u64) -> bool {
         true
     }
+
+    fn rested(&mut self, _rested: Rested) {}
 
     fn begins(&self) -> bool {
         false

@@ -2,7 +2,7 @@
 
 ghost use Rattle.std.specs.Prelude.{◌≡◌, ◌≤◌, ◌↔◌, ◌<◌, true};
 
-use rb_blocking::{Clock, Gate};
+use rb_blocking::{Clock, Gate, Rested};
 use rb_ending::{BrokerFault, audit_line};
 use rb_lock::Pass;
 use rb_options::ServerRunOptions;
@@ -37,8 +37,14 @@ pub struct SevenClock;
 impl Clock for SevenClock {
     ghost gives = { λ clock moment. moment ≡ 7 };
 
+    ghost reads = { λ _ _ _. Unit {0} };
+
     fn now(&self) -> u64 {
         7
+    }
+
+    fn now_for_try(&self, _tries: u64) -> u64 {
+        self.now()
     }
 }
 
@@ -54,10 +60,14 @@ impl<'a> Gate for NotedGate<'a> {
 
     ghost answers = { λ gate turns goes_on. (goes_on ≡ true) ↔ (turns < MOST_TURNS) };
 
+    ghost has_seen = { λ _ _. Unit {0} };
+
     fn turn(&mut self, turns: u64) -> bool {
         let _ = self.turns.fetch_add(1, Ordering::SeqCst);
         turns < MOST_TURNS
     }
+
+    fn rested(&mut self, _rested: Rested) {}
 }
 
 /// What a visitor does: it sends its lines at once, after both counts have risen, or once another
