@@ -4,6 +4,7 @@ ghost use Rattle.rb_protocol.specs.declared.streams.writer_status.WriterStatus.{
 ghost use Rattle.rb_lock.specs.Passes.{PassState};
 ghost use Rattle.rb_serving.specs.declared.visit.Visit.{Visit};
 ghost use Rattle.rb_serving.specs.DoorSteps.{DoorStep, Sees, LetIn, TurnedAway, NoMore, Left};
+ghost use Rattle.rb_serving.specs.Visits.{IsUnused};
 
 use crate::visit::Visit;
 use rb_blocking::Gate;
@@ -84,9 +85,10 @@ pub trait Door {
         ensures seen { Sees has_seen self.old (Left reader.now status.now writer) self.new }
         ensures ready { is_ready self.new pass.now };
 
-    /// Another entrance of the door, at which nothing happened yet, for the visits that this pass is to serve. Each is for
-    /// a pass of a later name than the one before, so none is for the same pass.
+    /// Another entrance of the door, at which nothing happened yet, for the visits that this pass is to serve, which has
+    /// made no call yet. Each is for a pass of a later name than the one before, so none is for the same pass.
     fn split<T: Timer>(&mut self, pass: &Pass<T>) -> Self
+        requires unused { IsUnused pass.now }
         requires more { (more : ℕ) × (least : ℕ) × may_split self.old (more + 1) least × (least ≤ pass.now.name) }
         ensures fewer { (more least : ℕ) → may_split self.old (more + 1) least → may_split self.new more (pass.now.name + 1) }
         ensures begun { has_seen result [] }

@@ -43,12 +43,13 @@ returns-clause-folds g t c =
           (ap (λ (parts : ℕ). c.split.new.pass.parts + parts) parts ∙ c.in-Ok.ensures.parts) others.folds worked c.fold.ensures);
     }
 
--- An entrance more may be split off, for a pass of a later name than those before.
+-- An entrance more may be split off, for a pass that made no call, of a later name than those before.
 pub split-entrance-requires : goal.split-entrance-requires
 split-entrance-requires g t c =
     let some : 0 < c.args.count = grind (arith, nat_tests, c.if-count-eq0.false) in
     let is : c.args.count ≡ (c.args.count - 1) + 1 = omega (arith, some) in
     let splits = c.requires.splits in record {
+      unused = search rules;
       more = (
         c.args.count - 1,
         splits.0,
