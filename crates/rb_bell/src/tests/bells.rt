@@ -15,6 +15,12 @@ const ROUNDS: u64 = 10_000;
 // The length of a rest that misses its ring, in seconds: as long as a test may take.
 const MISSED: u64 = 60;
 
+// The number of threads that rest at the same time, two for each place of a bell.
+const CROWD: u64 = 32;
+
+// The length of a rest in the crowd, in milliseconds.
+const CROWDED: u64 = 100;
+
 // A rest with no ring seen returns the count too.
 #[test]
 fn counts_its_rings(rt: HostRuntime) {
@@ -88,6 +94,23 @@ fn a_rest_lasts_about_20_milliseconds(rt: HostRuntime) {
     }
     expect(&rt, shortest >= 20);
     expect(&rt, shortest < 60);
+}
+
+// Rests like a call that waits for an element, once all others are about to. Returns 1 if the rest was a whole one.
+fn rest_in_a_crowd<R: Wait + Clock + Abort>(rt: &R, bell: &Bell, looks: &AtomicU64) -> u64 {
+    looks.fetch_add(1, Ordering::SeqCst);
+    await_more(rt, looks, CROWD - 1);
+    let start = instant(rt);
+    let rested = bell.rest_until(rt, 0, u64::MAX, Duration::from_millis(CROWDED));
+    let is_whole = since(rt, start).as_millis() >= u128::from(CROWDED);
+    u64::from(is_whole && !rested.is_woken())
+}
+
+#[test]
+fn a_rest_lasts_at_every_place(rt: HostRuntime) {
+    let (bell, looks) = (&Bell::new(), &AtomicU64::new(0));
+    let whole = map_indices(&rt, rt.alloc(), 32, &|_| rest_in_a_crowd(&rt, bell, looks));
+    expect(&rt, is_given(whole, &[1; 32]));
 }
 
 // Lets other threads run: a random number of times, at most seven.
