@@ -135,10 +135,10 @@ def test_the_paths_that_are_told() -> None:
 def test_a_path_of_the_page(begins: Begins, path: str) -> None:
     command, status = blocks(section(OPERATING, "Watching"))[:2]
     path = path.replace("NUMBER", "1").replace("WORD", "letter")
-    port, count = free_port(), 2 if path == "/runs/1" else 1
-    service = begins(command.replace("7080", str(port)), *(("--every", "1s") if count == 2 else ()))
+    count = 2 if path == "/runs/1" else 1
+    service = begins(command.replace("7080", "0"), *(("--every", "1s") if count == 2 else ()))
     service.wait("serving", count)
-    address = f"http://127.0.0.1:{port}{path}"
+    address = f"http://{service.all('service')[0]['http']}{path}"
     with urllib.request.urlopen(address, timeout=5 * PATIENCE) as answer:  # a report waits for whatever else runs
         assert answer.status == 200
     asks = [sys.executable, "-B", f"{TOP}/tools/service", *status.split()[1:], "--folder", service.folder]
