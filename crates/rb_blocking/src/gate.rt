@@ -2,6 +2,8 @@ ghost use Rattle.std.specs.Prelude.{◌≡◌, ◌↔◌, ℕ, Bool, false, List
 ghost use Rattle.rb_blocking.specs.GateSteps.{GateStep, Asked, HasRested, Sees};
 
 use rb_bell::Rested;
+use rb_lock::Pass;
+use rb_timer::Timer;
 
 /// What may end a wait.
 ///
@@ -22,10 +24,10 @@ pub trait Gate {
         ensures same { (n : ℕ) (goes_on : Bool) → answers self.new n goes_on ↔ answers self.old n goes_on }
         ensures seen { Sees has_seen self.old self.new (Asked turns result ∷ []) };
 
-    /// Sees that the call has rested. Only a bell makes a `Rested`, which can't be shown twice.
-    fn rested(&mut self, rested: Rested)
+    /// Sees that the call of this pass has rested. Only a bell makes a `Rested`, which can't be shown twice.
+    fn rested<T: Timer>(&mut self, rested: Rested, pass: &Pass<T>)
         ensures same { (n : ℕ) (goes_on : Bool) → answers self.new n goes_on ↔ answers self.old n goes_on }
-        ensures seen { Sees has_seen self.old self.new (HasRested ∷ []) };
+        ensures seen { Sees has_seen self.old self.new (HasRested pass.now.tried ∷ []) };
 
     /// Whether a wait may begin, asked before its first try.
     fn begins(&self) -> bool

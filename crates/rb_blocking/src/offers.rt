@@ -1,4 +1,4 @@
-ghost use Rattle.std.specs.Prelude.{◌≡◌};
+ghost use Rattle.std.specs.Prelude.{◌≡◌, ◌+◌};
 ghost use Rattle.rb_queue.specs.declared.ask.Ask.TheVariants.{Offer};
 ghost use Rattle.rb_lock.specs.Passes.{Learns};
 ghost use Rattle.rb_blocking.specs.WaitingCalls.{try_of};
@@ -29,6 +29,7 @@ pub fn offer_ring<T: Timer, R: Wait>(
 ) -> Result<Element, CallFault>
     requires pass { pass.old.table ≡ shared.now }
     ensures learns { Learns pass.old pass.new }
+    ensures tried { pass.new.tried ≡ pass.old.tried + 1 }
     ensures offered { OfferAnswered pass.old pass.new (try_of pass.old asked (Offer draft)) result }
 {
     let expiry = draft.expiry;

@@ -2,6 +2,8 @@ ghost use Rattle.std.specs.Prelude.{◌≡◌, ◌↔◌, ℕ, Bool, ◌<◌, tr
 
 use crate::gate::Gate;
 use rb_bell::Rested;
+use rb_lock::Pass;
+use rb_timer::Timer;
 
 /// A gate that ends a wait after a number of turns.
 #[derive(Clone, Copy, Debug, PartialEq, Eq)]
@@ -24,5 +26,5 @@ impl Gate for TurnGate {
         turns < self.limit
     }
 
-    fn rested(&mut self, _rested: Rested) {}
+    fn rested<T: Timer>(&mut self, _rested: Rested, _pass: &Pass<T>) {}
 }

@@ -144,7 +144,7 @@ fn try_often<T: Timer, C: Clock, G: Gate, R: Wait + time::Clock>(
         if !gate.turn(turns) {
             return Err(WaitFault::Stopped);
         }
-        gate.rested(rests.rest(rt, waiter.bell));
+        gate.rested(rests.rest(rt, waiter.bell), &*pass);
         turns = turns.saturating_add(1);
     }
     unreachable!()

@@ -1,6 +1,6 @@
 -- The desk gives no id twice, so a session holds none twice.
-use Rattle.std.proofs.Common.{◌≡◌, ℕ, ◌<◌, ◌≤◌, List, [], ◌++◌, Option, Result}
-use Rattle.std.proofs.Common.{Ok, Err, sym, subst, arith, remove, inl, inr, ◌⊎◌}
+use Rattle.std.proofs.Common.{◌≡◌, ℕ, ◌<◌, ◌≤◌, List, [], ◌++◌, Option}
+use Rattle.std.proofs.Common.{Ok, Err, sym, subst, arith, inl, inr, ◌⊎◌}
 use Rattle.std.proofs.lemmas.Bool.{cases_lt}
 use Rattle.rb_delayed.specs.declared.element.Element.{Element}
 use Rattle.rb_queue.specs.Leaving.{times}

@@ -1,6 +1,6 @@
 -- Each worker's pass holds what its sessions were given until that ends, and the history that is gathered has no other
 -- events.
-use Rattle.std.proofs.Common.{◌≡◌, ◌≢◌, ℕ, ◌+◌, ◌<◌, ◌⊎◌, inl, inr, List, [], ◌∷◌, ◌++◌, Contains, Bool, cond, Option, None, Some, refl, sym, ap, subst, ◌∙◌, arith, append-nil, append_assoc, ◌≤◌, ne_eqb}
+use Rattle.std.proofs.Common.{◌≡◌, ◌≢◌, ℕ, ◌<◌, ◌⊎◌, inl, inr, List, [], ◌∷◌, ◌++◌, Contains, Bool, cond, Option, None, Some, refl, sym, ap, subst, ◌∙◌, arith, append-nil, append_assoc, ◌≤◌, ne_eqb}
 use Rattle.std.proofs.lemmas.Bool.{cases_lt}
 use Rattle.std.proofs.lemmas.List.Elements.{Contains-append_right}
 use Rattle.std.specs.Prelude.{filter, ◌==◌}

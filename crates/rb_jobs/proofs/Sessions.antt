@@ -1,5 +1,5 @@
 -- What holds along each line of a session and along each end of a held job holds along a whole session.
-use Rattle.std.proofs.Common.{◌⊎◌, inl, inr, ◌≡◌, ℕ, List, [], ◌∷◌, Result, ap}
+use Rattle.std.proofs.Common.{inl, inr, ◌≡◌, ℕ, List, [], ◌∷◌, Result, ap}
 use Rattle.rb_delayed.specs.declared.element.Element.{Element}
 use Rattle.rb_kept.specs.declared.fault.CallFault.{CallFault}
 use Rattle.rb_retry.specs.Jobs.{FailsTo}

@@ -37,12 +37,12 @@ module _ {C G : Type 0} where
     abbrev pub desk_gives : SharedState C G → ℕ → Type 0
     desk_gives desk moment = waits.gives desk.clock moment
 
-    ends_whole : (old new : SharedState C G) (handed : ℕ) (ask : Ask) (result : Result Reply DeskFault)
-        → Ends waits old handed ask result new → Ends waits (whole old) handed ask result (whole new)
-    ends_whole old new handed ask (Ok reply) ends = ends
-    ends_whole old new handed ask (Err Full) ends = ends
-    ends_whole old new handed ask (Err Memory) ends = ends
-    ends_whole old new handed ask (Err Stopped) ends = ends
+    ends_whole : (old new : SharedState C G) (start : PassState) (handed : ℕ) (ask : Ask) (result : Result Reply DeskFault)
+        → Ends waits old start handed ask result new → Ends waits (whole old) start handed ask result (whole new)
+    ends_whole old new start handed ask (Ok reply) ends = ends
+    ends_whole old new start handed ask (Err Full) ends = ends
+    ends_whole old new start handed ask (Err Memory) ends = ends
+    ends_whole old new start handed ask (Err Stopped) ends = ends
 
     steps_whole : (old new : SharedState C G) (handed : ℕ) (ask : Ask) (result : Result Reply DeskFault)
         → SharedSteps waits old handed ask result new → SharedSteps waits (whole old) handed ask result (whole new)
@@ -50,7 +50,10 @@ module _ {C G : Type 0} where
       earlier = omega arith;
       sound = steps.sound;
       learns = steps.learns;
-      ends = ends_whole old new handed ask result steps.ends;
+      misses = steps.misses;
+      start = steps.start;
+      missed = steps.missed;
+      ends = ends_whole old new steps.start handed ask result steps.ends;
       gate = steps.gate;
       stays = ap whole steps.stays;
     }
@@ -72,8 +75,7 @@ module _ {C G : Type 0} where
     misses_whole old new missed = shared_misses (whole old) (whole new) (record {
       earlier = omega arith;
       sound = missed.sound;
-      learns = missed.learns;
-      mine = missed.mine;
+      miss = missed.miss;
       stays = ap whole missed.stays;
     })
 

@@ -1,5 +1,5 @@
 -- Seats of passes that are in no step, and what a pass has seen once it took the lock.
-use Rattle.std.proofs.Common.{◌≡◌, ℕ, ◌≤◌, List, [], ◌∷◌, length, ap, sym, subst, ◌∙◌}
+use Rattle.std.proofs.Common.{◌≡◌, ℕ, ◌+◌, ◌≤◌, List, [], ◌∷◌, length, ap, sym, subst, ◌∙◌}
 use Rattle.std.specs.Prelude.{Option, Some}
 use Rattle.atomic_table.specs.Seated.{TableId}
 use Rattle.rb_ledger.specs.declared.totals.Totals.{Totals}
@@ -16,7 +16,7 @@ use Rattle.rb_lock.proofs.HeldPairs.{same_slot, same_pair}
 
 -- the pass, once it has seen this history
 abbrev pub learned : PassState → ℕ → List Event → PassState
-learned pass names history = record pass { noted = names; seen = history; mine = events_of history pass.name }
+learned pass names history = record pass { noted = names; tried = pass.tried + 1; seen = history; mine = events_of history pass.name }
 
 module _ {T : Type 0} (table : TableId) (seat : LockSeat T) (pass : PassState) (of_pass : table ≡ pass.table) (is : seat ≡ (idle pass, [])) where
   -- what the seat is seen as

@@ -27,6 +27,8 @@ pub record PassState : Type 0 where
   pub opening : Opening
   -- how many names had been given when it last took the lock, its own draw among them
   pub noted : ℕ
+  -- how often it has taken the lock: once for each try of a call, a split and a closing
+  pub tried : ℕ
   -- its parts of the whole, which all passes of the queue have together
   pub parts : ℕ
   -- the history, as far as it has seen it
@@ -40,22 +42,23 @@ pub record PassState : Type 0 where
 abbrev pub seen_code : Coded PassState
 seen_code =
     code_by
-    (TableId × (ℕ × (ℕ × (Opening × (ℕ × (ℕ × (List Event × (List Event × List PassRecord))))))))
-    (coded× table_id_coded (coded× coded_ℕ (coded× coded_ℕ (coded× opening.the_row.coded (coded× coded_ℕ (coded× coded_ℕ
+    (TableId × (ℕ × (ℕ × (Opening × (ℕ × (ℕ × (ℕ × (List Event × (List Event × List PassRecord)))))))))
+    (coded× table_id_coded (coded× coded_ℕ (coded× coded_ℕ (coded× opening.the_row.coded (coded× coded_ℕ (coded× coded_ℕ (coded× coded_ℕ
     (coded× (coded_list event.the_row.coded)
-    (coded× (coded_list event.the_row.coded) (coded_list entry.the_row.coded)))))))))
+    (coded× (coded_list event.the_row.coded) (coded_list entry.the_row.coded))))))))))
     (λ pass.
-    (pass.table, (pass.name, (pass.capacity, (pass.opening, (pass.noted, (pass.parts, (pass.seen, (pass.mine, pass.folded)))))))))
+    (pass.table, (pass.name, (pass.capacity, (pass.opening, (pass.noted, (pass.tried, (pass.parts, (pass.seen, (pass.mine, pass.folded))))))))))
     (λ p. record {
       table = p.0;
       name = p.1.0;
       capacity = p.1.1.0;
       opening = p.1.1.1.0;
       noted = p.1.1.1.1.0;
-      parts = p.1.1.1.1.1.0;
-      seen = p.1.1.1.1.1.1.0;
-      mine = p.1.1.1.1.1.1.1.0;
-      folded = p.1.1.1.1.1.1.1.1;
+      tried = p.1.1.1.1.1.0;
+      parts = p.1.1.1.1.1.1.0;
+      seen = p.1.1.1.1.1.1.1.0;
+      mine = p.1.1.1.1.1.1.1.1.0;
+      folded = p.1.1.1.1.1.1.1.1.1;
     })
     (λ _. refl)
 
@@ -127,6 +130,7 @@ first_pass table start = record {
   capacity = start.capacity;
   opening = start.opening;
   noted = 1;
+  tried = 0;
   parts = all_parts;
   seen = [];
   mine = [];
@@ -139,7 +143,7 @@ with_parts pass parts = record pass { parts = parts }
 
 -- a pass split off under this name, with so many parts: it has seen the same, and made no call
 abbrev pub split_from : PassState → ℕ → ℕ → PassState
-split_from pass name parts = record pass { name = name; parts = parts; mine = []; folded = [] }
+split_from pass name parts = record pass { name = name; tried = 0; parts = parts; mine = []; folded = [] }
 
 -- a pass with another folded into it: the other's record and those folded into that follow its own, and the parts are
 -- added up

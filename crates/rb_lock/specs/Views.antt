@@ -22,6 +22,7 @@ idle pass = record {
   capacity = pass.capacity;
   opening = pass.opening;
   noted = pass.noted;
+  tried = pass.tried;
   parts = pass.parts;
   name = pass.name;
   seen = pass.seen;
@@ -38,6 +39,7 @@ pass_of table v = record {
   capacity = v.capacity;
   opening = v.opening;
   noted = v.noted;
+  tried = v.tried;
   parts = v.parts;
   seen = v.seen;
   mine = v.mine;
@@ -89,6 +91,7 @@ newcomer start = record {
   capacity = start.capacity;
   opening = start.opening;
   noted = 1;
+  tried = 0;
   parts = all_parts;
   name = 0;
   seen = [];
@@ -97,9 +100,9 @@ newcomer start = record {
   stage = Idle;
 }
 
--- the lock is taken: the history and the number of names are noted
+-- the lock is taken, once more: the history and the number of names are noted
 abbrev pub holder_of : View → List Event → ℕ → View
-holder_of v found names = record v { noted = names; stage = Holds found }
+holder_of v found names = record v { noted = names; tried = v.tried + 1; stage = Holds found }
 
 -- the lock is given back: by then the whole history was seen
 abbrev pub caught_up : View → List Event → Stage → View
@@ -135,7 +138,7 @@ cut_short v = record v { parts = v.parts - drawn_part v.stage; stage = Idle }
 
 -- the view of the new pass, under the name that was drawn: it has seen the same, and made no call
 abbrev pub cut_off : View → View
-cut_off v = record v { name = drawn_name v.stage; parts = drawn_part v.stage; mine = []; folded = []; stage = Idle }
+cut_off v = record v { name = drawn_name v.stage; tried = 0; parts = drawn_part v.stage; mine = []; folded = []; stage = Idle }
 
 -- the other view's records after its own, and the parts of both
 abbrev pub folding : View → View → View
@@ -159,6 +162,7 @@ nobody = record {
   capacity = 0;
   opening = record { elements = []; next_id = 0; last_at = 0; opening = empty_is_opening };
   noted = 0;
+  tried = 0;
   parts = 0;
   name = 0;
   seen = [];

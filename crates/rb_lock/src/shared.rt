@@ -99,6 +99,7 @@ impl<T: Timer> Shared<T> {
     pub fn split<R: Wait>(&self, rt: &R, pass: &mut Pass<T>) -> Result<Pass<T>, SplitFault>
         requires pass { pass.old.table ≡ self.now }
         ensures learns { Learns (with_parts pass.old pass.new.parts) pass.new }
+        ensures tried { pass.new.tried ≡ pass.old.tried + 1 }
         ensures mine { pass.new.mine ≡ pass.old.mine }
         ensures parts { IfOk result (λ child. pass.new.parts + child.parts ≡ pass.old.parts) }
         ensures whole { OnErr result (pass.new.parts ≡ pass.old.parts) }
@@ -154,6 +155,7 @@ impl<T: Timer> Shared<T> {
         requires pass { pass.old.table ≡ self.now }
         requires note { note.table ≡ self.now }
         ensures learns { Learns pass.old pass.new }
+        ensures tried { pass.new.tried ≡ pass.old.tried }
         ensures mine { pass.new.mine ≡ pass.old.mine }
         ensures heard { IsPrefix note.seen pass.new.seen }
         ensures which { (pass.new.seen ≡ pass.old.seen) ⊎ (pass.new.seen ≡ note.seen) }
@@ -169,8 +171,10 @@ impl<T: Timer> Shared<T> {
         requires second { second.old.table ≡ self.now }
         ensures same { first.new.seen ≡ second.new.seen }
         ensures first { Learns first.old first.new }
+        ensures first_tried { first.new.tried ≡ first.old.tried }
         ensures first_mine { first.new.mine ≡ first.old.mine }
         ensures second { Learns second.old second.new }
+        ensures second_tried { second.new.tried ≡ second.old.tried }
         ensures second_mine { second.new.mine ≡ second.old.mine }
     {
         let note = self.note(first);
@@ -195,6 +199,7 @@ impl<T: Timer> Shared<T> {
     ) -> Result<Outcome, CallFault>
         requires pass { pass.old.table ≡ self.now }
         ensures learns { Learns pass.old pass.new }
+        ensures tried { pass.new.tried ≡ pass.old.tried + 1 }
         ensures answered { Answered pass.old pass.new
             (record { seat = pass.old.name; asked = asked; ask = ask }) result }
     {
@@ -232,6 +237,7 @@ impl<T: Timer> Shared<T> {
         ensures audit { IfOk result (λ closed. closed.2 ≡ audit_of closed.0.opening closed.0.history) }
         ensures handed_back { IfErr result (λ refused. refused.0 ≡ self) }
         ensures learns { IfErr result (λ refused. Learns pass refused.1) }
+        ensures tried { IfErr result (λ refused. refused.1.tried ≡ pass.tried + 1) }
         ensures mine { IfErr result (λ refused. refused.1.mine ≡ pass.mine) }
         ensures not_all { IfErr result (λ refused. IsRefused refused.1 refused.2) }
         ensures missing { OnErr result (pass.parts ≢ all_parts) }

@@ -11,6 +11,8 @@ pub(crate) struct View {
     pub(crate) opening: Opening,
     /// How many names had been given when the lock was last taken, this seat's own draw among them.
     pub(crate) noted: u64,
+    /// How often it has taken the lock: in proofs a number of any size.
+    pub(crate) tried: u64,
     /// Its parts of the whole: in proofs a number of any size.
     pub(crate) parts: u64,
     pub(crate) name: u64,

@@ -4,6 +4,8 @@ ghost use Rattle.rb_serving.specs.TcpReasons.{IsWaitEnd};
 use crate::ending::{Ending, InputRead, shown_drain};
 use crate::standing::Standing;
 use rb_blocking::{Gate, Rested};
+use rb_lock::Pass;
+use rb_timer::Timer;
 use std::alloc::Global;
 use std::fmt::{self, Debug, Formatter};
 use std::io::ErrorKind;
@@ -96,7 +98,7 @@ impl<'a> Gate for TcpGate<'a> {
         }
     }
 
-    fn rested(&mut self, _rested: Rested) {}
+    fn rested<T: Timer>(&mut self, _rested: Rested, _pass: &Pass<T>) {}
 
     fn begins(&self) -> bool {
         match shown_drain(self.ending) {

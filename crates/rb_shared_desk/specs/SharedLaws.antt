@@ -1,6 +1,6 @@
 -- An answered call at a desk over a shared queue is one more event with its reply, and a refused one is
 -- none. No public clause cites this module.
-use Rattle.std.proofs.Common.{◌≡◌, ℕ, ◌≤◌, ◌==◌, Bool, true, false, cond, List, [], ◌∷◌, ◌++◌, refl, sym, ap, subst}
+use Rattle.std.proofs.Common.{◌≡◌, ℕ, zero, ◌≤◌, ◌==◌, Bool, true, false, cond, List, [], ◌∷◌, ◌++◌, refl, sym, ap, subst}
 use Rattle.std.proofs.Common.{◌∙◌, ◌⊎◌, inl, inr, arith, eq-eqb, Option, Some, Result, Ok, Err, length, length-append, drop, suc}
 use Rattle.std.proofs.lemmas.List.{drop-append-le, nil_from_length, append-nil, append_cancel_right}
 use Rattle.std.proofs.lemmas.List.Elements.{filter-append}
@@ -22,7 +22,7 @@ use Rattle.rb_retry.specs.Asked.{MayGet, MayWait, IsMomentOf, Makes}
 use Rattle.rb_retry.specs.RecordLaws.{recorded_reply, may_wait, made_after-more}
 use Rattle.rb_retry.specs.GivenLaws.{times_given-drop, times_given-filter, legal_gives_once}
 use Rattle.rb_shared_desk.specs.WaitRules.{WaitRules}
-use Rattle.rb_shared_desk.specs.SharedSteps.{SharedState, SharedSteps, IsKeptOut, SetsShared, made_through, name_of}
+use Rattle.rb_shared_desk.specs.SharedSteps.{SharedState, SharedSteps, AreMisses, IsKeptOut, SetsShared, made_through, name_of}
 use Rattle.rb_retry.specs.declared.desk_fault.DeskFault.{DeskFault}
 use Rattle.rb_retry.specs.declared.desk_fault.DeskFault.TheVariants.{Full, Memory, Stopped}
 
@@ -84,6 +84,11 @@ module _ (old new : PassState) (sound : IsSoundPass old) (learns : Learns old ne
       rw (learns.name, learns.opening, replied.seen, made_by-more old.name old.opening before (event ∷ []))
       (rw (own, same, replied.records.reply) refl)
 
+-- tries that found nothing made no call
+pub misses_unmade : (old : PassState) (misses : ℕ) (new : PassState) → AreMisses old misses new → new.mine ≡ old.mine
+misses_unmade old zero new same = ap (λ (pass : PassState). pass.mine) same
+misses_unmade old (suc misses) new (mid, miss, missed) = misses_unmade mid misses new missed ∙ miss.mine
+
 module _ {C G : Type 0} (rules : WaitRules C G) (old new : SharedState C G) (handed : ℕ) (ask : Ask) where
   -- what was made through the desk is what its pass has made since
   through : (result : Result Reply DeskFault) → SharedSteps rules old handed ask result new → (mades : List Made)
@@ -99,7 +104,7 @@ module _ {C G : Type 0} (rules : WaitRules C G) (old new : SharedState C G) (han
   pub shared_makes : (answer : Reply) → SharedSteps rules old handed ask (Ok answer) new
       → Makes (rules.gives old.clock) handed ask answer (made_through old) (made_through new)
   shared_makes answer steps =
-      let (asked, moment, replied) = steps.ends in
+      let (asked, moment, replied, way) = steps.ends in
       let last : List Made = record { event = replied.event; reply = Some answer } ∷ [] in
       let own = length_own old.pass.name old.pass.opening [] old.pass.seen in
       let within : old.before ≤ length (own_of old.pass) = omega (arith, steps.earlier, own, ap length steps.sound.own) in
@@ -129,22 +134,25 @@ module _ {C G : Type 0} (rules : WaitRules C G) (old new : SharedState C G) (han
       )
 
   -- a wait that was stopped made no call
-  stops_unmade : IsStopped (IsReading rules.gives rules.reads old.clock) (rules.answers old.gate)
-      (Sees rules.has_seen old.gate new.gate) old.pass new.pass ask
-      ⊎ IsKeptOut (rules.answers old.gate) old.pass new.pass ask → MayWait ask × (new.pass.mine ≡ old.pass.mine)
-  stops_unmade (inl stopped) = (
+  stops_unmade : (start : PassState) → start.mine ≡ old.pass.mine
+      → IsStopped (IsReading rules.gives rules.reads old.clock) (rules.answers old.gate)
+      (Sees rules.has_seen old.gate new.gate) start new.pass ask
+      ⊎ (IsKeptOut (rules.answers old.gate) old.pass new.pass ask × (new.gate ≡ old.gate) × (new.pass ≡ start))
+      → MayWait ask × (new.pass.mine ≡ old.pass.mine)
+  stops_unmade start unmade (inl stopped) = (
     may_wait ask _ stopped.last.waits.waits,
     stopped_unmade (IsReading rules.gives rules.reads old.clock) (rules.answers old.gate)
-        (Sees rules.has_seen old.gate new.gate) old.pass new.pass ask stopped,
+        (Sees rules.has_seen old.gate new.gate) start new.pass ask stopped ∙ unmade,
   )
-  stops_unmade (inr kept_out) = (kept_out.waits, kept_out.mine)
+  stops_unmade start unmade (inr (kept_out, gate, same)) = (kept_out.waits, kept_out.mine)
 
   pub shared_refuses : (fault : DeskFault) → SharedSteps rules old handed ask (Err fault) new
       → MayGet ask fault × (made_through new ≡ made_through old)
-  shared_refuses Full steps = (tt, none_more (Err Full) steps steps.ends.mine)
+  shared_refuses Full steps = (tt, none_more (Err Full) steps steps.ends.0.mine)
   shared_refuses Memory steps = (steps.ends.2, none_more (Err Memory) steps steps.ends.0)
   shared_refuses Stopped steps =
-      let (waits, same) = stops_unmade steps.ends in (waits, none_more (Err Stopped) steps same)
+      let unmade = misses_unmade old.pass steps.misses steps.start steps.missed in
+      let (waits, same) = stops_unmade steps.start unmade steps.ends in (waits, none_more (Err Stopped) steps same)
 
 pub shared_stays : {C G : Type 0} (old new : SharedState C G) (moment : ℕ) (result : Option ℕ)
     → SetsShared old moment result new → made_through new ≡ made_through old

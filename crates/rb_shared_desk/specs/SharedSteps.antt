@@ -1,5 +1,5 @@
 -- What a desk over a shared queue does.
-use Rattle.std.specs.Prelude.{◌≡◌, ◌↔◌, ℕ, ◌≤◌, Bool, false, ◌⊎◌, List, length, drop, Option, None, Result, Ok, Err}
+use Rattle.std.specs.Prelude.{◌≡◌, ◌↔◌, ℕ, zero, suc, ◌+◌, ◌≤◌, Bool, false, ◌⊎◌, List, length, drop, Option, None, Result, Ok, Err}
 use Rattle.atomic_table.specs.Seated.{TableId}
 use Rattle.rb_queue.specs.declared.ask.Ask.{Ask}
 use Rattle.rb_queue.specs.declared.opening.Opening.{Opening}
@@ -10,7 +10,7 @@ use Rattle.rb_lock.specs.Passes.{PassState, IsSoundPass, Learns, log_of}
 use Rattle.rb_lock.specs.SharedCalls.{Replied}
 use Rattle.rb_lock.specs.declared.pass_record.PassRecord.{PassRecord}
 use Rattle.rb_blocking.specs.GateSteps.{Sees}
-use Rattle.rb_blocking.specs.WaitingCalls.{try_of, IsReading, IsStopped, EndsFull}
+use Rattle.rb_blocking.specs.WaitingCalls.{try_of, IsReading, IsAnswered, IsStopped, FindsFull, EndsFull}
 use Rattle.rb_retry.specs.Made.{Made, made_by}
 use Rattle.rb_retry.specs.Asked.{IsMomentOf, MayWait}
 use Rattle.rb_retry.specs.declared.desk_fault.DeskFault.{DeskFault}
@@ -43,6 +43,17 @@ pub record IsKeptOut (answers : ℕ → Bool → Type 0) (old new : PassState) (
   pub stopped : answers 0 false
   pub mine : new.mine ≡ old.mine
 
+-- One try found nothing. The pass has learned, and made no further call.
+pub record IsMiss (old new : PassState) : Type 0 where
+  pub learns : Learns old new
+  pub tried : new.tried ≡ old.tried + 1
+  pub mine : new.mine ≡ old.mine
+
+-- this many tries, one after the other, found nothing
+abbrev pub AreMisses : PassState → ℕ → PassState → Type 0
+AreMisses old zero new = new ≡ old
+AreMisses old (suc misses) new = (mid : PassState) × IsMiss old mid × AreMisses mid misses new
+
 module _ {C G : Type 0} where
   abbrev pub name_of : SharedState C G → SharedName
   name_of state = record {
@@ -64,39 +75,54 @@ module _ {C G : Type 0} where
   SetsShared old moment result new = (result ≡ None) × (new ≡ old)
 
   module _ (rules : WaitRules C G) where
-    -- How an ask ended, and what the pass has seen after it. With a reply the pass has made this one further call;
-    -- with a fault none: the history that it has seen is full, memory was refused, or the gate stopped the wait.
-    abbrev pub Ends : SharedState C G → ℕ → Ask → Result Reply DeskFault → SharedState C G → Type 0
-    Ends old handed ask (Ok reply) new =
+    -- the pass made one try, which the gate did not see
+    abbrev pub IsOneTry : SharedState C G → PassState → SharedState C G → Type 0
+    IsOneTry old start new = (new.gate ≡ old.gate) × (new.pass.tried ≡ start.tried + 1)
+
+    -- How an ask ended, by a wait or one try from `start`, and what the pass has seen after it. With a reply the pass has
+    -- made this one further call; with a fault none: the history that it has seen is full, memory was refused, or the
+    -- gate stopped the wait, or let none begin.
+    abbrev pub Ends : SharedState C G → PassState → ℕ → Ask → Result Reply DeskFault → SharedState C G → Type 0
+    Ends old start handed ask (Ok reply) new =
         (asked : ℕ) × IsMomentOf (rules.gives old.clock) ask handed asked
         × Replied old.pass new.pass (try_of old.pass asked ask) reply
-    Ends old handed ask (Err Full) new = EndsFull old.pass new.pass
-    Ends old handed ask (Err Memory) new =
-        (new.pass.mine ≡ old.pass.mine) × HasRoom (log_of new.pass) × TakesMemory ask
-    Ends old handed ask (Err Stopped) new =
+        × (IsAnswered (IsReading rules.gives rules.reads old.clock) (rules.answers old.gate)
+        (Sees rules.has_seen old.gate new.gate) start new.pass ask reply ⊎ IsOneTry old start new)
+    Ends old start handed ask (Err Full) new =
+        EndsFull old.pass new.pass
+        × (FindsFull (IsReading rules.gives rules.reads old.clock) (rules.answers old.gate)
+        (Sees rules.has_seen old.gate new.gate) start new.pass ask ⊎ IsOneTry old start new)
+    Ends old start handed ask (Err Memory) new =
+        (new.pass.mine ≡ old.pass.mine) × HasRoom (log_of new.pass) × TakesMemory ask × IsOneTry old start new
+    Ends old start handed ask (Err Stopped) new =
         IsStopped (IsReading rules.gives rules.reads old.clock) (rules.answers old.gate)
-        (Sees rules.has_seen old.gate new.gate) old.pass new.pass ask
-        ⊎ IsKeptOut (rules.answers old.gate) old.pass new.pass ask
+        (Sees rules.has_seen old.gate new.gate) start new.pass ask
+        ⊎ (IsKeptOut (rules.answers old.gate) old.pass new.pass ask × (new.gate ≡ old.gate) × (new.pass ≡ start))
 
-    -- The ask ended in this way, and the pass has learned. The gate's answers are as before, and nothing else has
-    -- changed.
+    -- After tries that found nothing and that the gate did not see, the ask ended in this way. The pass has learned, the
+    -- gate's answers are as before, and nothing else has changed.
     pub record SharedSteps (old : SharedState C G) (handed : ℕ) (ask : Ask) (result : Result Reply DeskFault)
         (new : SharedState C G) : Type 0 where
       pub earlier : old.before ≤ length old.pass.mine
       pub sound : IsSoundPass old.pass
       pub learns : Learns old.pass new.pass
-      pub ends : Ends old handed ask result new
+      pub misses : ℕ
+      pub start : PassState
+      pub missed : AreMisses old.pass misses start
+      pub ends : Ends old start handed ask result new
       pub gate : (turns : ℕ) (goes_on : Bool)
           → rules.answers new.gate turns goes_on ↔ rules.answers old.gate turns goes_on
       pub stays : new ≡ record old { pass = new.pass; gate = new.gate }
 
     -- How an ask ended that was tried once, at this moment: with the reply of this one further call, or with a fault and
-    -- none, since the history that the pass has seen is full, or the gate said no before the try.
+    -- none, since the history that the pass has seen is full. Or it was not tried, since the gate said no before that.
     abbrev pub TryEnds : SharedState C G → ℕ → Ask → Result Reply DeskFault → SharedState C G → Type 0
-    TryEnds old asked ask (Ok reply) new = Replied old.pass new.pass (try_of old.pass asked ask) reply
-    TryEnds old asked ask (Err Full) new = EndsFull old.pass new.pass
+    TryEnds old asked ask (Ok reply) new =
+        Replied old.pass new.pass (try_of old.pass asked ask) reply × (new.pass.tried ≡ old.pass.tried + 1)
+    TryEnds old asked ask (Err Full) new = EndsFull old.pass new.pass × (new.pass.tried ≡ old.pass.tried + 1)
     TryEnds old asked ask (Err Memory) new = ⊥
-    TryEnds old asked ask (Err Stopped) new = IsKeptOut (rules.answers old.gate) old.pass new.pass ask
+    TryEnds old asked ask (Err Stopped) new =
+        IsKeptOut (rules.answers old.gate) old.pass new.pass ask × (new.pass ≡ old.pass)
 
     -- The ask that was tried once ended in this way, and the pass has learned. Nothing else has changed.
     pub record TriesShared (old : SharedState C G) (asked : ℕ) (ask : Ask) (result : Result Reply DeskFault)
@@ -107,10 +133,9 @@ module _ {C G : Type 0} where
       pub ends : TryEnds old asked ask result new
       pub stays : new ≡ record old { pass = new.pass }
 
-  -- A try found nothing. The pass has learned and made no further call, and nothing else has changed.
+  -- One try found nothing, and nothing else has changed.
   pub record MissesShared (old new : SharedState C G) : Type 0 where
     pub earlier : old.before ≤ length old.pass.mine
     pub sound : IsSoundPass old.pass
-    pub learns : Learns old.pass new.pass
-    pub mine : new.pass.mine ≡ old.pass.mine
+    pub miss : IsMiss old.pass new.pass
     pub stays : new ≡ record old { pass = new.pass }

@@ -137,12 +137,11 @@ impl<'a, T: Timer, C: Clock, G: Gate, R: Wait + time::Clock> Desk for SharedDesk
                 if !self.gate.begins() {
                     return Err(DeskFault::Stopped);
                 }
-                call_and_wait(self.rt, &self.waiter, self.pass, self.gate, &ask).map_err(
-                    |fault| match fault {
-                        WaitFault::Full => DeskFault::Full,
-                        WaitFault::Stopped => DeskFault::Stopped,
-                    },
-                )
+                match call_and_wait(self.rt, &self.waiter, self.pass, self.gate, &ask) {
+                    Ok(reply) => Ok(reply),
+                    Err(WaitFault::Full) => Err(DeskFault::Full),
+                    Err(WaitFault::Stopped) => Err(DeskFault::Stopped),
+                }
             }
             Ask::Offer(draft) => Ok(Reply::Offered(self.offer(asked, draft)?)),
             _ => match self.waiter.shared.call(self.rt, self.pass, asked, ask)? {
@@ -165,7 +164,7 @@ impl<'a, T: Timer, C: Clock, G: Gate, R: Wait + time::Clock> Desk for SharedDesk
         }
     }
 
-    #[tactic(auto, using(crate::proofs::SharedEndings::call_endings))]
+    #[tactic(auto, using(crate::proofs::SharedEndings::few_through))]
     fn offer(&mut self, asked: u64, draft: Draft) -> Result<Element, CallFault> {
         // For the proof: the pass has seen a legal history.
         let _ = self.pass.name();

@@ -4,7 +4,9 @@ use crate::tests::fixtures::{ListPass, ListShared, draft, opened};
 use rb_blocking::{Bell, Clock, Gate, Rested, WaitFault, offer_ring, poll_for, take};
 use rb_delayed::Element;
 use rb_kept::{CallFault, Outcome};
+use rb_lock::Pass;
 use rb_queue::{Ask, Draft};
+use rb_timer::Timer;
 use std::alloc::{AllocError, Global};
 use std::process::Abort;
 use std::sync::atomic::{AtomicU64, Ordering};
@@ -75,7 +77,7 @@ impl<'a> Gate for CountingGate<'a> {
         turns < self.limit
     }
 
-    fn rested(&mut self, _rested: Rested) {}
+    fn rested<T: Timer>(&mut self, _rested: Rested, _pass: &Pass<T>) {}
 }
 
 /// A caller of a shared queue: a pass, with its queue, a bell and what is counted. The value

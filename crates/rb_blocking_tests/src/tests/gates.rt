@@ -3,6 +3,8 @@
 use crate::tests::callers::{Caller, FixedClock, with_caller};
 use crate::tests::fixtures::{expect, expect_same};
 use rb_blocking::{Bell, Clock, Gate, MachineClock, Rested, WaitFault};
+use rb_lock::Pass;
+use rb_timer::Timer;
 use std::process::Abort;
 use std::sync::Wait;
 use std::test::Fail;
@@ -37,7 +39,7 @@ impl<'a, R: Wait> Gate for RingingGate<'a, R> {
         self.next < TURNS
     }
 
-    fn rested(&mut self, _rested: Rested) {}
+    fn rested<T: Timer>(&mut self, _rested: Rested, _pass: &Pass<T>) {}
 }
 
 // Makes a take whose rests don't last. Returns the number of its turns, counted while each turn has
@@ -99,7 +101,7 @@ impl<'a, C: Clock> Gate for RestGate<'a, C> {
         turns < 3
     }
 
-    fn rested(&mut self, _rested: Rested) {}
+    fn rested<T: Timer>(&mut self, _rested: Rested, _pass: &Pass<T>) {}
 }
 
 // Polls at moment 7, and asserts that the call rests at least so often between the questions to its

@@ -3,7 +3,9 @@
 use crate::tests::callers::{Caller, Counts, FixedClock, with_caller_at};
 use crate::tests::fixtures::{expect, expect_same, offer};
 use rb_blocking::{Bell, Clock, Gate, Rested, WaitFault};
+use rb_lock::Pass;
 use rb_queue::Ask;
+use rb_timer::Timer;
 use std::alloc::Global;
 use std::process::Abort;
 use std::sync::Wait;
@@ -108,7 +110,7 @@ impl<'a, R: Wait> Gate for FillingGate<'a, R> {
         true
     }
 
-    fn rested(&mut self, _rested: Rested) {}
+    fn rested<T: Timer>(&mut self, _rested: Rested, _pass: &Pass<T>) {}
 }
 
 // Makes a wait at a queue with room for two calls, and asserts how it ends. Its clock stands at 5

@@ -3,6 +3,8 @@
 use crate::tests::callers::{Caller, Counts, FixedClock, in_threads, with_caller};
 use crate::tests::fixtures::{await_more, expect, expect_same};
 use rb_blocking::{Gate, Rested, WaitFault};
+use rb_lock::Pass;
+use rb_timer::Timer;
 use std::alloc::Global;
 use std::process::Abort;
 use std::sync::Wait;
@@ -34,7 +36,7 @@ impl<'a> Gate for LosersGate<'a> {
         self.left > 0
     }
 
-    fn rested(&mut self, _rested: Rested) {}
+    fn rested<T: Timer>(&mut self, _rested: Rested, _pass: &Pass<T>) {}
 }
 
 // The work of thread `number`. The first two take one element, and tell each other who got one. The

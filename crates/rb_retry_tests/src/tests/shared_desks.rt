@@ -6,10 +6,11 @@ use crate::tests::devices::{FixedClock, ListPass, ListShared, expect_holds, expe
 use crate::tests::fixtures::{expect, expect_set, offer, opened};
 use rb_blocking::{Bell, Gate, Rested, TurnGate};
 use rb_kept::{CallFault, Kept};
+use rb_lock::Pass;
 use rb_queue::{Ask, Event};
 use rb_retry::{Desk, DeskFault, Job, Policy, Verdict, done, fail, take};
 use rb_shared_desk::SharedDesk;
-use rb_timer::ListTimer;
+use rb_timer::{ListTimer, Timer};
 use std::alloc::Global;
 use std::process::Abort;
 use std::sync::Wait;
@@ -34,7 +35,7 @@ impl Gate for CountingGate {
         false
     }
 
-    fn rested(&mut self, _rested: Rested) {}
+    fn rested<T: Timer>(&mut self, _rested: Rested, _pass: &Pass<T>) {}
 }
 
 // Makes calls at a desk and asserts their answers. The clock can't be set, and waits are made at
@@ -128,7 +129,7 @@ impl Gate for ClosedGate {
         true
     }
 
-    fn rested(&mut self, _rested: Rested) {}
+    fn rested<T: Timer>(&mut self, _rested: Rested, _pass: &Pass<T>) {}
 
     fn begins(&self) -> bool {
         false

@@ -67,7 +67,7 @@ impl<'a> Gate for NotedGate<'a> {
         turns < MOST_TURNS
     }
 
-    fn rested(&mut self, _rested: Rested) {}
+    fn rested<T: Timer>(&mut self, _rested: Rested, _pass: &Pass<T>) {}
 }
 
 /// What a visitor does: it sends its lines at once, after both counts have risen, or once another
