@@ -1,4 +1,4 @@
-ghost use Rattle.std.specs.Prelude.{◌≡◌, ◌⊎◌, ℕ, [], Option, Result, IfOk, OnErr};
+ghost use Rattle.std.specs.Prelude.{◌≡◌, ◌⊎◌, ℕ, [], Option, Result, OnOk, OnErr};
 ghost use Rattle.std.specs.Io.KnownBytes.{Keeps};
 ghost use Rattle.rb_retry.specs.DeskRules.{desk_rules};
 ghost use Rattle.rb_session.specs.Held.{AreGiven};
@@ -17,26 +17,28 @@ use rb_queue::Ask;
 use rb_retry::{Desk, Policy};
 use std::io::Write;
 
-/// Answers one line with the first line of its reply. If that is a drain's, the elements that it
-/// took are the last that are held.
+/// Answers one line, and puts the first line of its reply in place. If that is a drain's, the elements
+/// that it took are the last that are held.
 ///
 /// A request that may wait is tried once. Only if it then has to, is what the outlet holds back handed on before.
 /// `Err` means that this failed; then the request was not served. The desk's clock is read once for each
 /// request.
+// A reply in a `Result` is copied at each `?`, and each copy waits for the writes of the one before.
 pub(crate) fn answer<W: Write, D: Desk>(
     outlet: &mut Outlet<'_, W>,
     desk: &mut D,
     held: &mut HeldJobs,
     policy: &Policy,
-    reading: Result<Request, LineFault>,
-) -> Result<LineReply, WriteFault>
+    reading: &Result<Request, LineFault>,
+    reply: &mut LineReply,
+) -> Result<(), WriteFault>
     requires { AreGiven (D.mine (D.state desk.old)) held.old }
-    ensures turn { IfOk result (λ reply. IsTurn
+    ensures turn { OnOk result (IsTurn
         (desk_rules D.Desk policy.now) (point (D.state desk.old) held.old)
-        reading (replies_of reply held.new) (point (D.state desk.new) held.new)) }
-    ensures waits { IfOk result (λ reply. NeedsNoWait
+        reading.now (replies_of reply.new held.new) (point (D.state desk.new) held.new)) }
+    ensures waits { OnOk result (NeedsNoWait
         (desk_rules D.Desk policy.now) (point (D.state desk.old) held.old)
-        reading (replies_of reply held.new) (point (D.state desk.new) held.new)
+        reading.now (replies_of reply.new held.new) (point (D.state desk.new) held.new)
         ⊎ (WritesBeforeWaits outlet.old.delivery → outlet.new.gathered.items ≡ [])) }
     ensures missed { OnErr result (D.Misses (D.state desk.old) (D.state desk.new) × (held.new ≡ held.old)) }
     ensures late { OnErr result (IsGathered outlet.old.delivery) }
@@ -44,18 +46,19 @@ pub(crate) fn answer<W: Write, D: Desk>(
     ensures told { WriterTells W.Write result outlet.old outlet.new }
     ensures becomes { Becomes W.Write outlet.old outlet.new }
 {
-    match reading {
+    match *reading {
         Ok(Request::Take) => {
             let now = desk.now();
-            fetch_or_wait(outlet, desk, held, now, 0, &Ask::Take)
+            *reply = fetch_or_wait(outlet, desk, held, now, 0, &Ask::Take)?;
         }
         Ok(Request::PollFor(timeout)) => {
             let start = desk.now();
             let ask = Ask::PollFor { start, timeout };
-            fetch_or_wait(outlet, desk, held, start, start, &ask)
+            *reply = fetch_or_wait(outlet, desk, held, start, start, &ask)?;
         }
-        _ => Ok(answer_at_once(desk, held, policy, reading)),
+        _ => *reply = answer_at_once(desk, held, policy, reading),
     }
+    Ok(())
 }
 
 // Answers a line that never waits.
@@ -63,19 +66,19 @@ fn answer_at_once<D: Desk>(
     desk: &mut D,
     held: &mut HeldJobs,
     policy: &Policy,
-    reading: Result<Request, LineFault>,
+    reading: &Result<Request, LineFault>,
 ) -> LineReply
     requires given { AreGiven (D.mine (D.state desk.old)) held.old }
-    requires at_once { AsksToWait reading → ⊥ }
+    requires at_once { AsksToWait reading.now → ⊥ }
     ensures { IsTurn (desk_rules D.Desk policy.now) (point (D.state desk.old) held.old)
-        reading (replies_of result held.new) (point (D.state desk.new) held.new) }
+        reading.now (replies_of result held.new) (point (D.state desk.new) held.new) }
 {
     let request = match reading {
         Ok(request) => request,
-        Err(fault) => return LineReply::Err(ErrWord::from(fault)),
+        Err(fault) => return LineReply::Err(ErrWord::from(*fault)),
     };
     let now = desk.now();
-    match request {
+    match *request {
         Request::Offer { delay, payload } => offer(desk, now, delay, payload),
         Request::OfferAt { expiry, payload } => offer_at(desk, now, expiry, payload),
         Request::Poll => fetch_job(desk, held, now, Ask::Poll),

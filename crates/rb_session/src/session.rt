@@ -79,7 +79,8 @@ impl Session {
             };
             desk.hear(!self.held.is_empty(), self.buffer.has_rest());
             let quits = matches!(reading, Ok(Request::Quit));
-            let reply = answer(outlet, desk, &mut self.held, policy, reading)?;
+            let mut reply = LineReply::Bye;
+            answer(outlet, desk, &mut self.held, policy, &reading, &mut reply)?;
             send_replies(outlet, &reply, &self.held)?;
             if quits {
                 outlet.hand_on()?;

@@ -17,29 +17,29 @@ use Rattle.rb_session.proofs.Outlets.{gathers, stops_failed, stops_late, fails_t
 use Rattle.rb_session.proofs.Turns.{serves_none, reads_more, goes_on, quits, fails}
 use Rattle.rb_session.proofs.session.Session.serve.Given.{Over}
 use Rattle.rb_session.proofs.session.Session.serve.Goals as goal
-use Rattle.rb_session.proofs.session.Session.serve.Goals.{After-next_request, In_ok-reply, In-Some-2, Then-quits}
+use Rattle.rb_session.proofs.session.Session.serve.Goals.{After-next_request, In_ok-answer, In-Some-2, Then-quits}
 use Rattle.rb_session.proofs.session.Session.serve.Goals.{in-Ok-Quit, in_default-matches, in_default-matches-2}
 
 abbrev own : (g : Over) → After-next_request g → SessionRules g.D.Desk.State
 own g c = rules_at (desk_rules g.D.Desk c.args.policy.now) g.W.Write c.args.outlet.now
 
-abbrev after : (g : Over) → In_ok-reply g → Point g.D.Desk.State
+abbrev after : (g : Over) → In_ok-answer g → Point g.D.Desk.State
 after g c = point (g.D.Desk.state c.answer.new.desk) c.answer.new.held
 
 -- before the line waited, if it had to, the writer had got what answers those before it
-waits : (g : Over) (c : In_ok-reply g)
-    → GotBeforeWait (own g (goal.at.In_ok-reply g c).After-next_request) c.loop-reading.invariant.served.sent
+waits : (g : Over) (c : In_ok-answer g)
+    → GotBeforeWait (own g (goal.at.In_ok-answer g c).After-next_request) c.loop-reading.invariant.served.sent
     (point (g.D.Desk.state c.loop-reading.desk) c.loop-reading.self.held) c.in-Some.reading
-    (replies_of c.in_ok-reply.reply c.answer.new.held) (after g c)
-waits g c = of_case c.in_ok-reply.ensures.waits
+    (replies_of c.answer.new.reply c.answer.new.held) (after g c)
+waits g c = of_case c.in_ok-answer.ensures.waits
   where
     of_case : NeedsNoWait (desk_rules g.D.Desk c.args.policy.now)
         (point (g.D.Desk.state c.loop-reading.desk) c.loop-reading.self.held) c.in-Some.reading
-        (replies_of c.in_ok-reply.reply c.answer.new.held) (after g c)
+        (replies_of c.answer.new.reply c.answer.new.held) (after g c)
         ⊎ (WritesBeforeWaits c.loop-reading.outlet.delivery → c.answer.new.outlet.gathered.items ≡ [])
-        → GotBeforeWait (own g (goal.at.In_ok-reply g c).After-next_request) c.loop-reading.invariant.served.sent
+        → GotBeforeWait (own g (goal.at.In_ok-answer g c).After-next_request) c.loop-reading.invariant.served.sent
         (point (g.D.Desk.state c.loop-reading.desk) c.loop-reading.self.held) c.in-Some.reading
-        (replies_of c.in_ok-reply.reply c.answer.new.held) (after g c)
+        (replies_of c.answer.new.reply c.answer.new.held) (after g c)
     of_case (inl at_once) = inl at_once
     of_case (inr clear) =
         let s = c.loop-reading.invariant in
@@ -155,14 +155,14 @@ answer-requires g c =
     (point (g.D.Desk.state c.loop-reading.desk) c.loop-reading.self.held) first.turns c.requires.none first.serves
 
 -- what answers the lines so far could not be handed on before a wait
-pub returns-in_err-reply-clause-stops : goal.returns-in_err-reply-clause-stops
-returns-in_err-reply-clause-stops g c =
+pub returns-in_err-answer-clause-stops : goal.returns-in_err-answer-clause-stops
+returns-in_err-answer-clause-stops g c =
     let s = c.loop-reading.invariant.served in
     let late = subst (λ (d : Delivery). IsGathered d) c.loop-reading.invariant.becomes.delivery
-    c.in_err-reply.ensures.late in
-    let (missed, same) = c.in_err-reply.ensures.missed in
+    c.in_err-answer.ensures.late in
+    let (missed, same) = c.in_err-answer.ensures.missed in
     exchanges_same s _ c.answer.ensures.kept (Keeps-refl _)
-    (stops_failed _ _ _ _ _ c.from_residual-in_err-reply.result c.from_residual-in_err-reply.ensures.0
+    (stops_failed _ _ _ _ _ c.from_residual-in_err-answer.result c.from_residual-in_err-answer.ensures.0
     (inr (
       late,
       inr (inr (inr (
@@ -173,8 +173,8 @@ returns-in_err-reply-clause-stops g c =
       ))),
     )))
 
-pub returns-in_err-reply-clause-becomes : goal.returns-in_err-reply-clause-becomes
-returns-in_err-reply-clause-becomes g c =
+pub returns-in_err-answer-clause-becomes : goal.returns-in_err-answer-clause-becomes
+returns-in_err-answer-clause-becomes g c =
     becomes_on g.W.Write _ _ _ c.loop-reading.invariant.becomes c.answer.ensures.becomes
 
 -- a reply could not be sent
@@ -182,12 +182,12 @@ pub returns-in_err-send_replies-clause-stops : goal.returns-in_err-send_replies-
 returns-in_err-send_replies-clause-stops g c =
     let s = c.loop-reading.invariant.served in
     let line = c.in-Some.ensures.line s.holds.0.unserved s.holds.1 in
-    let on = (goal.at.returns-in_err-send_replies-clause-stops g c).In_ok-reply in
+    let on = (goal.at.returns-in_err-send_replies-clause-stops g c).In_ok-answer in
     let sent = c.in_err-send_replies.ensures.sent in
     exchanges_sent s _ c.answer.ensures.kept sent.0 _ sent.3
     (stops_failed _ _ _ _ _ c.from_residual-in_err-send_replies.result c.from_residual-in_err-send_replies.ensures.0
     (inl (fails _ s.holds.0 (after g on) line.0 line.1 c.in-Some.reading _ line.2 (line.3, line.4)
-    c.in_ok-reply.ensures.turn (waits g on) _ sent.0 sent.1 sent.2)))
+    c.in_ok-answer.ensures.turn (waits g on) _ sent.0 sent.1 sent.2)))
 
 pub returns-in_err-send_replies-clause-becomes : goal.returns-in_err-send_replies-clause-becomes
 returns-in_err-send_replies-clause-becomes g c =
@@ -199,12 +199,12 @@ pub loop-reading-preserved : goal.loop-reading-preserved
 loop-reading-preserved g c =
     let s = c.loop-reading.invariant.served in
     let line = c.in-Some.ensures.line s.holds.0.unserved s.holds.1 in
-    let on = (goal.at.loop-reading-preserved g c).In_ok-reply in
+    let on = (goal.at.loop-reading-preserved g c).In_ok-answer in
     record {
       served = exchanges_sent s _ c.answer.ensures.kept
-          (texts_of (replies_of c.in_ok-reply.reply c.answer.new.held)) _ c.in_ok-send_replies.ensures.sent
+          (texts_of (replies_of c.answer.new.reply c.answer.new.held)) _ c.in_ok-send_replies.ensures.sent
           (goes_on _ s.holds.0 (after g on) line.0 line.1 c.in-Some.reading _ line.2 (line.3, line.4)
-          c.in_ok-reply.ensures.turn (waits g on)
+          c.in_ok-answer.ensures.turn (waits g on)
           (λ quit. elim c.match-matches.branch [
             | in-Ok-Quit w ↦ let clash : true ≡ false = sym w.matches-is ∙ c.if-quits.false in absurd (cc)
             | in_default-matches w ↦ let arm = w.in_default-matches in search rules
@@ -214,7 +214,7 @@ loop-reading-preserved g c =
       counted = c.loop-reading.invariant.counted;
       still = c.loop-reading.invariant.still;
       same_reference = c.loop-reading.invariant.same_reference;
-      well = λ failed. c.loop-reading.invariant.well (c.in_ok-reply.ensures.told (c.in_ok-send_replies.ensures.told failed));
+      well = λ failed. c.loop-reading.invariant.well (c.in_ok-answer.ensures.told (c.in_ok-send_replies.ensures.told failed));
       becomes = becomes_on g.W.Write _ _ _
           (becomes_on g.W.Write _ _ _ c.loop-reading.invariant.becomes c.answer.ensures.becomes)
           c.send_replies.ensures.becomes;
@@ -226,15 +226,15 @@ ended : (g : Over) (c : Then-quits g) → Exchanges
     (sent_to g.W.Write c.args.outlet.now) (sent_to g.W.Write c.send_replies.new.outlet)
     (λ came sent. ServesToQuit (own g (goal.at.Then-quits g c).After-next_request)
     (point (g.D.Desk.state c.args.desk.now) c.args.self.now.held) came sent
-    (after g (goal.at.Then-quits g c).In_ok-reply))
+    (after g (goal.at.Then-quits g c).In_ok-answer))
 ended g c =
     let s = c.loop-reading.invariant.served in
     let line = c.in-Some.ensures.line s.holds.0.unserved s.holds.1 in
-    let on = (goal.at.Then-quits g c).In_ok-reply in
+    let on = (goal.at.Then-quits g c).In_ok-answer in
     exchanges_sent s _ c.answer.ensures.kept
-    (texts_of (replies_of c.in_ok-reply.reply c.answer.new.held)) _ c.in_ok-send_replies.ensures.sent
+    (texts_of (replies_of c.answer.new.reply c.answer.new.held)) _ c.in_ok-send_replies.ensures.sent
     (quits _ s.holds.0 (after g on) line.0 line.1 c.in-Some.reading _ line.2 (line.3, line.4)
-    c.in_ok-reply.ensures.turn (waits g on) line.6 (elim c.match-matches.branch [
+    c.in_ok-answer.ensures.turn (waits g on) line.6 (elim c.match-matches.branch [
       | in-Ok-Quit w ↦ let arm = w.in-Ok-Quit in search rules
       | in_default-matches w ↦ let clash : true ≡ false = sym c.if-quits.true ∙ w.matches-is in absurd (cc)
       | in_default-matches-2 w ↦ let clash : true ≡ false = sym c.if-quits.true ∙ w.matches-is in absurd (cc)
@@ -247,7 +247,7 @@ returns-then-quits-clause-stops g c =
 
 pub returns-then-quits-clause-told : goal.returns-then-quits-clause-told
 returns-then-quits-clause-told g c =
-    λ failed. c.loop-reading.invariant.well (c.in_ok-reply.ensures.told (c.in_ok-send_replies.ensures.told
+    λ failed. c.loop-reading.invariant.well (c.in_ok-answer.ensures.told (c.in_ok-send_replies.ensures.told
     (c.in_ok-hand_on-2.ensures.told failed)))
 
 pub returns-then-quits-clause-becomes : goal.returns-then-quits-clause-becomes
