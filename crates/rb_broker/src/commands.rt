@@ -5,18 +5,15 @@ use crate::listener::{address_of, handed_listener};
 use crate::run_clock::RunClock;
 use rb_blocking::MachineClock;
 use rb_ending::BrokerFault;
-use rb_history::HistoryRoom;
 use rb_options::{ReplayOptions, ScriptOptions, ServeOptions};
 use rb_protocol::{LimitedReader, LimitedWriter, WriterStatus};
 use rb_queue::Opening;
-use rb_runs::{ReadyScript, opening_in, over_timer, run_replay};
+use rb_runs::{ReadyScript, opening_in, over_timer, print_replay};
 use rb_serving::{
-    CountedListener, Ending, Recorder, ServeClock, ServedQueue, TcpDoor, TcpManners,
-    print_listening, serve_run,
+    CountedListener, Ending, Recorder, TcpDoor, TcpManners, print_listening, run_server,
 };
 use rb_session::{Delivery, Ended, HandsOn};
 use rb_timer::Timer;
-use std::io::Write;
 use std::net::TcpListener;
 use std::sync::Wait;
 use std::thread::Threads;
@@ -63,12 +60,7 @@ fn script_over<T: Timer>(
 
 /// Checks the history in a file, prints the line about it, and returns the exit status.
 pub fn replay(rt: &HostRuntime, options: &ReplayOptions, file: &str) -> Result<u8, BrokerFault> {
-    let (line, status) = run_replay(rt.alloc(), options, &text_of(rt, file)?)?;
-    let mut output = rt.stdout();
-    match output.write_all(line.as_bytes()) {
-        Ok(()) => Ok(status),
-        Err(_) => Err(BrokerFault::Write),
-    }
+    print_replay(rt.alloc(), options, &text_of(rt, file)?, &mut rt.stdout())
 }
 
 /// Serves clients at a port of 127.0.0.1, each of whom is greeted by this line, until its sessions are used up or it was
@@ -130,19 +122,14 @@ fn serve_over<T: Timer + Send, R: Threads + Wait + time::Clock + Sync>(
     opening: Opening,
     history: HistoryFile,
 ) -> Result<(), BrokerFault> {
-    let (alloc, run) = (rt.alloc(), &options.run);
-    let text = HistoryRoom::new(alloc)?;
-    let clock = ServeClock::new(opening.last_at, RunClock::new(handle, options.since));
-    let queue = ServedQueue::<T>::open(alloc, run, opening)?;
-    let (_, _, ended) = serve_run(
+    let (_, _, ended) = run_server::<T, _, _, _, _, _>(
         handle,
-        alloc,
+        rt.alloc(),
         door.entrance(),
-        &clock,
-        run,
-        queue,
+        RunClock::new(handle, options.since),
+        &options.run,
+        opening,
         history,
-        text,
         &mut rt.stdout(),
     );
     ended

@@ -1,11 +1,13 @@
 -- The verdict on the text of a history, and how it is told.
 use Rattle.std.specs.Prelude.{◌≡◌, ℕ, List, ◌++◌, Option, IfSome, IsSomeAnd, Result, Ok, Err, codes, decimal}
+use Rattle.std.specs.Io.KnownBytes.{Appends, Keeps}
 use Rattle.rb_queue.specs.History.{IsLegal}
 use Rattle.rb_queue.specs.declared.event.Event.{Event}
 use Rattle.rb_queue.specs.declared.opening.Opening.{Opening}
 use Rattle.rb_retry.specs.declared.policy.Policy.{Policy}
 use Rattle.rb_replay.specs.Checking.{Checks}
 use Rattle.rb_replay.specs.Chaining.{Chains}
+use Rattle.rb_history.specs.Ranges.{IsRightOpening, AreRightEvents}
 use Rattle.rb_history.specs.Readings.{IsTextOf}
 use Rattle.rb_history.specs.TextReasonText.{text_reason_text}
 use Rattle.rb_replay.specs.ReasonText.{reason_text}
@@ -16,6 +18,8 @@ use Rattle.rb_replay.specs.declared.chain_fault.ChainFault.TheVariants as chain
 use Rattle.rb_replay.specs.declared.chain_reason.ChainReason.{ChainReason}
 use Rattle.rb_replay.specs.declared.replay_fault.ReplayFault.TheVariants as check
 use Rattle.rb_ending.specs.AuditText.{audit_text}
+use Rattle.rb_ending.specs.declared.broker_fault.BrokerFault.{BrokerFault}
+use Rattle.rb_ending.specs.declared.broker_fault.BrokerFault.TheVariants.{Memory, Write}
 use Rattle.rb_runs.specs.declared.text_verdict.TextVerdict.{TextVerdict}
 use Rattle.rb_runs.specs.declared.text_verdict.TextVerdict.TheVariants.{Unreadable, Refused, Unchained, Accepted}
 
@@ -45,12 +49,12 @@ IsVerdictOn checked opening events (Unchained index reason) =
 IsVerdictOn checked opening events (Accepted audit) =
     Checks opening events (Ok audit) × AreRetries checked opening events
 
--- a text is unreadable for its first fault, and otherwise is a history's, with the verdict on that
+-- a text is unreadable for its first fault, and otherwise is a history's whose values are in range, with the verdict on that
 abbrev pub IsVerdictOf : Option Policy → List ℕ → TextVerdict → Type 0
 IsVerdictOf checked text (Unreadable line reason) = HasFault text line reason
 IsVerdictOf checked text verdict =
-    (opening : Opening) × (events : List Event) × IsTextOf opening events text
-    × IsVerdictOn checked opening events verdict
+    (opening : Opening) × (events : List Event) × IsRightOpening opening × AreRightEvents events
+    × IsTextOf opening events text × IsVerdictOn checked opening events verdict
 
 -- a word, where the fault is, and why
 abbrev pub fault_text : List ℕ → ℕ → List ℕ → List ℕ
@@ -72,3 +76,13 @@ status_of_verdict _ = 1
 pub record Tells (verdict : TextVerdict) (line : List ℕ) (status : ℕ) : Type 0 where
   pub line_is : line ≡ verdict_text verdict
   pub status_is : status ≡ status_of_verdict verdict
+
+-- The line of the verdict was printed, with this status; or nothing, if memory was refused; or a first part of it.
+abbrev pub PrintsVerdict : (TextVerdict → Type 0) → Result ℕ BrokerFault → Option (List ℕ) → Option (List ℕ) → Type 0
+PrintsVerdict Holds (Ok status) got got' =
+    (verdict : TextVerdict) × Holds verdict × ((line : List ℕ) × Tells verdict line status × Appends got got' line)
+PrintsVerdict Holds (Err Memory) got got' = Keeps got got'
+PrintsVerdict Holds (Err fault) got got' =
+    (fault ≡ Write) × ((verdict : TextVerdict) × Holds verdict
+    × ((line : List ℕ) × (status : ℕ) × Tells verdict line status
+    × ((sent : List ℕ) × (unsent : List ℕ) × (line ≡ sent ++ unsent) × Appends got got' sent)))

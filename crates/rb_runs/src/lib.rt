@@ -19,6 +19,6 @@ pub use opening::opening_in;
 pub use reading::{read_all, read_all_limited};
 pub use ready_script::ReadyScript;
 pub use recording::Recording;
-pub use replay::run_replay;
+pub use replay::{print_replay, run_replay};
 pub use script::{run_script, run_script_delivered};
 pub use script_report::ScriptReport;

@@ -50,6 +50,8 @@ impl<T: Timer> ReadyScript<T> {
         ensures policy { IfOk result (λ ready. ready.policy ≡ options.now.policy) }
         ensures delivery { IfOk result (λ ready. ready.session.delivery ≡ delivery) }
     {
+        let text = HistoryRoom::new(alloc)?;
+        let session = SessionRoom::new(alloc, delivery)?;
         // The number of calls is in range, so only memory can be missing.
         let Ok((kept, tally)) = Kept::<T>::new_from(alloc, options.calls, opening) else {
             return Err(AllocError);
@@ -58,8 +60,8 @@ impl<T: Timer> ReadyScript<T> {
             kept,
             tally,
             policy: options.policy,
-            session: SessionRoom::new(alloc, delivery)?,
-            text: HistoryRoom::new(alloc)?,
+            session,
+            text,
         })
     }
 

@@ -3,14 +3,17 @@ ghost use Rattle.rb_queue.specs.declared.event.Event.{Event};
 ghost use Rattle.rb_queue.specs.declared.opening.Opening.{Opening};
 ghost use Rattle.rb_history.specs.Ranges.{IsRightOpening, AreRightEvents};
 ghost use Rattle.rb_history.specs.Readings.{IsTextOf};
-ghost use Rattle.rb_runs.specs.TextVerdict.{IsVerdictOf, IsVerdictOn, Tells};
+ghost use Rattle.rb_protocol.specs.Sending.{Sends};
+ghost use Rattle.rb_runs.specs.TextVerdict.{IsVerdictOf, IsVerdictOn, PrintsVerdict, Tells};
 ghost use Rattle.rb_runs.specs.declared.text_verdict.TextVerdict.{TextVerdict};
 
 use crate::text_verdict::TextVerdict;
 use rb_ending::BrokerFault;
 use rb_options::ReplayOptions;
+use rb_protocol::{LimitedWriter, WriteFault, WriterStatus, send_at_once};
 use rb_replay::{ChainFault, History, ReplayFault, TextFault, chains, check, read_history};
 use std::alloc::Global;
+use std::io::Write;
 
 /// The line that `replay` prints about a text, and the exit status: 0 with the audit of a history
 /// that is legal and, if they are checked, whose retries are right; 1 with the first fault of any
@@ -31,6 +34,33 @@ pub fn run_replay(
 {
     let verdict = verdict_of(alloc, options, text)?;
     Ok((verdict.line(alloc)?, verdict.status()))
+}
+
+/// Prints the line of `run_replay`, and returns its exit status. The faults are `Memory` and `Write`.
+pub fn print_replay<W: Write>(
+    alloc: Global,
+    options: &ReplayOptions,
+    text: &[u8],
+    output: &mut W,
+) -> Result<u8, BrokerFault>
+    ensures line { PrintsVerdict (IsVerdictOf options.now.chains text.now) result (W.contents output.old) (W.contents output.new) }
+    ensures each { (opening : Opening) (events : List Event) → IsRightOpening opening → AreRightEvents events
+        → IsTextOf opening events text.now → PrintsVerdict (IsVerdictOn options.now.chains opening events) result
+        (W.contents output.old) (W.contents output.new) }
+{
+    let (line, status) = run_replay(alloc, options, text)?;
+    match print(output, line.as_bytes()) {
+        Ok(()) => Ok(status),
+        Err(WriteFault) => Err(BrokerFault::Write),
+    }
+}
+
+// Writes a line and flushes.
+fn print<W: Write>(output: &mut W, line: &[u8]) -> Result<(), WriteFault>
+    ensures { Sends result (W.contents output.old) line.now (W.contents output.new) }
+{
+    let mut status = WriterStatus::of(&*output);
+    send_at_once(&mut LimitedWriter::new(output, &mut status), line)
 }
 
 // The verdict on the text.

@@ -144,3 +144,11 @@ pub record FailsRun {D I O G B : Type 0} (has_joined : D → ℕ → List (DoorS
   pub reason : EndsRecorded has_failed old new fault
   pub silent : got' ≡ got
   pub outcome : ended ≡ Err fault
+
+-- there was no memory for a run, and nothing happened
+pub record LacksMemory {D B : Type 0} (old_door new_door : D) (old new : B) (got got' : Option (List ℕ))
+    (ended : Result (Unit {0}) BrokerFault) : Type 0 where
+  pub door : new_door ≡ old_door
+  pub recorder : new ≡ old
+  pub silent : got' ≡ got
+  pub outcome : ended ≡ Err Broker.Memory

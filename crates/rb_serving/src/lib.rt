@@ -43,7 +43,7 @@ pub use serve_end::{ServerEnd, end_server};
 pub use serve_report::ServeReport;
 pub use serve_text::print_listening;
 pub use served_queue::ServedQueue;
-pub use served_run::serve_run;
+pub use served_run::{run_server, serve_run};
 pub use server::{serve_door, serve_door_gathered};
 pub use tcp_door::{NoMore, TcpDoor, TcpVisit};
 pub use tcp_entrance::TcpEntrance;

@@ -7,7 +7,7 @@ use Rattle.rb_runs.proofs.replay.verdict_of.Goals as goal
 
 pub returns-in-Ok-clause-verdict : goal.returns-in-Ok-clause-verdict
 returns-in-Ok-clause-verdict c = IfOk-weaker c.judged.result _ _
-    (λ verdict on. verdict_of_text c.args.options.now.chains c.in-Ok.ensures.reads verdict on) c.judged.ensures.verdict
+    (λ verdict on. verdict_of_text c.args.options.now.chains c.in-Ok.ensures.right.0 c.in-Ok.ensures.right.1 c.in-Ok.ensures.reads verdict on) c.judged.ensures.verdict
 
 pub returns-in-Ok-clause-each : goal.returns-in-Ok-clause-each
 returns-in-Ok-clause-each c opening events right rights is =
