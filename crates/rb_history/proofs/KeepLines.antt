@@ -13,7 +13,9 @@ use Rattle.rb_history.specs.BodyReading.{KeepsNext, KeepsNone, KeepsAll, StopsKe
 use Rattle.rb_history.specs.EventText.{whole_element_words, keep_words}
 use Rattle.rb_history.specs.HistoryText.{line_text, lines_text}
 use Rattle.rb_history.specs.Ranges.{IsRightElement, AreRightElements}
-use Rattle.rb_history.specs.declared.text_fault.TextReason.TheVariants.{Opening}
+use Rattle.rb_history.specs.TextFaults.{HasOtherKeep}
+use Rattle.rb_history.specs.declared.text_fault.TextReason.{TextReason}
+use Rattle.rb_history.specs.declared.text_fault.TextReason.TheVariants.{Opening, End}
 use Rattle.rb_history.specs.declared.version.Version.{Version}
 use Rattle.rb_history.proofs.EventLines.{line_is}
 use Rattle.rb_history.proofs.Lines.{lines_text-append}
@@ -97,11 +99,12 @@ kept_all version end count text kept rest least place so_far all = record {
   counted = so_far.counted ∙ all;
 }
 
--- a line keeps no element that may come next
-pub keeping_stops : (version : Version) (end count : ℕ) (text : List ℕ) (kept : List Element) (rest : List ℕ) (least place : ℕ) (line behind : List ℕ)
-    → KeptSoFar version end text kept rest least place → place < count → rest ≡ line ++ (LINE_FEED ∷ behind) → HasNoLineFeed line
-    → KeepsNone version least end (words_of line) → StopsKeeping version end count text (3 + place) Opening
-keeping_stops version end count text kept rest least place line behind so_far fewer cut whole none = record {
+-- fewer lines than announced keep an element, for this reason
+stops : (version : Version) (end count : ℕ) (text : List ℕ) (kept : List Element) (rest : List ℕ) (least place : ℕ)
+    → KeptSoFar version end text kept rest least place → place < count → (reason : TextReason)
+    → ((reason ≡ End) × HasNoLineFeed rest) ⊎ ((reason ≡ Opening) × HasOtherKeep version end kept rest)
+    → StopsKeeping version end count text (3 + place) reason
+stops version end count text kept rest least place so_far fewer reason fault = record {
   kept = kept;
   rest = rest;
   split = so_far.split;
@@ -109,8 +112,23 @@ keeping_stops version end count text kept rest least place line behind so_far fe
   right = so_far.right;
   fewer = omega (arith, so_far.counted, fewer);
   place = ap (λ n. 3 + n) (sym so_far.counted);
-  fault = inr (refl, record { line = line; behind = behind; split = cut; whole = whole; no_keep = no_keep });
+  fault = fault;
 }
+
+-- no line is left
+pub keeping_ends : (version : Version) (end count : ℕ) (text : List ℕ) (kept : List Element) (rest : List ℕ) (least place : ℕ)
+    → KeptSoFar version end text kept rest least place → place < count → HasNoLineFeed rest
+    → StopsKeeping version end count text (3 + place) End
+keeping_ends version end count text kept rest least place so_far fewer whole =
+    stops version end count text kept rest least place so_far fewer End (inl (refl, whole))
+
+-- a line keeps no element that may come next
+pub keeping_stops : (version : Version) (end count : ℕ) (text : List ℕ) (kept : List Element) (rest : List ℕ) (least place : ℕ) (line behind : List ℕ)
+    → KeptSoFar version end text kept rest least place → place < count → rest ≡ line ++ (LINE_FEED ∷ behind) → HasNoLineFeed line
+    → KeepsNone version least end (words_of line) → StopsKeeping version end count text (3 + place) Opening
+keeping_stops version end count text kept rest least place line behind so_far fewer cut whole none =
+    stops version end count text kept rest least place so_far fewer Opening
+    (inr (refl, record { line = line; behind = behind; split = cut; whole = whole; no_keep = no_keep }))
   where
     off : (element : Element) → AreInOrder (kept ++ element ∷ []) end → (element.id < least) ⊎ (end ≤ element.id) → ⊥
     off element order wrong =

@@ -9,6 +9,11 @@ use Rattle.rb_history.specs.EventText.{given_words, first_words}
 use Rattle.rb_history.specs.declared.version.Version.{Version}
 use Rattle.rb_history.specs.declared.version.Version.TheVariants.{One, Two, Three}
 
+-- behind the first word stand the same words
+pub behind_word : (words behind others : List (List ℕ)) (word other : List ℕ) → words ≡ word ∷ behind
+    → words ≡ other ∷ others → behind ≡ others
+behind_word words behind others word other one is = cc
+
 -- words with others behind the first are not one word
 pub not_alone : (words : List (List ℕ)) (word other : List ℕ) (rest : Option (Bor (List ℕ))) → is_some rest ≡ true
     → words ≡ word ∷ words_behind rest → words ≡ other ∷ [] → ⊥

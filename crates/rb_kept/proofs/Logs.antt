@@ -10,6 +10,8 @@ use Rattle.rb_ledger.specs.declared.totals.Totals.{Totals}
 use Rattle.rb_ledger.specs.declared.totals.TheConstants.{GREATEST_COUNT}
 use Rattle.rb_queue.specs.declared.event.Event.{Event}
 use Rattle.rb_queue.specs.declared.reply.Reply.{Reply}
+use Rattle.rb_queue.specs.Bag.{NoneExpired}
+use Rattle.rb_queue.specs.Head.{IsNextExpiry}
 use Rattle.rb_queue.specs.Queue.{Queue}
 use Rattle.rb_queue.specs.Effect.{effect_of, queue_after, inserted, given}
 use Rattle.rb_queue.specs.Calls.{Acts, Permits}
@@ -23,7 +25,7 @@ use Rattle.rb_queue.proofs.OfferedElements.{reply_of_last}
 use Rattle.rb_kept.specs.Log.{Log, state_at, HasRoom, with_event, with_events}
 use Rattle.rb_kept.specs.KeptInvariant.{IsKept}
 use Rattle.rb_kept.specs.Shares.{totals_of, amount_of, share_with, Grows}
-use Rattle.rb_kept.specs.Tries.{IsActOf, Records, StepsTo, StepsAlong}
+use Rattle.rb_kept.specs.Tries.{IsActOf, WaitsPast, Records, Waits, StepsTo, StepsAlong}
 use Rattle.rb_kept.specs.declared.tries.Try.{Try}
 use Rattle.rb_kept.specs.declared.outcome.Outcome.{Outcome}
 use Rattle.rb_kept.specs.declared.outcome.Outcome.TheVariants.{Done, Later}
@@ -46,14 +48,34 @@ pub record IsNext (queue new : Queue) (log : Log) (event : Event) : Type 0 where
   pub acts : Acts queue event.at event.act new
   pub room : HasRoom log
 
+-- a log that is not full has room
+pub has_room : (log : Log) (len : ℕ) → (len ≡ log.capacity → ⊥) → len ≡ length log.history
+    → length log.history ≤ log.capacity → HasRoom log
+has_room log len free counted few =
+    let off : length log.history ≢ log.capacity = λ full. free (counted ∙ full) in omega (arith, off, few)
+
 -- what a call knows when it is about to append its event
 pub is_next : (queue new : Queue) (log : Log) (event : Event) (last len : ℕ) (shown : List Event) → event.at ≡ max event.asked last → last ≡ (state_of log.opening shown).moment → shown ≡ log.history
     → (len ≡ log.capacity → ⊥) → len ≡ length log.history → length log.history ≤ log.capacity → Acts queue event.at event.act new → IsNext queue new log event
 is_next queue new log event last len shown at found same free counted few acts = record {
   at = at ∙ ap (max event.asked) (found ∙ ap (λ (h : List Event). (state_of log.opening h).moment) same);
   acts = acts;
-  room = let off : length log.history ≢ log.capacity = λ full. free (counted ∙ full) in omega (arith, off, few);
+  room = has_room log len free counted few;
 }
+
+-- what a call knows when it would wait
+pub would_wait : (queue : Queue) (log : Log) (try : Try) (now last : ℕ) (shown : List Event) (next : Option ℕ)
+    → now ≡ max try.asked last → last ≡ (state_of log.opening shown).moment → shown ≡ log.history → (state_at log).queue ≡ queue
+    → WaitsPast try.ask now → NoneExpired queue.bag now → IsNextExpiry queue.bag next → Waits log try next
+would_wait queue log try now last shown next at found same leads waits none is_next =
+    let moment : now ≡ max try.asked (state_at log).moment =
+    at ∙ ap (max try.asked) (found ∙ ap (λ (h : List Event). (state_of log.opening h).moment) same) in
+    record {
+      waits = subst (λ (m : ℕ). WaitsPast try.ask m) moment waits;
+      none = subst (λ (q : Queue). NoneExpired q.bag (max try.asked (state_at log).moment)) (sym leads)
+          (subst (λ (m : ℕ). NoneExpired queue.bag m) moment none);
+      next = subst (λ (q : Queue). IsNextExpiry q.bag next) (sym leads) is_next;
+    }
 
 module _ (queue new : Queue) (log : Log) (event : Event) (space : ℕ) (books : Totals) (sums : Sums) (kept : IsKept queue log space books sums)
     (next : IsNext queue new log event) where

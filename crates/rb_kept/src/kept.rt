@@ -71,7 +71,10 @@ impl<T: Timer> Kept<T> {
         ensures tally { IfOk result (λ made. made.1 ≡ nothing) }
         ensures bad_capacity { IsErrOf result NewFault.BadCapacity ↔ (¬ ((1 ≤ capacity) × (capacity ≤ MOST_CALLS))) }
     {
-        Kept::new_from(alloc, capacity, Opening::empty(alloc)).map_err(|refused| refused.1)
+        match Kept::new_from(alloc, capacity, Opening::empty(alloc)) {
+            Ok(made) => Ok(made),
+            Err((_, fault)) => Err(fault),
+        }
     }
 
     /// The queue of an opening, with room for `capacity` calls, 1 to 1,000,000, and the first share of

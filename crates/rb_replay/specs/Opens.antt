@@ -28,3 +28,10 @@ Opens from events (Err Memory) = Unit {0}
 abbrev pub opening_fault : ReplayFault → OpeningFault
 opening_fault (replays.At index reason) = At index reason
 opening_fault replays.Memory = Memory
+
+-- a run of the opening begins in this state, or that is too large
+abbrev pub OpensAt : State → Result Opening OpeningFault → Type 0
+OpensAt state (Ok opening) = start_of opening ≡ state
+OpensAt state (Err (At index reason)) = ⊥
+OpensAt state (Err TooLarge) = IsTooLarge state
+OpensAt state (Err Memory) = Unit {0}

@@ -93,7 +93,6 @@ impl<'a, T: Timer> Desk for KeptDesk<'a, T> {
         Some(self.moment)
     }
 
-    #[tactic(auto, using(crate::proofs::MadeCounts::made_few))]
     fn call(&mut self, asked: u64, ask: Ask) -> Result<Reply, DeskFault> {
         let asked = asked_at(self.moment, &ask, asked);
         answer_of(self.kept.act(self.tally, SEAT, asked, ask))
@@ -103,7 +102,6 @@ impl<'a, T: Timer> Desk for KeptDesk<'a, T> {
         Some(self.call(asked, ask))
     }
 
-    #[tactic(auto, using(crate::proofs::MadeCounts::made_few))]
     fn offer(&mut self, asked: u64, draft: Draft) -> Result<Element, CallFault> {
         let outcome = self.kept.act(self.tally, SEAT, asked, Ask::Offer(draft))?;
         let Outcome::Done(reply) = outcome else {

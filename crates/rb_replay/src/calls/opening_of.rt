@@ -1,8 +1,9 @@
 ghost use Rattle.std.specs.Prelude.{◌≡◌};
-ghost use Rattle.rb_replay.specs.Opens.{Opens, opening_fault};
+ghost use Rattle.rb_replay.specs.Opens.{Opens, OpensAt, opening_fault};
+ghost use Rattle.rb_replay.specs.Replaying.{end_state};
 
 use crate::opening_fault::OpeningFault;
-use crate::replay::replay;
+use crate::replay::{End, replay};
 use crate::replay_fault::ReplayFault;
 use rb_history::History;
 use rb_queue::Opening;
@@ -16,10 +17,16 @@ use std::alloc::Global;
 pub fn opening_of(alloc: Global, history: &History) -> Result<Opening, OpeningFault>
     ensures { Opens history.now.opening history.now.events result }
 {
-    let end = match replay(alloc, history.opening(), history.events()) {
-        Ok(end) => end,
-        Err(fault) => return Err(opening_fault(fault)),
-    };
+    match replay(alloc, history.opening(), history.events()) {
+        Ok(end) => opening_at(&end),
+        Err(fault) => Err(opening_fault(fault)),
+    }
+}
+
+// The opening of a run that begins at this end of a replay.
+fn opening_at(end: &End) -> Result<Opening, OpeningFault>
+    ensures { OpensAt (end_state end.now) result }
+{
     let Ok(elements) = end.queue.elements() else {
         return Err(OpeningFault::Memory);
     };

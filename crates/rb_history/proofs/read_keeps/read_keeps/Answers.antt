@@ -1,7 +1,13 @@
 -- One line more keeps one element more, and the first that keeps none is the opening's fault.
 use Rattle.std.proofs.Common.{arith}
-use Rattle.rb_history.proofs.KeepLines.{kept_more, kept_all, keeping_stops}
+use Rattle.rb_history.proofs.KeepLines.{kept_more, kept_all, keeping_ends, keeping_stops}
 use Rattle.rb_history.proofs.read_keeps.read_keeps.Goals as goal
+
+pub returns-in_default-clause-err : goal.returns-in_default-clause-err
+returns-in_default-clause-err c =
+    rw c.at.ensures
+    (keeping_ends c.args.version c.args.told.next_id c.args.told.count c.args.text.now c.loop-place.kept.items c.loop-place.rest.now c.loop-place.least c.loop-place.place
+    c.loop-place.invariant c.loop-place-test.true c.in_default.ensures.none)
 
 pub returns-in_default-next_keep-clause-err : goal.returns-in_default-next_keep-clause-err
 returns-in_default-next_keep-clause-err c =

@@ -19,6 +19,11 @@ pairs-init c = record {
 pub next-requires : goal.next-requires
 next-requires c = ∥∥₁_elim c.pairs.invariant.row (hlevel props) (λ from. row_within _ _ _ from.row)
 
+pub next-requires-in-pairs : goal.next-requires-in-pairs
+next-requires-in-pairs c = ∥∥₁_elim c.pairs.invariant.row (hlevel props)
+    (λ from. row_within _ _ _
+    (row_stays _ _ _ _ _ (sym c.next.ensures ∙ c.in-Some.is) c.join-last.ensures c.args.parent 0 from.row))
+
 pub returns-in_default-clause-row : goal.returns-in_default-clause-row
 returns-in_default-clause-row c = ∥∥₁_map c.pairs.invariant.row (λ from. from.row)
 
