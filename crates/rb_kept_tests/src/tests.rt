@@ -15,5 +15,6 @@ mod plain_timer_agreement;
 mod queue_refusals;
 mod refused_room;
 mod refusing_timer;
+mod replay;
 mod timer_refusals;
 mod totals;

@@ -1,10 +1,10 @@
-use super::fixtures::{element, expect, expect_moment, expect_number};
+use super::fixtures::{element, expect, expect_moment, expect_number, expect_same};
 use rb_delayed::{Delayed, Element, GREATEST_MOMENT, add_capped, add_delay, is_expired};
 use std::cmp::Ordering;
 use std::process::Abort;
 
 fn expect_delay(rt: &impl Abort, element: &Element, now: u64, wanted: i128) {
-    assert_eq!(rt; element.delay(now), wanted);
+    expect_same(rt, element.delay(now), wanted);
 }
 
 fn expect_expired(rt: &impl Abort, element: &Element, now: u64, wanted: bool) {
@@ -31,7 +31,7 @@ fn a_delay_is_counted_from_a_moment(rt: HostRuntime) {
 }
 
 fn expect_order(rt: &impl Abort, one: &Element, other: &Element, wanted: Ordering) {
-    assert_eq!(rt; one.delay_order(other), wanted);
+    expect_same(rt, one.delay_order(other), wanted);
 }
 
 #[test]

@@ -4,6 +4,7 @@
 use rb_delayed::{Element, Payload};
 use rb_kept::{NewFault, Outcome, Step};
 use rb_queue::{Ask, Draft, Opening, Reply};
+use std::fmt::Debug;
 use std::process::Abort;
 
 pub fn payload(rt: &impl Abort, bytes: &[u8]) -> Payload {
@@ -47,28 +48,39 @@ pub fn later(next: Option<u64>) -> Step {
     Ok(Outcome::Later(next))
 }
 
+/// Returns what was made. Asserts that it was.
+pub fn expect_made<T, E: Drop>(rt: &impl Abort, made: Result<T, E>) -> T {
+    made.ok().expect(rt, "what is made")
+}
+
 pub fn expect(rt: &impl Abort, holds: bool, what: &str) {
     assert!(rt; holds, "{what}");
 }
 
+/// Asserts that two values are equal. Each comparison is made here, since each function that asserts
+/// it by itself costs its proof.
+pub fn expect_same<V: PartialEq + Debug + Drop>(rt: &impl Abort, found: V, wanted: V) {
+    assert_eq!(rt; found, wanted);
+}
+
 pub fn expect_number(rt: &impl Abort, number: u64, wanted: u64) {
-    assert_eq!(rt; number, wanted);
+    expect_same(rt, number, wanted);
 }
 
 pub fn expect_moment(rt: &impl Abort, moment: Option<u64>, wanted: Option<u64>) {
-    assert_eq!(rt; moment, wanted);
+    expect_same(rt, moment, wanted);
 }
 
 pub fn expect_text(rt: &impl Abort, text: &str, wanted: &str) {
-    assert_eq!(rt; text, wanted);
+    expect_same(rt, text, wanted);
 }
 
 pub fn expect_element(rt: &impl Abort, element: &Element, wanted: &Element) {
-    assert_eq!(rt; *element, *wanted);
+    expect_same(rt, element, wanted);
 }
 
 pub fn expect_found(rt: &impl Abort, found: Option<Element>, wanted: Option<Element>) {
-    assert_eq!(rt; found, wanted);
+    expect_same(rt, found, wanted);
 }
 
 pub fn expect_step(rt: &impl Abort, step: &Step, wanted: &Step, asked: u64) {
@@ -76,7 +88,7 @@ pub fn expect_step(rt: &impl Abort, step: &Step, wanted: &Step, asked: u64) {
 }
 
 pub fn expect_opening(rt: &impl Abort, opening: &Opening, wanted: &Opening) {
-    assert_eq!(rt; *opening, *wanted);
+    expect_same(rt, opening, wanted);
 }
 
 /// Asserts what was handed back: an opening with its fault, or nothing.
@@ -85,5 +97,5 @@ pub fn expect_handed_back(
     refused: &Option<(Opening, NewFault)>,
     wanted: &Option<(Opening, NewFault)>,
 ) {
-    assert_eq!(rt; *refused, *wanted);
+    expect_same(rt, refused, wanted);
 }

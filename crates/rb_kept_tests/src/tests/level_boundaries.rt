@@ -1,11 +1,12 @@
 // Entries that expire where levels of the wheel begin, each put in while the wheel's base stands at
 // such a moment.
 
+use super::fixtures::expect_made;
 use rb_timer::TimerAnswer::{Entry, Inserted, Removed};
 use rb_timer::TimerCommand::{Due, Insert, Least, Remove};
 use rb_timer::{Timer, run_timer};
 use rb_wheel::WheelTimer;
-use std::alloc::{AllocError, Global};
+use std::alloc::Global;
 use std::process::Abort;
 
 // 0, the greatest moment, and 64^k - 1, 64^k and 64^k + 1 for each k from 1 to 10: where a level
@@ -48,9 +49,9 @@ static BOUNDARIES: [u64; 32] = [
 // Returns whether an entry that expires at `moment` is found due then, and not one nanosecond
 // before, by a wheel whose base is `from` when the entry is put in. The base got there when an entry
 // that expires at 0 left one that expires at `from` behind.
-fn finds_due(alloc: Global, from: u64, moment: u64) -> Result<bool, AllocError> {
+fn finds_due(rt: &impl Abort, alloc: Global, from: u64, moment: u64) -> bool {
     let mut timer = WheelTimer::new(alloc);
-    timer.reserve(3)?;
+    expect_made(rt, timer.reserve(3));
     let found = Entry(Some((0, moment)));
     let commands = [
         Insert(1, 0),
@@ -77,16 +78,12 @@ fn finds_due(alloc: Global, from: u64, moment: u64) -> Result<bool, AllocError> 
         Removed(moment),
         Entry(None),
     ];
-    let answers = run_timer(alloc, &mut timer, &commands)?;
-    Ok(answers.as_slice() == expected.as_slice())
+    let answers = expect_made(rt, run_timer(alloc, &mut timer, &commands));
+    answers.as_slice() == expected.as_slice()
 }
 
 fn expect_due(rt: &impl Abort, alloc: Global, from: u64, moment: u64) {
-    assert_eq!(rt;
-        finds_due(alloc, from, moment),
-        Ok(true),
-        "{moment} from {from}"
-    );
+    assert!(rt; finds_due(rt, alloc, from, moment), "{moment} from {from}");
 }
 
 fn expect_each_due(rt: &impl Abort, alloc: Global, from: u64) {

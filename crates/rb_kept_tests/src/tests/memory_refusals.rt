@@ -1,6 +1,6 @@
 use super::fixtures::{
-    done, element, expect, expect_element, expect_number, expect_opening, expect_step, later,
-    offer, offered,
+    done, element, expect, expect_element, expect_made, expect_number, expect_opening, expect_same,
+    expect_step, later, offer, offered,
 };
 use super::queue_refusals::queue_refusals;
 use super::timer_refusals::timer_refusals;
@@ -48,7 +48,7 @@ fn snapshot<T: Timer>(caller: &Caller<T>) -> Snapshot {
 }
 
 fn expect_snapshot(rt: &impl Abort, found: Snapshot, wanted: Snapshot) {
-    assert_eq!(rt; found, wanted);
+    expect_same(rt, found, wanted);
 }
 
 // Asserts that a refused call has left the numbers of `before`, the opening and each event, and
@@ -59,24 +59,24 @@ fn expect_unchanged<T: Timer>(rt: &impl Abort, caller: &mut Caller<T>, before: S
     caller.met = caller.met.saturating_add(1);
 }
 
-fn room(alloc: Global) -> Result<Vec<Element>, AllocError> {
+fn room(rt: &impl Abort, alloc: Global) -> Vec<Element> {
     match Vec::with_capacity(alloc, MANY as usize) {
-        Ok(elements) => Ok(elements),
-        Err(_) => Vec::with_capacity(alloc, MANY as usize),
+        Ok(elements) => elements,
+        Err(_) => expect_made(rt, Vec::with_capacity(alloc, MANY as usize)),
     }
 }
 
-fn elements_of(rt: &impl Abort, alloc: Global, count: u64) -> Result<Items, AllocError> {
-    let mut elements = room(alloc)?;
+fn elements_of(rt: &impl Abort, alloc: Global, count: u64) -> Items {
+    let mut elements = room(rt, alloc);
     for id in 0..count {
-        elements.push(numbered(rt, id))?;
+        expect_made(rt, elements.push(numbered(rt, id)));
     }
-    Ok(Items::new(elements))
+    Items::new(elements)
 }
 
 // Makes the opening of the first `count` elements.
 pub fn opening_of(rt: &impl Abort, alloc: Global, count: u64) -> Opening {
-    let items = elements_of(rt, alloc, count).ok().expect(rt, "elements");
+    let items = elements_of(rt, alloc, count);
     Opening::new(items, count, 0).expect(rt, "an opening")
 }
 
@@ -363,5 +363,5 @@ fn a_refusal_changes_nothing(rt: HostRuntime) {
     let begun_with_elements = run_on(&rt, rt.alloc());
     let of_kept = begun_empty.saturating_add(begun_with_elements);
     let below = of_timers.saturating_add(of_queue);
-    assert_eq!(rt; below.saturating_add(of_kept), REFUSALS);
+    expect_same(&rt, below.saturating_add(of_kept), REFUSALS);
 }

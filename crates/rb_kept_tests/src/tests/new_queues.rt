@@ -1,13 +1,14 @@
 // A new kept queue, and a run of it that ends each way in which a try may end.
 
-use super::fixtures::{done, expect, expect_number, expect_step, item, later, offer, offered};
+use super::fixtures::{
+    done, expect, expect_made, expect_number, expect_same, expect_step, item, later, offer, offered,
+};
 use rb_kept::{CallFault, Kept, NewFault, Step, Try};
 use rb_ledger::{Tally, Totals};
 use rb_queue::{Ask, Audit, Event, Reply};
 use rb_timer::ListTimer;
-use std::alloc::{AllocError, Global};
+use std::alloc::Global;
 use std::process::Abort;
-use std::test::Fail;
 
 type Made = Result<(Kept<ListTimer>, Tally), NewFault>;
 
@@ -17,7 +18,7 @@ fn expect_bad_capacity(rt: &impl Abort, made: &Made) {
 }
 
 fn expect_totals(rt: &impl Abort, found: Totals, wanted: Totals) {
-    assert_eq!(rt; found, wanted);
+    expect_same(rt, found, wanted);
 }
 
 fn expect_begun(rt: &impl Abort, made: &Made, capacity: u64) {
@@ -43,12 +44,12 @@ fn a_queue_begins_with_its_room_and_nothing_else(rt: HostRuntime) {
 }
 
 fn expect_audit(rt: &impl Abort, found: Audit, wanted: Audit) {
-    assert_eq!(rt; found, wanted);
+    expect_same(rt, found, wanted);
 }
 
 // Returns six tries, each with its seat and the moment that it asks for.
-fn tries(rt: &impl Abort, alloc: Global) -> Result<Vec<Try>, AllocError> {
-    let mut tries = Vec::with_capacity(alloc, 6)?;
+fn tries(rt: &impl Abort, alloc: Global) -> Vec<Try> {
+    let mut tries = Vec::new(alloc);
     let timed = Ask::PollFor {
         start: 3,
         timeout: 4,
@@ -61,9 +62,9 @@ fn tries(rt: &impl Abort, alloc: Global) -> Result<Vec<Try>, AllocError> {
         (0, 11, Ask::Size),
         (0, 12, Ask::Size),
     ] {
-        tries.push(Try { seat, asked, ask })?;
+        expect_made(rt, tries.push(Try { seat, asked, ask }));
     }
-    Ok(tries)
+    tries
 }
 
 // Returns the step of each try. The take would wait, and the last try finds the queue full.
@@ -90,13 +91,8 @@ fn expect_moments(rt: &impl Abort, history: &[Event], wanted: &[u64]) {
     expect(rt, moments.eq(wanted.iter().copied()), "the moments");
 }
 
-fn expect_run(
-    rt: &impl Abort,
-    alloc: Global,
-    kept: &mut Kept<ListTimer>,
-    tally: &mut Tally,
-) -> Result<(), AllocError> {
-    let found = kept.run_tries(tally, tries(rt, alloc)?)?;
+fn expect_run(rt: &impl Abort, alloc: Global, kept: &mut Kept<ListTimer>, tally: &mut Tally) {
+    let found = expect_made(rt, kept.run_tries(tally, tries(rt, alloc)));
     expect_steps(rt, &found, &steps(rt));
     expect_moments(rt, kept.history(), &[10, 10, 10, 11]);
     let audit = Audit {
@@ -115,12 +111,10 @@ fn expect_run(
         given: 1,
     };
     expect_totals(rt, tally.totals(), totals);
-    Ok(())
 }
 
 #[test]
-fn one_run_answers_each_of_its_tries(rt: HostRuntime) -> Result<(), Fail> {
-    let (mut kept, mut tally) = Kept::new(rt.alloc(), 4)?;
-    expect_run(&rt, rt.alloc(), &mut kept, &mut tally)?;
-    Ok(())
+fn one_run_answers_each_of_its_tries(rt: HostRuntime) {
+    let (mut kept, mut tally) = expect_made(&rt, Kept::new(rt.alloc(), 4));
+    expect_run(&rt, rt.alloc(), &mut kept, &mut tally);
 }

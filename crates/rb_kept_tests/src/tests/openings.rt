@@ -1,10 +1,9 @@
-use super::fixtures::{element, expect, expect_element, expect_number, payload};
+use super::fixtures::{element, expect, expect_element, expect_made, expect_number};
 use rb_delayed::Element;
 use rb_queue::{DelayQueue, Items, Opening};
 use rb_timer::ListTimer;
-use std::alloc::{AllocError, Global};
+use std::alloc::Global;
 use std::process::Abort;
-use std::test::Fail;
 
 fn expect_empty(rt: &impl Abort, opening: &Opening) {
     expect_number(rt, opening.next_id, 0);
@@ -24,12 +23,12 @@ fn an_empty_opening_begins_at_zero(rt: HostRuntime) {
 }
 
 // Returns elements with the ids and expiries of `entries`, in this order.
-fn standing(rt: &impl Abort, alloc: Global, entries: &[(u64, u64)]) -> Result<Items, AllocError> {
+fn standing(rt: &impl Abort, alloc: Global, entries: &[(u64, u64)]) -> Items {
     let mut elements = Vec::new(alloc);
     for &(id, expiry) in entries {
-        elements.push(element(rt, id, expiry, b"job"))?;
+        expect_made(rt, elements.push(element(rt, id, expiry, b"job")));
     }
-    Ok(Items::new(elements))
+    Items::new(elements)
 }
 
 fn expect_elements(rt: &impl Abort, elements: &[Element], entries: &[(u64, u64)]) {
@@ -58,7 +57,7 @@ fn make_opening(rt: &impl Abort, items: Items, entries: &[(u64, u64)], next_id: 
 }
 
 #[test]
-fn an_opening_has_rising_ids_below_the_next(rt: HostRuntime) -> Result<(), Fail> {
+fn an_opening_has_rising_ids_below_the_next(rt: HostRuntime) {
     for (entries, next_id, is_opening) in [
         ([(0, 9), (2, 3)].as_slice(), 3, true),
         ([(0, 9), (2, 3)].as_slice(), 2, false),
@@ -77,28 +76,23 @@ fn an_opening_has_rising_ids_below_the_next(rt: HostRuntime) -> Result<(), Fail>
             false,
         ),
     ] {
-        let items = standing(&rt, rt.alloc(), entries)?;
+        let items = standing(&rt, rt.alloc(), entries);
         let is_made = make_opening(&rt, items, entries, next_id);
         expect(&rt, is_made == is_opening, "whether it is an opening");
     }
-    Ok(())
 }
 
 // Returns a million elements of one expiry, in the order of their ids, with room for one more.
-fn million(rt: &impl Abort, alloc: Global) -> Result<Vec<Element>, AllocError> {
-    let mut elements = Vec::with_capacity(alloc, 1_000_001)?;
-    let payload = payload(rt, b"job");
+fn million(rt: &impl Abort, alloc: Global) -> Vec<Element> {
+    let mut elements = expect_made(rt, Vec::with_capacity(alloc, 1_000_001));
     for id in 0..1_000_000_u64 {
-        elements.push(Element {
-            id,
-            expiry: 5,
-            origin: id,
-            first: 5,
-            attempt: 1,
-            payload,
-        })?;
+        push(rt, &mut elements, id);
     }
-    Ok(elements)
+    elements
+}
+
+fn push(rt: &impl Abort, elements: &mut Vec<Element>, id: u64) {
+    expect_made(rt, elements.push(element(rt, id, 5, b"job")));
 }
 
 // Asserts that a queue can begin with the most elements and the greatest next id. Returns the
@@ -126,9 +120,8 @@ fn expect_too_many(rt: &impl Abort, elements: Vec<Element>) {
 }
 
 #[test]
-fn an_opening_has_at_most_a_million_elements(rt: HostRuntime) -> Result<(), Fail> {
-    let mut elements = expect_most(&rt, rt.alloc(), million(&rt, rt.alloc())?);
-    elements.push(element(&rt, 1_000_000, 5, b"job"))?;
+fn an_opening_has_at_most_a_million_elements(rt: HostRuntime) {
+    let mut elements = expect_most(&rt, rt.alloc(), million(&rt, rt.alloc()));
+    push(&rt, &mut elements, 1_000_000);
     expect_too_many(&rt, elements);
-    Ok(())
 }

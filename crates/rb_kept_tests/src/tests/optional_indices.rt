@@ -1,9 +1,9 @@
-use super::fixtures::expect;
+use super::fixtures::{expect, expect_same};
 use rb_timer::optional_index::OptionalIndex;
 use std::process::Abort;
 
 fn expect_index(rt: &impl Abort, index: OptionalIndex, option: Option<usize>) {
-    assert_eq!(rt; index.as_option(), option);
+    expect_same(rt, index.as_option(), option);
 }
 
 // The word of the greatest index, `usize::MAX - 1`, is next to the word that stands for none.

@@ -1,15 +1,14 @@
-use super::fixtures::{expect, expect_text, payload};
+use super::fixtures::{expect, expect_made, expect_same, expect_text, payload};
 use rb_delayed::{Payload, PayloadFault};
 use std::alloc::Global;
 use std::process::Abort;
-use std::test::Fail;
 
 fn refuses(rt: &impl Abort, bytes: &[u8], fault: PayloadFault) {
-    assert_eq!(rt; Payload::new(bytes).err(), Some(fault));
+    expect_same(rt, Payload::new(bytes).err(), Some(fault));
 }
 
 fn accepts(rt: &impl Abort, bytes: &[u8]) {
-    assert_eq!(rt; payload(rt, bytes).as_bytes(), bytes);
+    expect_same(rt, payload(rt, bytes).as_bytes(), bytes);
 }
 
 #[test]
@@ -37,13 +36,12 @@ fn equal_payloads_have_equal_bytes(rt: HostRuntime) {
     expect(&rt, !are_equal(b"ab", b"a"), "other payloads");
 }
 
-fn shows(rt: &impl Abort, alloc: Global, payload: Payload) -> Result<(), Fail> {
-    let text = format!(in alloc; "{payload:?}")?;
+fn shows(rt: &impl Abort, alloc: Global, payload: Payload) {
+    let text = expect_made(rt, format!(in alloc; "{payload:?}"));
     expect_text(rt, &text, "Payload(\"job\")");
-    Ok(())
 }
 
 #[test]
-fn shows_its_text(rt: HostRuntime) -> Result<(), Fail> {
-    shows(&rt, rt.alloc(), payload(&rt, b"job"))
+fn shows_its_text(rt: HostRuntime) {
+    shows(&rt, rt.alloc(), payload(&rt, b"job"));
 }

@@ -1,3 +1,4 @@
+use super::fixtures::{expect_made, expect_same};
 use rand_pcg::Pcg32;
 use rand_pcg::rand_core::Rng;
 use rb_binary::BinaryTimer;
@@ -6,9 +7,8 @@ use rb_timer::TimerAnswer::Entry;
 use rb_timer::TimerCommand::{Clear, Due, Insert, Least, Remove};
 use rb_timer::{ListTimer, Timer, TimerAnswer, TimerCommand, run_timer};
 use rb_wheel::WheelTimer;
-use std::alloc::{AllocError, Global};
+use std::alloc::Global;
 use std::process::Abort;
-use std::test::Fail;
 
 // Returns a random number of random size: another random number says how many bits it has, so that
 // each level of a wheel has its share.
@@ -36,18 +36,19 @@ fn next_command(random: &mut Pcg32, now: u64) -> TimerCommand {
 // steps of any size, shifted right by `run % 60` bits. It stays at the greatest moment once it is
 // there.
 fn next_commands(
+    rt: &impl Abort,
     random: &mut Pcg32,
     alloc: Global,
     run: u32,
-) -> Result<Vec<TimerCommand>, AllocError> {
+) -> Vec<TimerCommand> {
     let mut now = 0u64;
     let mut commands = Vec::new(alloc);
     let count = if run == 0 { 20_024 } else { 1000u32 };
     for _ in 0..count {
         now = now.saturating_add(of_any_size(random) >> (run % 60));
-        commands.push(next_command(random, now))?;
+        expect_made(rt, commands.push(next_command(random, now)));
     }
-    Ok(commands)
+    commands
 }
 
 // Returns whether two answers are equal. Entries agree if their expiries are equal, since any entry
@@ -60,7 +61,7 @@ fn agree(one: &TimerAnswer, other: &TimerAnswer) -> bool {
 }
 
 fn expect_agreement(rt: &impl Abort, answers: &[TimerAnswer], expected: &[TimerAnswer], run: u32) {
-    assert_eq!(rt; answers.len(), expected.len());
+    expect_same(rt, answers.len(), expected.len());
     assert!(rt;
         answers
             .iter()
@@ -71,51 +72,42 @@ fn expect_agreement(rt: &impl Abort, answers: &[TimerAnswer], expected: &[TimerA
 }
 
 fn answers_of<T: Timer>(
-    alloc: Global,
-    commands: &[TimerCommand],
-) -> Result<Vec<TimerAnswer>, AllocError> {
-    let mut timer = T::new(alloc);
-    timer.reserve(48)?;
-    run_timer(alloc, &mut timer, commands)
-}
-
-fn expect_agrees<T: Timer>(
     rt: &impl Abort,
     alloc: Global,
     commands: &[TimerCommand],
-    run: u32,
-) -> Result<(), AllocError> {
-    let expected = answers_of::<ListTimer>(alloc, commands)?;
-    let answers = answers_of::<T>(alloc, commands)?;
+) -> Vec<TimerAnswer> {
+    let mut timer = T::new(alloc);
+    expect_made(rt, timer.reserve(48));
+    expect_made(rt, run_timer(alloc, &mut timer, commands))
+}
+
+fn expect_agrees<T: Timer>(rt: &impl Abort, alloc: Global, commands: &[TimerCommand], run: u32) {
+    let expected = answers_of::<ListTimer>(rt, alloc, commands);
+    let answers = answers_of::<T>(rt, alloc, commands);
     expect_agreement(rt, &answers, &expected, run);
-    Ok(())
 }
 
 // Asserts that a timer agrees with the list in 100 runs. The seed is fixed, so the runs are the
 // same each time.
-fn expect_always_agrees<T: Timer>(rt: &impl Abort, alloc: Global) -> Result<(), AllocError> {
+fn expect_always_agrees<T: Timer>(rt: &impl Abort, alloc: Global) {
     let mut random = Pcg32::new(88172645463325252, 1);
     for run in 0..100u32 {
-        let commands = next_commands(&mut random, alloc, run)?;
-        expect_agrees::<T>(rt, alloc, &commands, run)?;
+        let commands = next_commands(rt, &mut random, alloc, run);
+        expect_agrees::<T>(rt, alloc, &commands, run);
     }
-    Ok(())
 }
 
 #[test]
-fn the_binary_heap_agrees_with_the_list(rt: HostRuntime) -> Result<(), Fail> {
-    expect_always_agrees::<BinaryTimer>(&rt, rt.alloc())?;
-    Ok(())
+fn the_binary_heap_agrees_with_the_list(rt: HostRuntime) {
+    expect_always_agrees::<BinaryTimer>(&rt, rt.alloc());
 }
 
 #[test]
-fn the_pairing_heap_agrees_with_the_list(rt: HostRuntime) -> Result<(), Fail> {
-    expect_always_agrees::<PairingTimer>(&rt, rt.alloc())?;
-    Ok(())
+fn the_pairing_heap_agrees_with_the_list(rt: HostRuntime) {
+    expect_always_agrees::<PairingTimer>(&rt, rt.alloc());
 }
 
 #[test]
-fn the_wheel_agrees_with_the_list(rt: HostRuntime) -> Result<(), Fail> {
-    expect_always_agrees::<WheelTimer>(&rt, rt.alloc())?;
-    Ok(())
+fn the_wheel_agrees_with_the_list(rt: HostRuntime) {
+    expect_always_agrees::<WheelTimer>(&rt, rt.alloc());
 }

@@ -1,6 +1,6 @@
 //! The totals of a run, and the shares that add up to them.
 
-use super::fixtures::expect_number;
+use super::fixtures::{expect_number, expect_same};
 use rb_ledger::{Books, GREATEST_COUNT, Tally, Totals};
 use std::process::Abort;
 
@@ -21,7 +21,7 @@ fn expect_whole(rt: &impl Abort, books: &Books, wanted: [u64; 3]) {
 }
 
 fn expect_totals(rt: &impl Abort, totals: Totals, wanted: Totals) {
-    assert_eq!(rt; totals, wanted);
+    expect_same(rt, totals, wanted);
 }
 
 #[test]

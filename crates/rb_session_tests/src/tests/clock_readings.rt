@@ -15,7 +15,6 @@ use rb_timer::Timer;
 use std::alloc::Global;
 use std::cell::Cell;
 use std::process::Abort;
-use std::test::Fail;
 
 /// A kept desk that counts how often its clock is read, and notes what it hears.
 #[derive(Drop)]
@@ -104,9 +103,9 @@ struct Outcome {
     heard: u64,
 }
 
-fn ran(rt: &impl Abort, alloc: Global, script: &[u8]) -> Result<Outcome, Fail> {
+fn ran(rt: &impl Abort, alloc: Global, script: &[u8]) -> Outcome {
     let policy = Policy::fixed(1_000, 3).expect(rt, "a policy");
-    with_kept(alloc, 100, |kept, tally| {
+    with_kept(rt, alloc, 100, |kept, tally| {
         ran_over(alloc, kept, tally, &policy, script)
     })
 }
@@ -139,12 +138,11 @@ fn expect_readings(
     (script, replies): (&[u8], &[u8]),
     ended: Ended,
     readings: u64,
-) -> Result<(), Fail> {
-    let outcome = ran(rt, alloc, script)?;
+) {
+    let outcome = ran(rt, alloc, script);
     expect_end(rt, outcome.ended, Ok(ended), 0);
     expect_bytes(rt, &outcome.text, replies, 0);
     expect_number(rt, outcome.readings, readings, 0);
-    Ok(())
 }
 
 // A script with each kind of request.
@@ -158,38 +156,37 @@ const REPLIES: &[u8] =
         DRAINED 0\nCLEARED\nBYE\n";
 
 #[test]
-fn a_request_reads_the_clock_once(rt: HostRuntime) -> Result<(), Fail> {
+fn a_request_reads_the_clock_once(rt: HostRuntime) {
     let ended = Ended::Quit { lost: 0 };
-    expect_readings(&rt, rt.alloc(), (SCRIPT, REPLIES), ended, 17)
+    expect_readings(&rt, rt.alloc(), (SCRIPT, REPLIES), ended, 17);
 }
 
 #[test]
-fn what_is_no_request_reads_no_clock(rt: HostRuntime) -> Result<(), Fail> {
+fn what_is_no_request_reads_no_clock(rt: HostRuntime) {
     let script = b"poll\nDONE 01\nOFFER 1 \xff\nSIZE".as_slice();
     let replies = b"ERR 1 syntax\nERR 2 number\nERR 4 payload\nERR 8 line\n".as_slice();
     let ended = Ended::EndOfInput { lost: 0 };
-    expect_readings(&rt, rt.alloc(), (script, replies), ended, 0)
+    expect_readings(&rt, rt.alloc(), (script, replies), ended, 0);
 }
 
 // At the end of a session the clock is read once for each job that is still held.
 #[test]
-fn a_job_that_is_held_at_the_end_reads_the_clock_once(rt: HostRuntime) -> Result<(), Fail> {
+fn a_job_that_is_held_at_the_end_reads_the_clock_once(rt: HostRuntime) {
     let script = b"OFFERAT 0 a\nOFFERAT 1 b\nAT 1\nDRAIN 9\n".as_slice();
     let replies =
         b"OFFERED 0 0\nOFFERED 1 1\nNOW 1\nDRAINED 2\nITEM 0 0 1 a\nITEM 1 1 1 b\n".as_slice();
     let ended = Ended::EndOfInput { lost: 0 };
-    expect_readings(&rt, rt.alloc(), (script, replies), ended, 6)
+    expect_readings(&rt, rt.alloc(), (script, replies), ended, 6);
 }
 
-fn expect_heard(rt: &impl Abort, alloc: Global, script: &[u8], heard: u64) -> Result<(), Fail> {
-    expect_number(rt, ran(rt, alloc, script)?.heard, heard, 0);
-    Ok(())
+fn expect_heard(rt: &impl Abort, alloc: Global, script: &[u8], heard: u64) {
+    expect_number(rt, ran(rt, alloc, script).heard, heard, 0);
 }
 
 // Once before each read, and once before each request: the job is held from the second request to the third, and
 // behind each of them more was read.
 #[test]
-fn a_desk_hears_how_its_session_stands(rt: HostRuntime) -> Result<(), Fail> {
-    expect_heard(&rt, rt.alloc(), b"OFFERAT 0 a\nPOLL\nDONE 0\nSI", 101_130)?;
-    expect_heard(&rt, rt.alloc(), b"OFFERAT 0 a\nPOLL\n", 10_102)
+fn a_desk_hears_how_its_session_stands(rt: HostRuntime) {
+    expect_heard(&rt, rt.alloc(), b"OFFERAT 0 a\nPOLL\nDONE 0\nSI", 101_130);
+    expect_heard(&rt, rt.alloc(), b"OFFERAT 0 a\nPOLL\n", 10_102);
 }

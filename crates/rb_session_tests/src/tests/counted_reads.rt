@@ -10,13 +10,12 @@ use rb_session::{Delivery, Ended, SessionFault, run_limited};
 use std::alloc::Global;
 use std::io::{self, Read};
 use std::process::Abort;
-use std::test::Fail;
 
 // A session ends with its input, long before it has made all the reads that its reader allows.
 #[test]
-fn a_session_over_a_reader_that_counts_leaves_reads(rt: HostRuntime) -> Result<(), Fail> {
+fn a_session_over_a_reader_that_counts_leaves_reads(rt: HostRuntime) {
     let alloc = rt.alloc();
-    with_kept(alloc, 1, |kept, tally| {
+    with_kept(&rt, alloc, 1, |kept, tally| {
         expect_reads(&rt, alloc, &mut KeptDesk::new(kept, tally))
     })
 }
@@ -39,9 +38,9 @@ fn expect_reads(rt: &impl Abort, alloc: Global, desk: &mut KeptDesk<'_, BinaryTi
 
 // A session that could not write leaves a writer that tells so.
 #[test]
-fn a_session_that_could_not_write_leaves_a_failed_writer(rt: HostRuntime) -> Result<(), Fail> {
+fn a_session_that_could_not_write_leaves_a_failed_writer(rt: HostRuntime) {
     let alloc = rt.alloc();
-    with_kept(alloc, 1, |kept, tally| {
+    with_kept(&rt, alloc, 1, |kept, tally| {
         expect_failed(&rt, alloc, &mut KeptDesk::new(kept, tally))
     })
 }
@@ -95,9 +94,10 @@ fn expect_given_up(
 
 // A line without an end, of which each read gives one byte, is given up, and gets no reply.
 #[test]
-fn a_line_without_an_end_is_given_up(rt: HostRuntime) -> Result<(), Fail> {
+fn a_line_without_an_end_is_given_up(rt: HostRuntime) {
     let alloc = rt.alloc();
     with_kept(
+        &rt,
         alloc,
         1,
         |kept, tally| expect_given_up(&rt, alloc, kept, tally),

@@ -1,13 +1,13 @@
 use rb_binary::BinaryTimer;
-use rb_kept::{Kept, NewFault};
+use rb_kept::Kept;
 use rb_ledger::Tally;
 use rb_retry::{KeptDesk, Policy};
 use rb_session::{Ended, SessionFault, run_session};
 use rb_timer::Timer;
-use std::alloc::{AllocError, Global};
+use std::alloc::Global;
+use std::fmt::Debug;
 use std::io::{self, ErrorKind, Read, Write};
 use std::process::Abort;
-use std::test::Fail;
 
 /// A reader that gives its bytes one at a time, and fails at call `fails_at`, counted from 0.
 #[derive(Drop)]
@@ -41,13 +41,14 @@ impl Read for Bytes<'_> {
     }
 }
 
-/// A writer that keeps what is written, and fails at call `fails_at`, counted from 0. Writes and
-/// flushes are counted together.
+/// A writer that keeps what is written, at most `most` bytes at each write, and fails at call
+/// `fails_at`, counted from 0. Writes and flushes are counted together.
 #[derive(Drop)]
 pub struct Sheet {
     pub bytes: Vec<u8>,
     pub calls: usize,
     pub fails_at: usize,
+    pub most: usize,
 }
 
 impl Sheet {
@@ -56,7 +57,15 @@ impl Sheet {
             bytes: Vec::new(alloc),
             calls: 0,
             fails_at,
+            most: usize::MAX,
         }
+    }
+
+    /// Makes a writer that takes one byte at each write.
+    pub fn of_bytes(alloc: Global) -> Sheet {
+        let mut sheet = Sheet::new(alloc, NEVER);
+        sheet.most = 1;
+        sheet
     }
 
     fn fails_now(&mut self) -> bool {
@@ -71,8 +80,9 @@ impl Write for Sheet {
         if self.fails_now() {
             return Err(ErrorKind::BrokenPipe.into());
         }
-        self.bytes.extend_from_slice(buf)?;
-        Ok(buf.len())
+        let count = buf.len().min(self.most);
+        self.bytes.extend_from_slice(&buf[..count])?;
+        Ok(count)
     }
 
     fn flush(&mut self) -> io::Result<()> {
@@ -83,44 +93,27 @@ impl Write for Sheet {
     }
 }
 
-/// A writer that keeps what is written, and takes one byte at each write.
-#[derive(Drop)]
-pub struct Slip {
-    pub bytes: Vec<u8>,
-}
-
-impl Write for Slip {
-    fn write(&mut self, buf: &[u8]) -> io::Result<usize> {
-        let count = buf.len().min(1);
-        self.bytes.extend_from_slice(&buf[..count])?;
-        Ok(count)
-    }
-
-    fn flush(&mut self) -> io::Result<()> {
-        Ok(())
-    }
-}
-
 /// The number of a call that never comes.
 pub const NEVER: usize = usize::MAX;
 
 /// Makes a kept queue with room for `calls` calls, and hands it to `work` with its tally.
 pub fn with_kept<T, F: FnOnce(&mut Kept<BinaryTimer>, &mut Tally) -> T>(
+    rt: &impl Abort,
     alloc: Global,
     calls: u64,
     work: F,
-) -> Result<T, Fail>
+) -> T
     requires { F.IsAlwaysCallable work }
 {
-    let (mut kept, mut tally) = kept(alloc, calls)?;
-    Ok(work(&mut kept, &mut tally))
+    let (mut kept, mut tally) = kept(rt, alloc, calls);
+    work(&mut kept, &mut tally)
 }
 
 // Makes a kept queue, and tries once more if memory is refused: `dev/refuse_allocations` refuses these allocations too.
-fn kept(alloc: Global, calls: u64) -> Result<(Kept<BinaryTimer>, Tally), NewFault> {
+fn kept(rt: &impl Abort, alloc: Global, calls: u64) -> (Kept<BinaryTimer>, Tally) {
     match Kept::new(alloc, calls) {
-        Ok(made) => Ok(made),
-        Err(_) => Kept::new(alloc, calls),
+        Ok(made) => made,
+        Err(_) => expect_made(rt, Kept::new(alloc, calls)),
     }
 }
 
@@ -167,18 +160,18 @@ pub fn ran<T: Timer>(
     script: &[u8],
     read_fails_at: usize,
     write_fails_at: usize,
-) -> Result<Outcome, Fail> {
-    let (mut kept, mut tally) = Kept::<T>::new(alloc, 100)?;
+) -> Outcome {
+    let (mut kept, mut tally) = expect_made(rt, Kept::<T>::new(alloc, 100));
     let (mut reader, mut writer) = (
         Bytes::of(script, read_fails_at),
         Sheet::new(alloc, write_fails_at),
     );
     let ended = run(rt, alloc, &mut kept, &mut tally, &mut reader, &mut writer);
-    Ok(Outcome {
+    Outcome {
         ended,
         bytes: writer.bytes,
         calls: writer.calls,
-    })
+    }
 }
 
 /// Requests with their replies.
@@ -197,42 +190,63 @@ impl Dialogue {
     }
 
     /// Appends a request with its replies.
-    pub fn push(&mut self, request: &[u8], replies: &[u8]) -> Result<(), AllocError> {
-        self.script.extend_from_slice(request)?;
-        self.replies.extend_from_slice(replies)
+    pub fn push(&mut self, rt: &impl Abort, request: &[u8], replies: &[u8]) {
+        push(rt, &mut self.script, request);
+        push(rt, &mut self.replies, replies);
     }
+}
+
+/// Appends bytes.
+pub fn push(rt: &impl Abort, text: &mut Vec<u8>, bytes: &[u8]) {
+    expect_made(rt, text.extend_from_slice(bytes));
 }
 
 // Appends the last decimal digit of `number`.
-fn push_digit(text: &mut Vec<u8>, number: u64) -> Result<(), AllocError> {
-    text.extend_from_slice(&[b"0123456789"[(number % 10) as usize]])
+fn push_digit(rt: &impl Abort, text: &mut Vec<u8>, number: u64) {
+    push(rt, text, &[b"0123456789"[(number % 10) as usize]]);
 }
 
 // Appends `number`, which has at most 20 digits.
-fn push_number(text: &mut Vec<u8>, number: u64) -> Result<(), AllocError> {
+fn push_number(rt: &impl Abort, text: &mut Vec<u8>, number: u64) {
     let mut power = 10_000_000_000_000_000_000_u64;
     for _ in 0..19 {
         if number >= power {
-            push_digit(text, number / power.max(1))?;
+            push_digit(rt, text, number / power.max(1));
         }
         power /= 10;
     }
-    push_digit(text, number)
+    push_digit(rt, text, number);
 }
 
 /// Appends `front`, the number and `back`.
-pub fn push_line(
-    text: &mut Vec<u8>,
-    front: &[u8],
-    number: u64,
-    back: &[u8],
-) -> Result<(), AllocError> {
-    text.extend_from_slice(front)?;
-    push_number(text, number)?;
-    text.extend_from_slice(back)
+pub fn push_line(rt: &impl Abort, text: &mut Vec<u8>, front: &[u8], number: u64, back: &[u8]) {
+    push(rt, text, front);
+    push_number(rt, text, number);
+    push(rt, text, back);
+}
+
+/// Returns what was made. Asserts that it was.
+pub fn expect_made<T, E: Drop>(rt: &impl Abort, made: Result<T, E>) -> T {
+    made.ok().expect(rt, "what is made")
 }
 
 // Comparisons are functions without clauses, so tests that call them have nothing to prove.
+
+/// Asserts that two values are equal. Each comparison is made here, since each function that asserts
+/// it by itself costs its proof.
+pub fn expect_same<V: PartialEq + Debug + Drop>(rt: &impl Abort, found: V, wanted: V) {
+    assert_eq!(rt; found, wanted);
+}
+
+/// Does the same, and says at which place they are not.
+pub fn expect_same_at<V: PartialEq + Debug + Drop>(
+    rt: &impl Abort,
+    found: V,
+    wanted: V,
+    at: usize,
+) {
+    assert_eq!(rt; found, wanted, "{at}");
+}
 
 pub fn expect_end(
     rt: &impl Abort,
@@ -240,19 +254,19 @@ pub fn expect_end(
     wanted: Result<Ended, SessionFault>,
     at: usize,
 ) {
-    assert_eq!(rt; ended, wanted, "{at}");
+    expect_same_at(rt, ended, wanted, at);
 }
 
 pub fn expect_bytes(rt: &impl Abort, bytes: &[u8], wanted: &[u8], at: usize) {
-    assert_eq!(rt; bytes, wanted, "{at}");
+    expect_same_at(rt, bytes, wanted, at);
 }
 
 pub fn expect_number(rt: &impl Abort, number: u64, wanted: u64, at: usize) {
-    assert_eq!(rt; number, wanted, "{at}");
+    expect_same_at(rt, number, wanted, at);
 }
 
 pub fn expect_count(rt: &impl Abort, count: usize, wanted: usize, at: usize) {
-    assert_eq!(rt; count, wanted, "{at}");
+    expect_same_at(rt, count, wanted, at);
 }
 
 pub fn expect(rt: &impl Abort, holds: bool) {

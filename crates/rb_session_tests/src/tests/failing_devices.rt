@@ -1,5 +1,5 @@
 use crate::tests::devices::{
-    Bytes, NEVER, Slip, expect_bytes, expect_count, expect_end, ran, run, with_kept,
+    Bytes, NEVER, Sheet, expect_bytes, expect_count, expect_end, ran, run, with_kept,
 };
 use rb_binary::BinaryTimer;
 use rb_kept::Kept;
@@ -7,7 +7,6 @@ use rb_ledger::Tally;
 use rb_session::{Ended, SessionFault};
 use std::alloc::Global;
 use std::process::Abort;
-use std::test::Fail;
 
 // A job with three attempts, whose third failure is its last. A fourth one finds the job no longer
 // held.
@@ -20,8 +19,9 @@ const REPLIES: &[u8] =
 
 type Slipped = (Result<Ended, SessionFault>, Vec<u8>);
 
-fn slipped(rt: &impl Abort, alloc: Global) -> Result<Slipped, Fail> {
+fn slipped(rt: &impl Abort, alloc: Global) -> Slipped {
     with_kept(
+        rt,
         alloc,
         100,
         |kept, tally| slipped_over(rt, alloc, kept, tally),
@@ -34,19 +34,17 @@ fn slipped_over(
     kept: &mut Kept<BinaryTimer>,
     tally: &mut Tally,
 ) -> Slipped {
-    let bytes = Vec::new(alloc);
-    let (mut reader, mut writer) = (Bytes::of(JOB, NEVER), Slip { bytes });
+    let (mut reader, mut writer) = (Bytes::of(JOB, NEVER), Sheet::of_bytes(alloc));
     let ended = run(rt, alloc, kept, tally, &mut reader, &mut writer);
     (ended, writer.bytes)
 }
 
 // What a write does not take is written again, as often as needed.
 #[test]
-fn a_writer_may_take_a_byte_at_a_time(rt: HostRuntime) -> Result<(), Fail> {
-    let (ended, bytes) = slipped(&rt, rt.alloc())?;
+fn a_writer_may_take_a_byte_at_a_time(rt: HostRuntime) {
+    let (ended, bytes) = slipped(&rt, rt.alloc());
     expect_end(&rt, ended, Ok(Ended::EndOfInput { lost: 0 }), 0);
     expect_bytes(&rt, &bytes, REPLIES, 0);
-    Ok(())
 }
 
 // Returns the number of bytes of the first `lines` lines of the replies, including their ends.
@@ -68,28 +66,26 @@ fn first_replies(lines: usize) -> &'static [u8] {
 
 // Each line has one reply, so a read that fails after `lines` whole lines leaves as many replies.
 #[test]
-fn a_read_may_fail_anywhere(rt: HostRuntime) -> Result<(), Fail> {
+fn a_read_may_fail_anywhere(rt: HostRuntime) {
     let mut lines = 0_usize;
     for call in 0..=JOB.len() {
-        let ran = ran::<BinaryTimer>(&rt, rt.alloc(), JOB, call, NEVER)?;
+        let ran = ran::<BinaryTimer>(&rt, rt.alloc(), JOB, call, NEVER);
         expect_end(&rt, ran.ended, Err(SessionFault::Read { lost: 0 }), call);
         expect_bytes(&rt, &ran.bytes, first_replies(lines), call);
         if JOB.get(call) == Some(&b'\n') {
             lines = lines.saturating_add(1);
         }
     }
-    Ok(())
 }
 
 // Each reply is one write and one flush, so call 2k is the write of reply k, and call 2k + 1 is its
 // flush. Both are counted from 0.
 #[test]
-fn a_write_or_a_flush_may_fail_anywhere(rt: HostRuntime) -> Result<(), Fail> {
+fn a_write_or_a_flush_may_fail_anywhere(rt: HostRuntime) {
     for call in 0..24_usize {
-        let ran = ran::<BinaryTimer>(&rt, rt.alloc(), JOB, NEVER, call)?;
+        let ran = ran::<BinaryTimer>(&rt, rt.alloc(), JOB, NEVER, call);
         expect_end(&rt, ran.ended, Err(SessionFault::Write { lost: 0 }), call);
         expect_bytes(&rt, &ran.bytes, first_replies(call.div_ceil(2)), call);
         expect_count(&rt, ran.calls, call.saturating_add(1), call);
     }
-    Ok(())
 }

@@ -1,6 +1,6 @@
 use crate::tests::devices::{
-    Bytes, NEVER, Sheet, expect, expect_bytes, expect_count, expect_end, expect_number, run,
-    with_kept,
+    Bytes, NEVER, Sheet, expect, expect_bytes, expect_count, expect_end, expect_made,
+    expect_number, run, with_kept,
 };
 use rb_binary::BinaryTimer;
 use rb_kept::Kept;
@@ -10,7 +10,6 @@ use rb_session::{Ended, SessionFault};
 use rb_timer::{ListTimer, Timer};
 use std::alloc::Global;
 use std::process::Abort;
-use std::test::Fail;
 
 // Returns one letter for what the event did.
 fn letter(event: &Event) -> u8 {
@@ -41,8 +40,8 @@ fn expect_events(rt: &impl Abort, events: &[Event], letters: &[u8], moments: &[(
     }
 }
 
-fn expect_calls<T: Timer>(rt: &impl Abort, alloc: Global) -> Result<(), Fail> {
-    let (mut kept, mut tally) = Kept::<T>::new(alloc, 10)?;
+fn expect_calls<T: Timer>(rt: &impl Abort, alloc: Global) {
+    let (mut kept, mut tally) = expect_made(rt, Kept::<T>::new(alloc, 10));
     let script = b"AT 100\nOFFER 50 a\nSIZE\npoll\nPOLL\nOFFER 18446744073709551615 b\nPEEK\nSIZE";
     let replies =
         b"NOW 100\nOFFERED 0 150\nSIZE 1\nERR 1 syntax\nNONE\nERR 3 range\nHEAD 0 150 1 a\nERR 8 line\n";
@@ -52,15 +51,14 @@ fn expect_calls<T: Timer>(rt: &impl Abort, alloc: Global) -> Result<(), Fail> {
     expect_bytes(rt, &writer.bytes, replies, 0);
     expect_events(rt, kept.history(), b"osnk", &[(100, 100); 4]);
     expect_number(rt, tally.calls(), 4, 0);
-    Ok(())
 }
 
 // What asks nothing of the queue makes no event: `AT`, a line that is no request, and a request
 // that is refused.
 #[test]
-fn each_call_is_one_event(rt: HostRuntime) -> Result<(), Fail> {
-    expect_calls::<ListTimer>(&rt, rt.alloc())?;
-    expect_calls::<BinaryTimer>(&rt, rt.alloc())
+fn each_call_is_one_event(rt: HostRuntime) {
+    expect_calls::<ListTimer>(&rt, rt.alloc());
+    expect_calls::<BinaryTimer>(&rt, rt.alloc());
 }
 
 // Asserts that the job that is held at the end fails then: the last event offers its second
@@ -85,13 +83,14 @@ fn expect_retry(rt: &impl Abort, events: &[Event], expiry: u64) {
 }
 
 #[test]
-fn what_is_held_after_a_write_fault_fails(rt: HostRuntime) -> Result<(), Fail> {
+fn what_is_held_after_a_write_fault_fails(rt: HostRuntime) {
     let alloc = rt.alloc();
     with_kept(
+        &rt,
         alloc,
         10,
         |kept, tally| expect_write_fault(&rt, alloc, kept, tally),
-    )
+    );
 }
 
 fn expect_write_fault(
@@ -108,27 +107,20 @@ fn expect_write_fault(
 }
 
 #[test]
-fn what_is_held_after_a_read_fault_fails(rt: HostRuntime) -> Result<(), Fail> {
+fn what_is_held_after_a_read_fault_fails(rt: HostRuntime) {
     let alloc = rt.alloc();
     let script = b"OFFER 0 a\nPOLL\n";
-    expect_read_fault(&rt, alloc, script, 10, 0)?;
-    expect_read_fault(&rt, alloc, script, 2, 1)
+    expect_read_fault(&rt, alloc, script, 10, 0);
+    expect_read_fault(&rt, alloc, script, 2, 1);
 }
 
-fn expect_read_fault(
-    rt: &impl Abort,
-    alloc: Global,
-    script: &[u8],
-    calls: u64,
-    lost: u64,
-) -> Result<(), Fail> {
-    let (mut kept, mut tally) = Kept::<ListTimer>::new(alloc, calls)?;
+fn expect_read_fault(rt: &impl Abort, alloc: Global, script: &[u8], calls: u64, lost: u64) {
+    let (mut kept, mut tally) = expect_made(rt, Kept::<ListTimer>::new(alloc, calls));
     let (mut reader, mut writer) = (Bytes::of(script, script.len()), Sheet::new(alloc, NEVER));
     let ended = run(rt, alloc, &mut kept, &mut tally, &mut reader, &mut writer);
     expect_end(rt, ended, Err(SessionFault::Read { lost }), 0);
     expect_bytes(rt, &writer.bytes, b"OFFERED 0 0\nITEM 0 0 1 a\n", 0);
     expect_failed(rt, kept.history(), lost);
-    Ok(())
 }
 
 fn expect_failed(rt: &impl Abort, events: &[Event], lost: u64) {

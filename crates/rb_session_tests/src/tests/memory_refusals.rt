@@ -1,5 +1,6 @@
 use crate::tests::devices::{
-    NEVER, Sheet, expect, expect_bytes, expect_count, expect_number, push_line, run_by, with_kept,
+    NEVER, Sheet, expect, expect_bytes, expect_count, expect_made, expect_number, expect_same,
+    push, push_line, run_by, with_kept,
 };
 use rb_binary::BinaryTimer;
 use rb_delayed::Payload;
@@ -8,10 +9,9 @@ use rb_ledger::Tally;
 use rb_queue::{Act, Ask, Draft, Event, Reply};
 use rb_retry::Policy;
 use rb_session::{Ended, SessionFault};
-use std::alloc::{AllocError, Global};
+use std::alloc::Global;
 use std::ops::Range;
 use std::process::Abort;
-use std::test::Fail;
 
 // The number of refusals that the test meets. `dev/refuse_allocations` sets 1 and refuses each
 // allocation of the test in turn.
@@ -39,44 +39,45 @@ struct Pages {
 }
 
 // Takes memory for the test itself, and tries once more if memory is refused.
-fn page(alloc: Global) -> Result<Vec<u8>, AllocError> {
+fn page(rt: &impl Abort, alloc: Global) -> Vec<u8> {
     match Vec::with_capacity(alloc, PAGE_BYTES) {
-        Ok(bytes) => Ok(bytes),
-        Err(_) => Vec::with_capacity(alloc, PAGE_BYTES),
+        Ok(bytes) => bytes,
+        Err(_) => expect_made(rt, Vec::with_capacity(alloc, PAGE_BYTES)),
     }
 }
 
-fn blank_pages(alloc: Global) -> Result<Pages, AllocError> {
-    Ok(Pages {
-        script: page(alloc)?,
-        replies: page(alloc)?,
-        line: page(alloc)?,
+fn blank_pages(rt: &impl Abort, alloc: Global) -> Pages {
+    Pages {
+        script: page(rt, alloc),
+        replies: page(rt, alloc),
+        line: page(rt, alloc),
         sheet: Sheet {
-            bytes: page(alloc)?,
+            bytes: page(rt, alloc),
             calls: 0,
             fails_at: NEVER,
+            most: usize::MAX,
         },
-    })
+    }
 }
 
 impl Pages {
     // Begins a dialogue with this request and its reply.
-    fn begin(&mut self, request: &[u8], reply: &[u8]) -> Result<(), AllocError> {
+    fn begin(&mut self, rt: &impl Abort, request: &[u8], reply: &[u8]) {
         self.script.clear();
         self.replies.clear();
-        self.push(request, reply)
+        self.push(rt, request, reply);
     }
 
     // Appends a request with its replies.
-    fn push(&mut self, request: &[u8], replies: &[u8]) -> Result<(), AllocError> {
-        self.script.extend_from_slice(request)?;
-        self.replies.extend_from_slice(replies)
+    fn push(&mut self, rt: &impl Abort, request: &[u8], replies: &[u8]) {
+        push(rt, &mut self.script, request);
+        push(rt, &mut self.replies, replies);
     }
 
     // Appends the offer of an element that stands, `id`.
-    fn push_standing(&mut self, id: u64) -> Result<(), AllocError> {
-        self.script.extend_from_slice(b"OFFER 9 b\n")?;
-        push_line(&mut self.replies, b"OFFERED ", id, b" 109\n")
+    fn push_standing(&mut self, rt: &impl Abort, id: u64) {
+        push(rt, &mut self.script, b"OFFER 9 b\n");
+        push_line(rt, &mut self.replies, b"OFFERED ", id, b" 109\n");
     }
 }
 
@@ -208,9 +209,10 @@ fn served(
 }
 
 // Runs the session of the pages' script over a queue of its own.
-fn session_of(rt: &impl Abort, alloc: Global, pages: &mut Pages) -> Result<Session, Fail> {
+fn session_of(rt: &impl Abort, alloc: Global, pages: &mut Pages) -> Session {
     let (script, sheet) = (&pages.script, &mut pages.sheet);
     with_kept(
+        rt,
         alloc,
         MOST_CALLS,
         |kept, tally| served(rt, alloc, kept, tally, script, sheet),
@@ -218,14 +220,15 @@ fn session_of(rt: &impl Abort, alloc: Global, pages: &mut Pages) -> Result<Sessi
 }
 
 // Runs a session with one offer, over the requests of a first example. Returns the number of refusals.
-fn refused_offer(rt: &impl Abort, alloc: Global, pages: &mut Pages) -> Result<u64, Fail> {
+fn refused_offer(rt: &impl Abort, alloc: Global, pages: &mut Pages) -> u64 {
     pages.begin(
+        rt,
         b"AT 100\nOFFER 50 a\nSIZE\nPOLL\nPEEK\n",
         b"NOW 100\nOFFERED 0 150\nSIZE 1\nNONE\nHEAD 0 150 1 a\n",
-    )?;
-    let session = session_of(rt, alloc, pages)?;
+    );
+    let session = session_of(rt, alloc, pages);
     expect_one_offer(rt, session, &pages.sheet.bytes, &pages.replies);
-    Ok(session.met)
+    session.met
 }
 
 fn expect_one_offer(rt: &impl Abort, session: Session, text: &[u8], wanted: &[u8]) {
@@ -240,39 +243,39 @@ fn expect_one_offer(rt: &impl Abort, session: Session, text: &[u8], wanted: &[u8
 
 // Writes a dialogue in which jobs are offered and fetched. Each is fetched before the next is offered,
 // while no other element stands.
-fn write_fetches(pages: &mut Pages) -> Result<(), AllocError> {
-    pages.begin(b"AT 100\n", b"NOW 100\n")?;
+fn write_fetches(rt: &impl Abort, pages: &mut Pages) {
+    pages.begin(rt, b"AT 100\n", b"NOW 100\n");
     for id in 0..JOBS {
-        pages.push(b"OFFER 0 j\nPOLL\n", b"")?;
-        push_line(&mut pages.replies, b"OFFERED ", id, b" 100\n")?;
-        push_line(&mut pages.replies, b"ITEM ", id, b" 100 1 j\n")?;
+        pages.push(rt, b"OFFER 0 j\nPOLL\n", b"");
+        push_line(rt, &mut pages.replies, b"OFFERED ", id, b" 100\n");
+        push_line(rt, &mut pages.replies, b"ITEM ", id, b" 100 1 j\n");
     }
-    Ok(())
 }
 
 // Writes the dialogue of the fetches, followed by failures. First job 0 fails while no element stands,
 // and a further job is fetched in its place. Then each of the other jobs fails. The replies to these
 // last 64 failures are left out.
-fn write_failures(pages: &mut Pages) -> Result<(), AllocError> {
-    write_fetches(pages)?;
+fn write_failures(rt: &impl Abort, pages: &mut Pages) {
+    write_fetches(rt, pages);
     pages.push(
+        rt,
         b"FAIL 0\nOFFER 0 j\nPOLL\n",
         b"AGAIN 64 1100\nOFFERED 65 100\nITEM 65 100 1 j\n",
-    )?;
+    );
     for id in 1..JOBS {
-        push_line(&mut pages.script, b"FAIL ", id, b"\n")?;
+        push_line(rt, &mut pages.script, b"FAIL ", id, b"\n");
     }
-    pages.push(b"FAIL 65\n", b"")
+    pages.push(rt, b"FAIL 65\n", b"");
 }
 
 // Asserts that the replies to the last 64 failures have the next ids in order, except where memory was
 // refused.
-fn expect_again(rt: &impl Abort, replies: &[u8], line: &mut Vec<u8>) -> Result<(), AllocError> {
+fn expect_again(rt: &impl Abort, replies: &[u8], line: &mut Vec<u8>) {
     let mut next_id = 66_u64;
     for reply in replies.split_inclusive(|&byte| byte == b'\n') {
         if reply != REFUSED {
             line.clear();
-            push_line(line, b"AGAIN ", next_id, b" 1100\n")?;
+            push_line(rt, line, b"AGAIN ", next_id, b" 1100\n");
             expect_bytes(rt, reply, line, 0);
             next_id = next_id.saturating_add(1);
         }
@@ -283,78 +286,66 @@ fn expect_again(rt: &impl Abort, replies: &[u8], line: &mut Vec<u8>) -> Result<(
         130,
         0,
     );
-    Ok(())
 }
 
 // Runs a session in which jobs fail while 0, 1, and so on up to 64 elements stand. A job whose failure
 // is refused stays held, and is offered again at the end. Returns the number of refusals.
-fn refused_failures(rt: &impl Abort, alloc: Global, pages: &mut Pages) -> Result<u64, Fail> {
-    write_failures(pages)?;
-    let session = session_of(rt, alloc, pages)?;
+fn refused_failures(rt: &impl Abort, alloc: Global, pages: &mut Pages) -> u64 {
+    write_failures(rt, pages);
+    let session = session_of(rt, alloc, pages);
     expect_number(rt, session.lost, 0, 0);
     match pages.sheet.bytes.strip_prefix(pages.replies.as_slice()) {
         // An offer was refused, so its job was not fetched.
         None => expect(rt, session.met == 1),
         Some(replies) => {
             expect_number(rt, session.offered, 130, 0);
-            expect_again(rt, replies, &mut pages.line)?;
+            expect_again(rt, replies, &mut pages.line);
         }
     }
-    Ok(session.met)
+    session.met
 }
 
 // Runs a session at whose end all jobs are held, and fail. A job whose failure is refused is lost.
 // Returns the number of refusals.
-fn refused_endings(rt: &impl Abort, alloc: Global, pages: &mut Pages) -> Result<u64, Fail> {
-    write_fetches(pages)?;
-    let session = session_of(rt, alloc, pages)?;
+fn refused_endings(rt: &impl Abort, alloc: Global, pages: &mut Pages) -> u64 {
+    write_fetches(rt, pages);
+    let session = session_of(rt, alloc, pages);
     if pages.sheet.bytes == pages.replies {
         expect_number(rt, session.offered.saturating_add(session.lost), 128, 0);
     } else {
         // An offer was refused, so its job was not fetched.
         expect(rt, session.met == 1 && session.lost == 0);
     }
-    Ok(session.met)
+    session.met
 }
 
 // Asserts that a refused failure takes no id: the job stays held, and the end of the session offers it
 // under the next id.
-fn expect_failure(
-    rt: &impl Abort,
-    session: Session,
-    pages: &mut Pages,
-    standing: u64,
-) -> Result<(), AllocError> {
+fn expect_failure(rt: &impl Abort, session: Session, pages: &mut Pages, standing: u64) {
     expect_number(rt, session.lost, 0, 0);
     let Some(reply) = pages.sheet.bytes.strip_prefix(pages.replies.as_slice()) else {
         // An offer was refused.
         expect(rt, session.met == 1);
-        return Ok(());
+        return;
     };
     let next_id = standing.saturating_add(1);
     expect(rt, session.last == Some((next_id, 0, 2)));
     if reply != REFUSED {
         pages.line.clear();
-        push_line(&mut pages.line, b"AGAIN ", next_id, b" 1100\n")?;
+        push_line(rt, &mut pages.line, b"AGAIN ", next_id, b" 1100\n");
         expect_bytes(rt, reply, &pages.line, 0);
     }
-    Ok(())
 }
 
 // Runs a session in which a job is fetched, `standing` others are offered, and the job fails, which is
 // the script's last line. Returns the number of refusals. The pages have the lines before that one.
-fn refused_failure_among(
-    rt: &impl Abort,
-    alloc: Global,
-    pages: &mut Pages,
-    standing: u64,
-) -> Result<u64, Fail> {
+fn refused_failure_among(rt: &impl Abort, alloc: Global, pages: &mut Pages, standing: u64) -> u64 {
     let len = pages.script.len();
-    pages.push(b"FAIL 0\n", b"")?;
-    let session = session_of(rt, alloc, pages)?;
-    expect_failure(rt, session, pages, standing)?;
+    pages.push(rt, b"FAIL 0\n", b"");
+    let session = session_of(rt, alloc, pages);
+    expect_failure(rt, session, pages, standing);
     pages.script.truncate(len);
-    Ok(session.met)
+    session.met
 }
 
 // Runs sessions in which one job fails, while so many elements stand, and none after one that met a
@@ -364,72 +355,71 @@ fn refused_failures_among(
     alloc: Global,
     pages: &mut Pages,
     standing: Range<u64>,
-) -> Result<u64, Fail> {
+) -> u64 {
     pages.begin(
+        rt,
         b"AT 100\nOFFER 0 j\nPOLL\n",
         b"NOW 100\nOFFERED 0 100\nITEM 0 100 1 j\n",
-    )?;
+    );
     for id in 1..=standing.start {
-        pages.push_standing(id)?;
+        pages.push_standing(rt, id);
     }
     for count in standing {
-        let met = refused_failure_among(rt, alloc, pages, count)?;
+        let met = refused_failure_among(rt, alloc, pages, count);
         if met > 0 {
-            return Ok(met);
+            return met;
         }
-        pages.push_standing(count.saturating_add(1))?;
+        pages.push_standing(rt, count.saturating_add(1));
     }
-    Ok(0)
+    0
 }
 
-fn refused_sessions(rt: &impl Abort, alloc: Global) -> Result<u64, Fail> {
-    let mut pages = blank_pages(alloc)?;
-    let offer = refused_offer(rt, alloc, &mut pages)?;
-    let failures = refused_failures(rt, alloc, &mut pages)?;
-    let endings = refused_endings(rt, alloc, &mut pages)?;
-    Ok(offer.saturating_add(failures).saturating_add(endings))
+fn refused_sessions(rt: &impl Abort, alloc: Global) -> u64 {
+    let mut pages = blank_pages(rt, alloc);
+    let offer = refused_offer(rt, alloc, &mut pages);
+    let failures = refused_failures(rt, alloc, &mut pages);
+    let endings = refused_endings(rt, alloc, &mut pages);
+    offer.saturating_add(failures).saturating_add(endings)
 }
 
 fn expect_refusals(rt: &impl Abort, refusals: u64) {
-    assert_eq!(rt; refusals, u64::from(REFUSALS));
+    expect_same(rt, refusals, u64::from(REFUSALS));
 }
 
 #[test]
-fn a_refused_allocation_refuses_one_request(rt: HostRuntime) -> Result<(), Fail> {
-    expect_refusals(&rt, refused_sessions(&rt, rt.alloc())?);
-    Ok(())
+fn a_refused_allocation_refuses_one_request(rt: HostRuntime) {
+    expect_refusals(&rt, refused_sessions(&rt, rt.alloc()));
 }
 
-fn expect_among(rt: &impl Abort, alloc: Global, standing: Range<u64>) -> Result<(), Fail> {
-    let mut pages = blank_pages(alloc)?;
-    expect_refusals(rt, refused_failures_among(rt, alloc, &mut pages, standing)?);
-    Ok(())
+fn expect_among(rt: &impl Abort, alloc: Global, standing: Range<u64>) {
+    let mut pages = blank_pages(rt, alloc);
+    expect_refusals(rt, refused_failures_among(rt, alloc, &mut pages, standing));
 }
 
 // The next five tests let a job fail while 0, 1, and so on up to 64 elements stand. They are five, since
 // for each refusal a test runs from its beginning.
 
 #[test]
-fn a_failure_is_refused_among_up_to_12(rt: HostRuntime) -> Result<(), Fail> {
-    expect_among(&rt, rt.alloc(), 0..13)
+fn a_failure_is_refused_among_up_to_12(rt: HostRuntime) {
+    expect_among(&rt, rt.alloc(), 0..13);
 }
 
 #[test]
-fn a_failure_is_refused_among_13_to_25(rt: HostRuntime) -> Result<(), Fail> {
-    expect_among(&rt, rt.alloc(), 13..26)
+fn a_failure_is_refused_among_13_to_25(rt: HostRuntime) {
+    expect_among(&rt, rt.alloc(), 13..26);
 }
 
 #[test]
-fn a_failure_is_refused_among_26_to_38(rt: HostRuntime) -> Result<(), Fail> {
-    expect_among(&rt, rt.alloc(), 26..39)
+fn a_failure_is_refused_among_26_to_38(rt: HostRuntime) {
+    expect_among(&rt, rt.alloc(), 26..39);
 }
 
 #[test]
-fn a_failure_is_refused_among_39_to_51(rt: HostRuntime) -> Result<(), Fail> {
-    expect_among(&rt, rt.alloc(), 39..52)
+fn a_failure_is_refused_among_39_to_51(rt: HostRuntime) {
+    expect_among(&rt, rt.alloc(), 39..52);
 }
 
 #[test]
-fn a_failure_is_refused_among_52_to_64(rt: HostRuntime) -> Result<(), Fail> {
-    expect_among(&rt, rt.alloc(), 52..65)
+fn a_failure_is_refused_among_52_to_64(rt: HostRuntime) {
+    expect_among(&rt, rt.alloc(), 52..65);
 }

@@ -1,14 +1,13 @@
 use crate::tests::devices::{
-    Dialogue, NEVER, Sheet, expect_bytes, expect_end, push_line, run_by, with_kept,
+    Dialogue, NEVER, Sheet, expect_bytes, expect_end, push, push_line, run_by, with_kept,
 };
 use rb_binary::BinaryTimer;
 use rb_kept::Kept;
 use rb_ledger::Tally;
 use rb_retry::Policy;
 use rb_session::{Ended, SessionFault};
-use std::alloc::{AllocError, Global};
+use std::alloc::Global;
 use std::process::Abort;
-use std::test::Fail;
 
 // Two jobs that expire at 150 and at 160 are fetched at moment 300. The first fails by its line,
 // the second at the end of the session. `REMOVE 2` takes out the first job's next attempt.
@@ -27,8 +26,8 @@ struct Outcome {
     text: Vec<u8>,
 }
 
-fn ran_twice(alloc: Global, script: &[u8], policy: &Policy) -> Result<Outcome, Fail> {
-    with_kept(alloc, 3_000, |kept, tally| {
+fn ran_twice(rt: &impl Abort, alloc: Global, script: &[u8], policy: &Policy) -> Outcome {
+    with_kept(rt, alloc, 3_000, |kept, tally| {
         ran_both(alloc, kept, tally, script, policy)
     })
 }
@@ -67,16 +66,15 @@ fn expect_failures(
     policy: Option<Policy>,
     wanted: &[u8],
     at: usize,
-) -> Result<(), Fail> {
+) {
     let policy = policy.expect(rt, "a policy");
-    let outcome = ran_twice(alloc, SCRIPT, &policy)?;
+    let outcome = ran_twice(rt, alloc, SCRIPT, &policy);
     expect_outcome(rt, &outcome, FETCHED, wanted, at);
-    Ok(())
 }
 
 // A delay counts from the failure, and a rate from the first expiry. Neither leads past 2^64 - 1.
 #[test]
-fn what_fails_follows_the_policy(rt: HostRuntime) -> Result<(), Fail> {
+fn what_fails_follows_the_policy(rt: HostRuntime) {
     for (at, (policy, wanted)) in [
         (
             Policy::fixed(0, 1_000),
@@ -106,13 +104,12 @@ fn what_fails_follows_the_policy(rt: HostRuntime) -> Result<(), Fail> {
     .into_iter()
     .enumerate()
     {
-        expect_failures(&rt, rt.alloc(), policy, wanted, at)?;
+        expect_failures(&rt, rt.alloc(), policy, wanted, at);
     }
-    Ok(())
 }
 
 #[test]
-fn the_first_attempt_may_be_the_last(rt: HostRuntime) -> Result<(), Fail> {
+fn the_first_attempt_may_be_the_last(rt: HostRuntime) {
     for (at, policy) in [
         Policy::fixed(0, 1),
         Policy::fixed(7, 1),
@@ -125,9 +122,8 @@ fn the_first_attempt_may_be_the_last(rt: HostRuntime) -> Result<(), Fail> {
     .enumerate()
     {
         let wanted = b"DEAD 0\nREMOVED no\nNONE\nSIZE 0\n";
-        expect_failures(&rt, rt.alloc(), policy, wanted, at)?;
+        expect_failures(&rt, rt.alloc(), policy, wanted, at);
     }
-    Ok(())
 }
 
 // A job that fails at 2^64 - 1, the greatest moment. Its first attempt expires at 5. The attempt
@@ -150,56 +146,45 @@ impl Chain {
 
     // Appends the line of the attempt that follows `failures` failures. The attempt's id is that
     // number, because each failure gives the next id.
-    fn push_attempt(
-        &self,
-        replies: &mut Vec<u8>,
-        word: &[u8],
-        failures: u64,
-    ) -> Result<(), AllocError> {
-        push_line(replies, word, failures, b" ")?;
-        push_line(replies, b"", self.expiry(failures), b" ")?;
-        push_line(replies, b"", failures.saturating_add(1), b" j\n")
+    fn push_attempt(&self, rt: &impl Abort, replies: &mut Vec<u8>, word: &[u8], failures: u64) {
+        push_line(rt, replies, word, failures, b" ");
+        push_line(rt, replies, b"", self.expiry(failures), b" ");
+        push_line(rt, replies, b"", failures.saturating_add(1), b" j\n");
     }
 
     // Appends the fetch and the failure of the attempt that follows `failures` failures.
-    fn push_failure(&self, dialogue: &mut Dialogue, failures: u64) -> Result<(), AllocError> {
-        push_line(&mut dialogue.script, b"POLL\nFAIL ", failures, b"\n")?;
-        self.push_attempt(&mut dialogue.replies, b"ITEM ", failures)?;
+    fn push_failure(&self, rt: &impl Abort, dialogue: &mut Dialogue, failures: u64) {
+        push_line(rt, &mut dialogue.script, b"POLL\nFAIL ", failures, b"\n");
+        self.push_attempt(rt, &mut dialogue.replies, b"ITEM ", failures);
         let next = failures.saturating_add(1);
-        push_line(&mut dialogue.replies, b"AGAIN ", next, b" ")?;
-        push_line(&mut dialogue.replies, b"", self.expiry(next), b"\n")
+        push_line(rt, &mut dialogue.replies, b"AGAIN ", next, b" ");
+        push_line(rt, &mut dialogue.replies, b"", self.expiry(next), b"\n");
     }
 
     // Appends the offer of a job that fails `failures` times and is then fetched once more.
-    fn push_failures(&self, dialogue: &mut Dialogue, failures: u64) -> Result<(), AllocError> {
+    fn push_failures(&self, rt: &impl Abort, dialogue: &mut Dialogue, failures: u64) {
         dialogue.push(
+            rt,
             b"AT 18446744073709551615\nOFFERAT 5 j\n",
             b"NOW 18446744073709551615\nOFFERED 0 5\n",
-        )?;
+        );
         for failure in 0..failures {
-            self.push_failure(dialogue, failure)?;
+            self.push_failure(rt, dialogue, failure);
         }
-        dialogue.script.extend_from_slice(b"POLL\n")?;
-        self.push_attempt(&mut dialogue.replies, b"ITEM ", failures)
+        push(rt, &mut dialogue.script, b"POLL\n");
+        self.push_attempt(rt, &mut dialogue.replies, b"ITEM ", failures);
     }
 }
 
 // Asserts that a 1,000th attempt is offered if the 999th is held at the end.
-fn expect_one_more(
-    rt: &impl Abort,
-    alloc: Global,
-    policy: &Policy,
-    chain: Chain,
-    at: usize,
-) -> Result<(), Fail> {
+fn expect_one_more(rt: &impl Abort, alloc: Global, policy: &Policy, chain: Chain, at: usize) {
     let mut dialogue = Dialogue::new(alloc);
-    chain.push_failures(&mut dialogue, 998)?;
-    let outcome = ran_twice(alloc, &dialogue.script, policy)?;
+    chain.push_failures(rt, &mut dialogue, 998);
+    let outcome = ran_twice(rt, alloc, &dialogue.script, policy);
     let mut left = Vec::new(alloc);
-    chain.push_attempt(&mut left, b"HEAD ", 999)?;
-    left.extend_from_slice(b"SIZE 1\n")?;
+    chain.push_attempt(rt, &mut left, b"HEAD ", 999);
+    push(rt, &mut left, b"SIZE 1\n");
     expect_outcome(rt, &outcome, &dialogue.replies, &left, at);
-    Ok(())
 }
 
 // Asserts that nothing follows the 1,000th attempt, which is held at the end or fails by its line.
@@ -211,13 +196,12 @@ fn expect_no_more(
     chain: Chain,
     last: (&[u8], &[u8]),
     at: usize,
-) -> Result<(), Fail> {
+) {
     let mut dialogue = Dialogue::new(alloc);
-    chain.push_failures(&mut dialogue, 999)?;
-    dialogue.script.extend_from_slice(last.0)?;
-    let outcome = ran_twice(alloc, &dialogue.script, policy)?;
+    chain.push_failures(rt, &mut dialogue, 999);
+    push(rt, &mut dialogue.script, last.0);
+    let outcome = ran_twice(rt, alloc, &dialogue.script, policy);
     expect_outcome(rt, &outcome, &dialogue.replies, last.1, at);
-    Ok(())
 }
 
 fn expect_attempts(
@@ -226,16 +210,16 @@ fn expect_attempts(
     policy: Option<Policy>,
     chain: Chain,
     at: usize,
-) -> Result<(), Fail> {
+) {
     let policy = policy.expect(rt, "a policy");
-    expect_one_more(rt, alloc, &policy, chain, at)?;
+    expect_one_more(rt, alloc, &policy, chain, at);
     let held = (b"".as_slice(), b"NONE\nSIZE 0\n".as_slice());
-    expect_no_more(rt, alloc, &policy, chain, held, at)?;
+    expect_no_more(rt, alloc, &policy, chain, held, at);
     let failed = (
         b"FAIL 999\n".as_slice(),
         b"DEAD 999\nNONE\nSIZE 0\n".as_slice(),
     );
-    expect_no_more(rt, alloc, &policy, chain, failed, at)
+    expect_no_more(rt, alloc, &policy, chain, failed, at);
 }
 
 fn chain_from(start: u64, step: u64) -> Chain {
@@ -243,7 +227,7 @@ fn chain_from(start: u64, step: u64) -> Chain {
 }
 
 #[test]
-fn a_job_has_a_thousand_attempts(rt: HostRuntime) -> Result<(), Fail> {
+fn a_job_has_a_thousand_attempts(rt: HostRuntime) {
     for (at, (policy, chain)) in [
         (Policy::fixed(0, 1_000), chain_from(u64::MAX, 0)),
         (Policy::fixed(7, 1_000), chain_from(u64::MAX, 0)),
@@ -255,7 +239,6 @@ fn a_job_has_a_thousand_attempts(rt: HostRuntime) -> Result<(), Fail> {
     .into_iter()
     .enumerate()
     {
-        expect_attempts(&rt, rt.alloc(), policy, chain, at)?;
+        expect_attempts(&rt, rt.alloc(), policy, chain, at);
     }
-    Ok(())
 }

@@ -1,7 +1,7 @@
 // A text that stops before its end is refused, wherever it stops. The other faults of texts are
 // cases, in `cases/unreadable.case` and `cases/replays.case`.
 
-use crate::tests::devices::{expect, expect_unreadable};
+use crate::tests::replay::devices::{expect, expect_unreadable};
 use rb_replay::{TextReason, read_history};
 use std::alloc::Global;
 use std::process::Abort;

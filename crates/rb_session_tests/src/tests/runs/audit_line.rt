@@ -1,13 +1,12 @@
+use crate::tests::devices::{expect_made, expect_same};
 use rb_ending::audit_line;
 use rb_queue::Audit;
 use std::alloc::Global;
 use std::process::Abort;
 
 fn expect_line(rt: &impl Abort, alloc: Global, audit: &Audit, wanted: &str) {
-    match audit_line(alloc, audit) {
-        Ok(line) => assert_eq!(rt; line.as_str(), wanted),
-        Err(fault) => assert!(rt; false, "{fault:?}"),
-    }
+    let line = expect_made(rt, audit_line(alloc, audit));
+    expect_same(rt, line.as_str(), wanted);
 }
 
 #[test]

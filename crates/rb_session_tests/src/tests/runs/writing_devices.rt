@@ -1,6 +1,6 @@
-use crate::tests::devices::{
-    AT_END, AT_ONCE, Fault, GATHERED, Sink, Source, WAYS, Way, expect_bytes, expect_count,
-    expect_end, first_lines, ran,
+use crate::tests::devices::{expect_bytes, expect_count};
+use crate::tests::runs::devices::{
+    AT_END, AT_ONCE, Fault, GATHERED, Sink, Source, WAYS, Way, expect_end, first_lines, ran,
 };
 use rb_ending::BrokerFault;
 use std::alloc::Global;

@@ -1,6 +1,7 @@
 // What a run reports of its session and of its history, each by itself.
 
-use crate::tests::devices::{End, Fault, Sink, Source, delivered, expect, expect_bytes, options};
+use crate::tests::devices::expect;
+use crate::tests::runs::devices::{End, Fault, Sink, Source, delivered, expect_history, options};
 use rb_history::HistoryFault;
 use rb_options::TimerKind;
 use rb_queue::Opening;
@@ -47,25 +48,18 @@ fn expect_report(
     expect(rt, report.recording == recording);
 }
 
-fn expect_history(rt: &impl Abort, device: &Option<Sink<'static>>, wanted: &[u8]) {
-    match device {
-        Some(device) => expect_bytes(rt, &device.bytes, wanted, 0),
-        None => expect(rt, false),
-    }
-}
-
 fn expect_written(rt: &impl Abort, alloc: Global, end: End, session: Result<Ended, SessionFault>) {
     let mut device = Some(Sink::new(alloc));
     let report = reported(rt, alloc, end, &mut device);
     expect_report(rt, report, session, Recording::Written);
-    expect_history(rt, &device, HISTORY);
+    expect_history(rt, &device, HISTORY, 0);
 }
 
 fn expect_failed(rt: &impl Abort, alloc: Global, end: End, session: Result<Ended, SessionFault>) {
     let mut device = Some(Sink::faulty(alloc, 0, Fault::Fails));
     let report = reported(rt, alloc, end, &mut device);
     expect_report(rt, report, session, Recording::Failed(HistoryFault::Write));
-    expect_history(rt, &device, b"");
+    expect_history(rt, &device, b"", 0);
 }
 
 fn expect_unasked(rt: &impl Abort, alloc: Global, end: End, session: Result<Ended, SessionFault>) {

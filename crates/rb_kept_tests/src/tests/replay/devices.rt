@@ -1,3 +1,4 @@
+use crate::tests::fixtures::expect_same;
 use rb_history::{HistoryRoom, write_history_in};
 use rb_protocol::{LimitedWriter, WriteFault, WriterStatus};
 use rb_queue::{Event, Opening};
@@ -18,6 +19,8 @@ pub struct Device {
     pub longest: usize,
     pub calls: usize,
     pub fails_at: usize,
+    /// Whether two of three writes are interrupted.
+    pub is_restless: bool,
 }
 
 impl Device {
@@ -28,6 +31,7 @@ impl Device {
             longest: 0,
             calls: 0,
             fails_at,
+            is_restless: false,
         }
     }
 
@@ -44,6 +48,9 @@ impl Device {
 impl Write for Device {
     fn write(&mut self, buf: &[u8]) -> io::Result<usize> {
         self.call()?;
+        if self.is_restless && self.calls % 3 != 0 {
+            return Err(ErrorKind::Interrupted.into());
+        }
         self.longest = self.longest.max(buf.len());
         let count = self.most.min(buf.len());
         self.bytes.extend_from_slice(&buf[..count])?;
@@ -52,30 +59,6 @@ impl Write for Device {
 
     fn flush(&mut self) -> io::Result<()> {
         self.call()
-    }
-}
-
-/// A writer that takes at most `most` bytes at each third write, and is interrupted at the others.
-#[derive(Drop)]
-pub struct Restless {
-    pub bytes: Vec<u8>,
-    pub most: usize,
-    pub writes: u64,
-}
-
-impl Write for Restless {
-    fn write(&mut self, buf: &[u8]) -> io::Result<usize> {
-        self.writes = self.writes.saturating_add(1);
-        if self.writes % 3 != 0 {
-            return Err(ErrorKind::Interrupted.into());
-        }
-        let count = self.most.min(buf.len());
-        self.bytes.extend_from_slice(&buf[..count])?;
-        Ok(count)
-    }
-
-    fn flush(&mut self) -> io::Result<()> {
-        Ok(())
     }
 }
 
@@ -130,11 +113,11 @@ pub fn expect(rt: &impl Abort, holds: bool) {
 }
 
 pub fn expect_count(rt: &impl Abort, count: usize, wanted: usize) {
-    assert_eq!(rt; count, wanted);
+    expect_same(rt, count, wanted);
 }
 
 pub fn expect_bytes(rt: &impl Abort, bytes: &[u8], wanted: &[u8]) {
-    assert_eq!(rt; bytes, wanted);
+    expect_same(rt, bytes, wanted);
 }
 
 pub fn expect_written(
@@ -142,9 +125,9 @@ pub fn expect_written(
     answer: Result<(), HistoryFault>,
     wanted: Result<(), HistoryFault>,
 ) {
-    assert_eq!(rt; answer, wanted);
+    expect_same(rt, answer, wanted);
 }
 
 pub fn expect_unreadable(rt: &impl Abort, fault: Option<TextFault>, line: u64, reason: TextReason) {
-    assert_eq!(rt; fault, Some(TextFault::At { line, reason }));
+    expect_same(rt, fault, Some(TextFault::At { line, reason }));
 }

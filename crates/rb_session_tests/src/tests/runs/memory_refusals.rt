@@ -1,16 +1,16 @@
 // Each allocation of a script's run, and of a replay, an audit line, an opening and a read of a
 // file, is refused in turn.
 
-use crate::tests::devices::{Sink, Source, WAYS, Way, expect, expect_bytes, recorded};
+use crate::tests::devices::{expect, expect_bytes, expect_made, expect_same};
+use crate::tests::runs::devices::{Sink, Source, WAYS, Way, recorded};
 use rb_ending::{BrokerFault, audit_line};
 use rb_options::ReplayOptions;
 use rb_queue::{Audit, Opening};
 use rb_retry::Policy;
 use rb_runs::{opening_in, read_all, run_replay};
 use rb_session::Ended;
-use std::alloc::{AllocError, Global};
+use std::alloc::Global;
 use std::process::Abort;
-use std::test::Fail;
 
 // The number of refusals that the test meets. `dev/refuse_allocations` sets 1 and refuses each
 // allocation of the test in turn.
@@ -80,10 +80,10 @@ const REFUSED: [Run<'static>; 5] = [
 ];
 
 // Makes room for a text, and tries once more if memory is refused.
-fn page(alloc: Global) -> Result<Vec<u8>, AllocError> {
+fn page(rt: &impl Abort, alloc: Global) -> Vec<u8> {
     match Vec::with_capacity(alloc, PAGE_BYTES) {
-        Ok(page) => Ok(page),
-        Err(_) => Vec::with_capacity(alloc, PAGE_BYTES),
+        Ok(page) => page,
+        Err(_) => expect_made(rt, Vec::with_capacity(alloc, PAGE_BYTES)),
     }
 }
 
@@ -127,31 +127,26 @@ impl Outcome {
     }
 }
 
-fn run_once(rt: &impl Abort, alloc: Global, way: Way) -> Result<Outcome, Fail> {
-    let (sink, mut history) = (Sink::of(page(alloc)?), Some(Sink::of(page(alloc)?)));
+fn run_once(rt: &impl Abort, alloc: Global, way: Way) -> Outcome {
+    let (sink, mut history) = (Sink::of(page(rt, alloc)), Some(Sink::of(page(rt, alloc))));
     let source = Source::of(SCRIPT, usize::MAX);
     let ran = recorded(rt, alloc, way, 100, source, sink, &mut history);
-    Ok(Outcome {
+    Outcome {
         ended: ran.ended,
         unread: ran.unread,
         replies: ran.bytes,
         history: history.expect(rt, "a history").bytes,
-    })
+    }
 }
 
-fn runs(rt: &impl Abort, alloc: Global, way: Way) -> Result<bool, Fail> {
-    let outcome = run_once(rt, alloc, way)?;
-    Ok(outcome.is_whole(rt))
+fn runs(rt: &impl Abort, alloc: Global, way: Way) -> bool {
+    run_once(rt, alloc, way).is_whole(rt)
 }
 
 // Returns whether the run met a refusal. If it did, runs the script once more and asserts that the
 // second run is whole.
-fn refused_run(rt: &impl Abort, alloc: Global, way: Way) -> Result<bool, Fail> {
-    if runs(rt, alloc, way)? {
-        return Ok(false);
-    }
-    expect(rt, runs(rt, alloc, way)?);
-    Ok(true)
+fn refused_run(rt: &impl Abort, alloc: Global, way: Way) -> bool {
+    !runs(rt, alloc, way) && again(rt, runs(rt, alloc, way))
 }
 
 // Asserts that a call that is not whole ended with `Memory`. Returns false: the call is not whole.
@@ -238,13 +233,12 @@ fn refused_reading(rt: &impl Abort, alloc: Global) -> bool {
     !reads(rt, alloc) && again(rt, reads(rt, alloc))
 }
 
-fn refused_runs(rt: &impl Abort, alloc: Global) -> Result<u32, Fail> {
+fn refused_runs(rt: &impl Abort, alloc: Global) -> u32 {
     let mut refusals = 0_u32;
     for way in WAYS {
-        let refused = refused_run(rt, alloc, way)?;
-        refusals = refusals.saturating_add(u32::from(refused));
+        refusals = refusals.saturating_add(u32::from(refused_run(rt, alloc, way)));
     }
-    Ok(refusals)
+    refusals
 }
 
 fn refused_calls(rt: &impl Abort, alloc: Global) -> u32 {
@@ -261,8 +255,7 @@ fn refused_calls(rt: &impl Abort, alloc: Global) -> u32 {
 }
 
 #[test]
-fn a_refused_allocation_is_answered(rt: HostRuntime) -> Result<(), Fail> {
-    let refusals = refused_runs(&rt, rt.alloc())?.saturating_add(refused_calls(&rt, rt.alloc()));
-    assert_eq!(rt; refusals, REFUSALS);
-    Ok(())
+fn a_refused_allocation_is_answered(rt: HostRuntime) {
+    let refusals = refused_runs(&rt, rt.alloc()).saturating_add(refused_calls(&rt, rt.alloc()));
+    expect_same(&rt, refusals, REFUSALS);
 }

@@ -1,17 +1,17 @@
-use crate::tests::devices::{End, Fault, Source, expect_bytes, expect_count};
+use crate::tests::devices::{expect_bytes, expect_count, expect_made, expect_same, push};
+use crate::tests::runs::devices::{End, Fault, Source};
 use rb_ending::BrokerFault;
 use rb_runs::read_all;
-use std::alloc::{AllocError, Global};
+use std::alloc::Global;
 use std::process::Abort;
-use std::test::Fail;
 
 // Returns 200,000 bytes: three pieces of 64 KiB, and a rest.
-fn long_text(alloc: Global) -> Result<Vec<u8>, AllocError> {
+fn long_text(rt: &impl Abort, alloc: Global) -> Vec<u8> {
     let mut text = Vec::new(alloc);
     for byte in 0..200_000_u32 {
-        text.extend_from_slice(&[(byte % 251) as u8])?;
+        push(rt, &mut text, &[(byte % 251) as u8]);
     }
-    Ok(text)
+    text
 }
 
 // Asserts that `source` is read as the bytes `wanted`. Returns the number of reads.
@@ -23,24 +23,22 @@ fn expect_text(
     at: usize,
 ) -> usize {
     let mut source = source;
-    match read_all(alloc, &mut source) {
-        Ok(text) => expect_bytes(rt, &text, wanted, at),
-        Err(fault) => assert!(rt; false, "{fault:?}: {at}"),
-    }
+    let text = expect_made(rt, read_all(alloc, &mut source));
+    expect_bytes(rt, &text, wanted, at);
     source.calls
 }
 
 fn expect_fault(rt: &impl Abort, alloc: Global, source: Source<'_>, wanted: BrokerFault) -> usize {
     let mut source = source;
     let fault = read_all(alloc, &mut source).err();
-    assert_eq!(rt; fault, Some(wanted));
+    expect_same(rt, fault, Some(wanted));
     source.calls
 }
 
 #[test]
-fn a_file_is_read_in_pieces_of_any_size(rt: HostRuntime) -> Result<(), Fail> {
+fn a_file_is_read_in_pieces_of_any_size(rt: HostRuntime) {
     let alloc = rt.alloc();
-    let long = long_text(alloc)?;
+    let long = long_text(&rt, alloc);
     for most in [1_000, 65_536, usize::MAX] {
         expect_text(&rt, alloc, Source::of(&long, most), &long, most);
     }
@@ -48,17 +46,15 @@ fn a_file_is_read_in_pieces_of_any_size(rt: HostRuntime) -> Result<(), Fail> {
         let source = Source::faulty(&long, usize::MAX, call, Fault::Fails);
         expect_fault(&rt, alloc, source, BrokerFault::ReadHistory);
     }
-    Ok(())
 }
 
 // The five reads give three whole pieces, the rest, and the end.
 #[test]
-fn a_read_of_a_file_takes_64_kib(rt: HostRuntime) -> Result<(), Fail> {
+fn a_read_of_a_file_takes_64_kib(rt: HostRuntime) {
     let alloc = rt.alloc();
-    let long = long_text(alloc)?;
+    let long = long_text(&rt, alloc);
     let reads = expect_text(&rt, alloc, Source::of(&long, usize::MAX), &long, 0);
     expect_count(&rt, reads, 5, 0);
-    Ok(())
 }
 
 // An interrupted read counts like a read that gives a byte.

@@ -1,5 +1,6 @@
 ghost use Rattle.std.specs.Prelude.{◌≤◌, length, IfOk};
 
+use crate::tests::devices::{expect_bytes, expect_same_at};
 use rb_ending::BrokerFault;
 use rb_options::{ScriptOptions, TimerKind};
 use rb_protocol::{LimitedReader, LimitedWriter, WriterStatus};
@@ -405,23 +406,17 @@ pub fn recorded(
 
 // Comparisons are functions without clauses, so tests that call them have nothing to prove.
 
+/// Asserts what the device of a history received.
+pub fn expect_history(rt: &impl Abort, device: &Option<Sink<'static>>, wanted: &[u8], at: usize) {
+    let device = device.as_ref().expect(rt, "a device");
+    expect_bytes(rt, &device.bytes, wanted, at);
+}
+
 pub fn expect_end(
     rt: &impl Abort,
     ended: Result<Ended, BrokerFault>,
     wanted: Result<Ended, BrokerFault>,
     at: usize,
 ) {
-    assert_eq!(rt; ended, wanted, "{at}");
-}
-
-pub fn expect_bytes(rt: &impl Abort, bytes: &[u8], wanted: &[u8], at: usize) {
-    assert!(rt; bytes == wanted, "{at}");
-}
-
-pub fn expect_count(rt: &impl Abort, count: usize, wanted: usize, at: usize) {
-    assert_eq!(rt; count, wanted, "{at}");
-}
-
-pub fn expect(rt: &impl Abort, holds: bool) {
-    assert!(rt; holds);
+    expect_same_at(rt, ended, wanted, at);
 }

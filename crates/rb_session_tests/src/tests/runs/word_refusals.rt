@@ -1,5 +1,6 @@
 // Each allocation that reading words makes, refused in turn.
 
+use crate::tests::devices::expect_same;
 use clap::Error;
 use clap::error::ErrorKind;
 use rb_arguments::{Words, read_words};
@@ -14,7 +15,7 @@ const REFUSALS: u32 = 0;
 
 // What a line asks for, besides the files, which are the same in all lines here, or why it is
 // refused.
-#[derive(Clone, Copy, Debug, PartialEq, Eq)]
+#[derive(Clone, Copy, PartialEq, Eq)]
 enum Answer {
     Script(ScriptOptions),
     Replay(ReplayOptions),
@@ -73,8 +74,8 @@ fn is_text(found: &Option<String>, wanted: &str) -> bool {
 }
 
 // Comparisons are functions without clauses, so tests that call them have nothing to prove.
-fn expect_same(rt: &impl Abort, words: &[&str], found: Option<Answer>, wanted: Answer) {
-    assert_eq!(rt; found, Some(wanted), "{words:?}");
+fn expect_answer(rt: &impl Abort, words: &[&str], found: Option<Answer>, wanted: Answer) {
+    assert!(rt; found == Some(wanted), "{words:?}");
 }
 
 // Returns whether the line met a refusal. If so, it is read once more.
@@ -83,9 +84,9 @@ fn refused_line(rt: &impl Abort, alloc: Global, words: &[&str], answer: Answer) 
     if read == Some(answer) {
         return false;
     }
-    expect_same(rt, words, read, Answer::Refused(ErrorKind::OutOfMemory));
+    expect_answer(rt, words, read, Answer::Refused(ErrorKind::OutOfMemory));
     let again = answer_of(&read_words(alloc, words));
-    expect_same(rt, words, again, answer);
+    expect_answer(rt, words, again, answer);
     true
 }
 
@@ -132,25 +133,23 @@ const SERVE: [&'static str; 18] = [
     "--attempts=9",
 ];
 
-#[test]
-fn a_refused_allocation_is_answered(rt: HostRuntime) {
-    let alloc = rt.alloc();
-    let delayed = Policy::fixed(6, 9).expect(&rt, "a policy");
-    let rated = Policy::fixed_rate(8, 9).expect(&rt, "a policy");
-    let script = ScriptOptions {
+fn script_answer(rt: &impl Abort) -> Answer {
+    Answer::Script(ScriptOptions {
         timer: TimerKind::Wheel,
         calls: 7,
-        policy: delayed,
-    };
-    let replay = ReplayOptions {
+        policy: Policy::fixed(6, 9).expect(rt, "a policy"),
+    })
+}
+
+fn replay_answer(rt: &impl Abort) -> Answer {
+    let rated = Policy::fixed_rate(8, 9).expect(rt, "a policy");
+    Answer::Replay(ReplayOptions {
         chains: Some(rated),
-    };
-    let run = ServerRunOptions {
-        workers: 2,
-        calls: 7,
-        policy: rated,
-    };
-    let serve = ServeOptions {
+    })
+}
+
+fn serve_answer(rt: &impl Abort) -> Answer {
+    Answer::Serve(ServeOptions {
         port: 7011,
         socket: Some(4),
         until_input_ends: true,
@@ -160,32 +159,54 @@ fn a_refused_allocation_is_answered(rt: HostRuntime) {
         timer: TimerKind::Pairing,
         sessions: 5,
         turns: 11,
-        run,
-    };
+        run: ServerRunOptions {
+            workers: 2,
+            calls: 7,
+            policy: Policy::fixed_rate(8, 9).expect(rt, "a policy"),
+        },
+    })
+}
+
+// Reads lines that ask for a run. Returns the number of refusals that they met.
+fn refused_commands(rt: &impl Abort, alloc: Global) -> u32 {
+    let script = refused_line(rt, alloc, &SCRIPT, script_answer(rt));
+    let replay = refused_line(rt, alloc, &REPLAY, replay_answer(rt));
+    let serve = refused_line(rt, alloc, &SERVE, serve_answer(rt));
+    u32::from(script)
+        .saturating_add(u32::from(replay))
+        .saturating_add(u32::from(serve))
+}
+
+// Reads lines that are refused whether there is memory or not. Returns the number of refusals that they met.
+fn refused_faults(rt: &impl Abort, alloc: Global) -> u32 {
     let mut refusals = 0_u32;
-    for (words, answer) in [
-        (SCRIPT.as_slice(), Answer::Script(script)),
-        (REPLAY.as_slice(), Answer::Replay(replay)),
-        (SERVE.as_slice(), Answer::Serve(serve)),
+    for (words, kind) in [
         (
             ["rb_broker", "scripts"].as_slice(),
-            Answer::Refused(ErrorKind::InvalidSubcommand),
+            ErrorKind::InvalidSubcommand,
         ),
         (
             ["rb_broker", "script", "--call", "7"].as_slice(),
-            Answer::Refused(ErrorKind::UnknownArgument),
+            ErrorKind::UnknownArgument,
         ),
         (
             ["rb_broker", "serve", "--timer=tree"].as_slice(),
-            Answer::Refused(ErrorKind::InvalidValue),
+            ErrorKind::InvalidValue,
         ),
         (
             ["rb_broker", "script", "--delay=1", "--rate=1"].as_slice(),
-            Answer::Refused(ErrorKind::ArgumentConflict),
+            ErrorKind::ArgumentConflict,
         ),
     ] {
-        let refused = refused_line(&rt, alloc, words, answer);
+        let refused = refused_line(rt, alloc, words, Answer::Refused(kind));
         refusals = refusals.saturating_add(u32::from(refused));
     }
-    assert_eq!(rt; refusals, REFUSALS);
+    refusals
+}
+
+#[test]
+fn a_refused_allocation_is_answered(rt: HostRuntime) {
+    let commands = refused_commands(&rt, rt.alloc());
+    let faults = refused_faults(&rt, rt.alloc());
+    expect_same(&rt, commands.saturating_add(faults), REFUSALS);
 }

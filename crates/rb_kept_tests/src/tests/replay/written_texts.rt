@@ -1,11 +1,14 @@
-use crate::tests::devices::{Device, NEVER, expect, expect_bytes, expect_written, write_to};
-use crate::tests::fixtures::{EMPTY, NEXT_ID, history, is_read_as, next_run, second, two_seats};
+use crate::tests::replay::devices::{
+    Device, NEVER, expect, expect_bytes, expect_written, write_to,
+};
+use crate::tests::replay::fixtures::{
+    EMPTY, NEXT_ID, history, is_read_as, next_run, second, two_seats,
+};
 use rb_replay::{
     History, HistoryFault, no_fault_of_text, no_text_of_two, one_fault, one_text_each,
 };
 use std::alloc::Global;
 use std::process::Abort;
-use std::test::Fail;
 
 const EMPTY_RUN: &[u8] = b"history 3\nopen 0 0 0\nend 0\n";
 
@@ -34,42 +37,52 @@ fn written_as(
 }
 
 #[test]
-fn an_empty_run_is_written(rt: HostRuntime) -> Result<(), Fail> {
+fn an_empty_run_is_written(rt: HostRuntime) {
     let alloc = rt.alloc();
-    let run = history(alloc, EMPTY, &[])?;
+    let run = history(&rt, alloc, EMPTY, &[]);
     written_as(&rt, alloc, &run, (99, 99), Ok(()), EMPTY_RUN);
     one_text_each();
     no_text_of_two();
     no_fault_of_text();
     one_fault();
-    Ok(())
 }
 
 #[test]
-fn runs_are_written(rt: HostRuntime) -> Result<(), Fail> {
+fn runs_are_written(rt: HostRuntime) {
     let alloc = rt.alloc();
-    let run = history(alloc, EMPTY, &two_seats(&rt))?;
+    let run = history(&rt, alloc, EMPTY, &two_seats(&rt));
     written_as(&rt, alloc, &run, (999, 99), Ok(()), TWO_SEATS);
-    let run = history(alloc, Some((&[second(&rt)], NEXT_ID)), &next_run(&rt))?;
-    written_as(&rt, alloc, &run, (7, 99), Ok(()), NEXT_RUN);
-    Ok(())
+    written_as(
+        &rt,
+        alloc,
+        &second_run(&rt, alloc),
+        (7, 99),
+        Ok(()),
+        NEXT_RUN,
+    );
 }
 
-#[test]
-fn what_was_written_is_read(rt: HostRuntime) -> Result<(), Fail> {
-    let alloc = rt.alloc();
-    let run = history(alloc, Some((&[second(&rt)], NEXT_ID)), &next_run(&rt))?;
+// Returns the history of a run that follows one in which a job failed once.
+fn second_run(rt: &impl Abort, alloc: Global) -> History {
+    history(rt, alloc, Some((&[second(rt)], NEXT_ID)), &next_run(rt))
+}
+
+fn is_read_again(rt: &impl Abort, alloc: Global, run: &History) {
     let mut device = Device::new(alloc, 999, NEVER);
-    let ended = write_to(&rt, alloc, run.opening(), run.events(), &mut device);
-    expect_written(&rt, ended, Ok(()));
-    expect(&rt, is_read_as(alloc, &device.bytes, &run));
-    Ok(())
+    let ended = write_to(rt, alloc, run.opening(), run.events(), &mut device);
+    expect_written(rt, ended, Ok(()));
+    expect(rt, is_read_as(alloc, &device.bytes, run));
 }
 
 #[test]
-fn a_device_that_fails_has_the_first_part(rt: HostRuntime) -> Result<(), Fail> {
+fn what_was_written_is_read(rt: HostRuntime) {
+    is_read_again(&rt, rt.alloc(), &second_run(&rt, rt.alloc()));
+}
+
+#[test]
+fn a_device_that_fails_has_the_first_part(rt: HostRuntime) {
     let alloc = rt.alloc();
-    let run = history(alloc, EMPTY, &two_seats(&rt))?;
+    let run = history(&rt, alloc, EMPTY, &two_seats(&rt));
     for (most, fails_at, count) in [
         (999, 0, 0),
         (40, 2, 80),
@@ -86,5 +99,4 @@ fn a_device_that_fails_has_the_first_part(rt: HostRuntime) -> Result<(), Fail> {
             text,
         );
     }
-    Ok(())
 }

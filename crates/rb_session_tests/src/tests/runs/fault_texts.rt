@@ -1,28 +1,18 @@
+use crate::tests::devices::{expect_made, expect_same};
 use rb_ending::BrokerFault;
 use rb_replay::HistoryFault;
 use rb_session::SessionFault;
-use std::alloc::{AllocError, Global};
+use std::alloc::Global;
 use std::process::Abort;
-use std::test::Fail;
 
-fn expect_fault(
-    rt: &impl Abort,
-    alloc: Global,
-    fault: BrokerFault,
-    status: u8,
-    text: &str,
-) -> Result<(), AllocError> {
-    assert_eq!(rt; fault.status(), status);
-    assert_eq!(rt; fault.to_string(alloc)?.as_str(), text);
-    Ok(())
-}
-
-fn expect_same(rt: &impl Abort, fault: BrokerFault, wanted: BrokerFault) {
-    assert_eq!(rt; fault, wanted);
+fn expect_fault(rt: &impl Abort, alloc: Global, fault: BrokerFault, status: u8, text: &str) {
+    let shown = expect_made(rt, fault.to_string(alloc));
+    expect_same(rt, fault.status(), status);
+    expect_same(rt, shown.as_str(), text);
 }
 
 #[test]
-fn faults_have_a_status_and_a_text(rt: HostRuntime) -> Result<(), Fail> {
+fn faults_have_a_status_and_a_text(rt: HostRuntime) {
     let alloc = rt.alloc();
     for (session, fault, status, text) in [
         (
@@ -51,13 +41,12 @@ fn faults_have_a_status_and_a_text(rt: HostRuntime) -> Result<(), Fail> {
         ),
     ] {
         expect_same(&rt, BrokerFault::from(session), fault);
-        expect_fault(&rt, alloc, fault, status, text)?;
+        expect_fault(&rt, alloc, fault, status, text);
     }
-    Ok(())
 }
 
 #[test]
-fn faults_of_files_and_servers_have_a_status_and_a_text(rt: HostRuntime) -> Result<(), Fail> {
+fn faults_of_files_and_servers_have_a_status_and_a_text(rt: HostRuntime) {
     let alloc = rt.alloc();
     for (fault, status, text) in [
         (BrokerFault::ReadHistory, 3, "cannot read history"),
@@ -67,11 +56,10 @@ fn faults_of_files_and_servers_have_a_status_and_a_text(rt: HostRuntime) -> Resu
         (BrokerFault::Worker, 3, "cannot start worker"),
         (BrokerFault::NotGathered, 3, "passes not gathered"),
     ] {
-        expect_fault(&rt, alloc, fault, status, text)?;
+        expect_fault(&rt, alloc, fault, status, text);
     }
     let written = BrokerFault::from(HistoryFault::Write);
     expect_same(&rt, written, BrokerFault::WriteHistory);
     let missing = BrokerFault::from(HistoryFault::Memory);
     expect_same(&rt, missing, BrokerFault::Memory);
-    Ok(())
 }

@@ -1,3 +1,4 @@
+use crate::tests::fixtures::{expect_made, expect_same};
 use rb_delayed::{Element, Payload};
 use rb_queue::{Act, Audit, Event, Ids, Items, Opening, Sequence};
 use rb_replay::{
@@ -5,9 +6,8 @@ use rb_replay::{
     read_history,
 };
 use rb_retry::Policy;
-use std::alloc::{AllocError, Global};
+use std::alloc::Global;
 use std::process::Abort;
-use std::test::Fail;
 
 /// What an event did, as a row states it. It owns nothing, so a row can be copied.
 #[derive(Clone, Copy)]
@@ -106,18 +106,18 @@ pub fn next_run(rt: &impl Abort) -> [Row; 3] {
     ]
 }
 
-fn drained(alloc: Global, given: [Option<u64>; 3]) -> Result<Ids, AllocError> {
+fn drained(rt: &impl Abort, alloc: Global, given: [Option<u64>; 3]) -> Ids {
     let mut ids = Vec::new(alloc);
     for id in given {
         if let Some(id) = id {
-            ids.push(id)?;
+            expect_made(rt, ids.push(id));
         }
     }
-    Ok(Ids::new(ids))
+    Ids::new(ids)
 }
 
-fn act(alloc: Global, deed: Deed) -> Result<Act, AllocError> {
-    Ok(match deed {
+fn act(rt: &impl Abort, alloc: Global, deed: Deed) -> Act {
+    match deed {
         Deed::Offer(element) => Act::Offer(element),
         Deed::Poll(given) => Act::Poll(given),
         Deed::Take(id) => Act::Take(id),
@@ -131,57 +131,63 @@ fn act(alloc: Global, deed: Deed) -> Result<Act, AllocError> {
         Deed::Peek(shown) => Act::Peek(shown),
         Deed::Remove(id, found) => Act::Remove { id, found },
         Deed::Drain(max, given) => {
-            let ids = drained(alloc, given)?;
-            Act::Drain { max, ids }
+            Act::Drain {
+                max,
+                ids: drained(rt, alloc, given),
+            }
         }
         Deed::Clear => Act::Clear,
         Deed::Size(count) => Act::Size(count),
-    })
+    }
 }
 
-pub fn push_row(events: &mut Vec<Event>, alloc: Global, row: Row) -> Result<(), AllocError> {
+pub fn push_row(rt: &impl Abort, alloc: Global, events: &mut Vec<Event>, row: Row) {
     let (seat, asked, at, deed) = row;
-    events.push(Event {
-        seat,
-        asked,
-        at,
-        act: act(alloc, deed)?,
-    })?;
-    Ok(())
+    let act = act(rt, alloc, deed);
+    push_event(
+        rt,
+        events,
+        Event {
+            seat,
+            asked,
+            at,
+            act,
+        },
+    );
 }
 
-fn events(alloc: Global, rows: &[Row]) -> Result<Vec<Event>, AllocError> {
+pub fn push_event(rt: &impl Abort, events: &mut Vec<Event>, event: Event) {
+    expect_made(rt, events.push(event));
+}
+
+fn events(rt: &impl Abort, alloc: Global, rows: &[Row]) -> Vec<Event> {
     let mut events = Vec::new(alloc);
     for row in rows {
-        push_row(&mut events, alloc, *row)?;
+        push_row(rt, alloc, &mut events, *row);
     }
-    Ok(events)
+    events
 }
 
-pub fn opening_at(elements: Items, next_id: u64, last_at: u64) -> Result<Opening, Fail> {
-    match Opening::new(elements, next_id, last_at) {
-        Some(opening) => Ok(opening),
-        None => Err(Fail::from("no opening")),
+pub fn opening_at(rt: &impl Abort, elements: Items, next_id: u64, last_at: u64) -> Opening {
+    Opening::new(elements, next_id, last_at).expect(rt, "an opening")
+}
+
+pub fn opening(rt: &impl Abort, alloc: Global, start: Start<'_>) -> Opening {
+    match start {
+        Some((elements, next_id)) => {
+            let elements = expect_made(rt, Vec::from_slice(alloc, elements));
+            opening_at(rt, Items::new(elements), next_id, 0)
+        }
+        None => Opening::empty(alloc),
     }
 }
 
-pub fn opening(alloc: Global, start: Start<'_>) -> Result<Opening, Fail> {
-    let Some((elements, next_id)) = start else {
-        return Ok(Opening::empty(alloc));
-    };
-    let elements = Items::new(Vec::from_slice(alloc, elements)?);
-    opening_at(elements, next_id, 0)
+pub fn history(rt: &impl Abort, alloc: Global, start: Start<'_>, rows: &[Row]) -> History {
+    history_of(rt, opening(rt, alloc, start), events(rt, alloc, rows))
 }
 
-pub fn history(alloc: Global, start: Start<'_>, rows: &[Row]) -> Result<History, Fail> {
-    history_of(opening(alloc, start)?, events(alloc, rows)?)
-}
-
-pub fn history_of(opening: Opening, events: Vec<Event>) -> Result<History, Fail> {
-    match History::new(opening, Sequence::new(events)) {
-        Some(history) => Ok(history),
-        None => Err(Fail::from("too many events")),
-    }
+pub fn history_of(rt: &impl Abort, opening: Opening, events: Vec<Event>) -> History {
+    History::new(opening, Sequence::new(events)).expect(rt, "few enough events")
 }
 
 // Calls and comparisons are functions without clauses, so tests that call them have nothing to
@@ -221,11 +227,11 @@ pub fn expect_audit(
     answer: Result<Audit, ReplayFault>,
     wanted: Result<Audit, ReplayFault>,
 ) {
-    assert_eq!(rt; answer, wanted);
+    expect_same(rt, answer, wanted);
 }
 
 pub fn expect_linked(rt: &impl Abort, answer: Result<(), ChainFault>, wanted: Option<ChainFault>) {
-    assert_eq!(rt; answer.err(), wanted);
+    expect_same(rt, answer.err(), wanted);
 }
 
 pub fn expect_opening(
@@ -233,7 +239,7 @@ pub fn expect_opening(
     answer: &Result<Opening, OpeningFault>,
     wanted: &Result<Opening, OpeningFault>,
 ) {
-    assert_eq!(rt; *answer, *wanted);
+    expect_same(rt, answer, wanted);
 }
 
 pub fn expect_read(
@@ -241,5 +247,5 @@ pub fn expect_read(
     answer: &Result<History, TextFault>,
     wanted: &Result<History, TextFault>,
 ) {
-    assert_eq!(rt; *answer, *wanted);
+    expect_same(rt, answer, wanted);
 }

@@ -1,14 +1,12 @@
 // Scripts in which each reply is written when its request is served.
 
-use crate::tests::devices::{
-    AT_END, AT_ONCE, Sink, Source, expect_bytes, expect_count, expect_end, first_lines, ran,
-    recorded,
+use crate::tests::devices::{expect_bytes, expect_count, push, push_line};
+use crate::tests::runs::devices::{
+    AT_END, AT_ONCE, Sink, Source, expect_end, expect_history, first_lines, ran, recorded,
 };
 use rb_ending::BrokerFault;
 use std::alloc::Global;
-use std::io::Write;
 use std::process::Abort;
-use std::test::Fail;
 
 const OFFERS: &[u8] = b"OFFER 0 a\nOFFER 0 b\nOFFER 0 c\n";
 
@@ -19,12 +17,12 @@ const EVENTS: &[u8] =
     b"0 0 0 offer 0 0 0 0 1 a\n0 0 0 offer 1 0 1 0 1 b\n0 0 0 offer 2 0 2 0 1 c\n";
 
 // Returns the history of the first `offers` offers.
-fn history_of(alloc: Global, offers: usize) -> Result<Vec<u8>, Fail> {
+fn history_of(rt: &impl Abort, alloc: Global, offers: usize) -> Vec<u8> {
     let mut text = Vec::new(alloc);
-    text.extend_from_slice(b"history 3\nopen 0 0 0\n")?;
-    text.extend_from_slice(first_lines(EVENTS, offers))?;
-    write!(text, "end {offers}\n")?;
-    Ok(text)
+    push(rt, &mut text, b"history 3\nopen 0 0 0\n");
+    push(rt, &mut text, first_lines(EVENTS, offers));
+    push_line(rt, &mut text, b"end ", offers as u64, b"\n");
+    text
 }
 
 #[test]
@@ -40,7 +38,7 @@ fn each_reply_is_a_write_and_a_flush(rt: HostRuntime) {
 
 // Runs the script over a writer with room for `room` bytes. Asserts how it ended, which bytes the
 // writer received and, by the history, what was offered.
-fn expect_offers(rt: &impl Abort, alloc: Global, room: usize, is_closed: bool) -> Result<(), Fail> {
+fn expect_offers(rt: &impl Abort, alloc: Global, room: usize, is_closed: bool) {
     let source = Source::of(OFFERS, usize::MAX);
     let sink = Sink::bounded(alloc, room, is_closed);
     let mut history = Some(Sink::new(alloc));
@@ -57,23 +55,16 @@ fn expect_offers(rt: &impl Abort, alloc: Global, room: usize, is_closed: bool) -
         REPLIES.get(..room).unwrap_or(REPLIES),
         room,
     );
-    let served = history_of(alloc, (room / 12 + 1).min(3))?;
-    expect_bytes(
-        rt,
-        &history.map(|sink| sink.bytes).unwrap_or(Vec::new(alloc)),
-        &served,
-        room,
-    );
-    Ok(())
+    let served = history_of(rt, alloc, (room / 12 + 1).min(3));
+    expect_history(rt, &history, &served, room);
 }
 
 // One read gives all three lines. The line whose reply does not go out is the last one that is
 // served.
 #[test]
-fn no_line_is_served_after_a_failing_write(rt: HostRuntime) -> Result<(), Fail> {
+fn no_line_is_served_after_a_failing_write(rt: HostRuntime) {
     for room in 0..=REPLIES.len() {
-        expect_offers(&rt, rt.alloc(), room, true)?;
-        expect_offers(&rt, rt.alloc(), room, false)?;
+        expect_offers(&rt, rt.alloc(), room, true);
+        expect_offers(&rt, rt.alloc(), room, false);
     }
-    Ok(())
 }

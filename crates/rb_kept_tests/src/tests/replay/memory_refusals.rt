@@ -1,6 +1,7 @@
 ghost use Rattle.rb_queue.specs.History.{IsLegal};
 
-use crate::tests::devices::{Scale, expect, write_to};
+use crate::tests::fixtures::{expect_made, expect_same};
+use crate::tests::replay::devices::{Scale, expect, write_to};
 use rb_protocol::{LineReply, write_reply};
 use rb_queue::{Event, Opening};
 use rb_replay::{
@@ -8,7 +9,7 @@ use rb_replay::{
     opening_of, read_history,
 };
 use rb_retry::Policy;
-use std::alloc::{AllocError, Global};
+use std::alloc::Global;
 use std::process::Abort;
 
 // The number of refusals that the test meets. `dev/refuse_allocations` sets 1 and refuses each
@@ -117,10 +118,10 @@ const LINE: &[u8] = b"SIZE 18446744073709551615\n";
 const LINES: usize = 100;
 
 // Makes a text of one line, without room for another, and tries once more if memory is refused.
-fn full_text(alloc: Global) -> Result<Vec<u8>, AllocError> {
+fn full_text(rt: &impl Abort, alloc: Global) -> Vec<u8> {
     match Vec::from_slice(alloc, LINE) {
-        Ok(text) => Ok(text),
-        Err(_) => Vec::from_slice(alloc, LINE),
+        Ok(text) => text,
+        Err(_) => expect_made(rt, Vec::from_slice(alloc, LINE)),
     }
 }
 
@@ -144,24 +145,23 @@ fn expect_lines(rt: &impl Abort, text: &[u8]) {
 }
 
 // Returns the number of replies that were refused.
-fn refused_replies(rt: &impl Abort, alloc: Global) -> Result<u32, AllocError> {
-    let mut text = full_text(alloc)?;
+fn refused_replies(rt: &impl Abort, alloc: Global) -> u32 {
+    let mut text = full_text(rt, alloc);
     let mut refusals = 0_u32;
     for _ in 1..LINES {
         let refused = refused_line(rt, &mut text);
         refusals = refusals.saturating_add(u32::from(refused));
     }
     expect_lines(rt, &text);
-    Ok(refusals)
+    refusals
 }
 
 fn expect_refusals(rt: &impl Abort, refusals: u32) {
-    assert_eq!(rt; refusals, REFUSALS);
+    expect_same(rt, refusals, REFUSALS);
 }
 
 #[test]
-fn a_refused_allocation_is_answered(rt: HostRuntime) -> Result<(), AllocError> {
-    let replies = refused_replies(&rt, rt.alloc())?;
+fn a_refused_allocation_is_answered(rt: HostRuntime) {
+    let replies = refused_replies(&rt, rt.alloc());
     expect_refusals(&rt, refused(&rt, rt.alloc()).saturating_add(replies));
-    Ok(())
 }

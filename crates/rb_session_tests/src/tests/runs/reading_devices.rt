@@ -1,12 +1,12 @@
-use crate::tests::devices::{
-    AT_END, AT_ONCE, End, Fault, GATHERED, Sink, Source, WAYS, Way, expect_bytes, expect_count,
-    expect_end, feeds_of, first_lines, ran, recorded,
+use crate::tests::devices::{expect_bytes, expect_count, push, push_line};
+use crate::tests::gathered_replies::repeated;
+use crate::tests::runs::devices::{
+    AT_END, AT_ONCE, End, Fault, GATHERED, Sink, Source, WAYS, Way, expect_end, expect_history,
+    feeds_of, first_lines, ran, recorded,
 };
 use rb_ending::BrokerFault;
-use std::alloc::{AllocError, Global};
-use std::io::Write;
+use std::alloc::Global;
 use std::process::Abort;
-use std::test::Fail;
 
 // Requests with one reply each.
 const SCRIPT: &[u8] = b"AT 100\nOFFER 50 a\nSIZE\nPOLL\nPEEK\n";
@@ -49,36 +49,22 @@ fn an_interrupted_read_is_made_again(rt: HostRuntime) {
     }
 }
 
-fn many(alloc: Global, line: &[u8], count: usize) -> Result<Vec<u8>, AllocError> {
-    let mut text = Vec::new(alloc);
-    for _ in 0..count {
-        text.extend_from_slice(line)?;
-    }
-    Ok(text)
-}
-
 // Each line has eight bytes, so each read of 65,536 bytes ends with a whole line.
 #[test]
-fn a_read_takes_64_kib(rt: HostRuntime) -> Result<(), Fail> {
+fn a_read_takes_64_kib(rt: HostRuntime) {
     let alloc = rt.alloc();
-    let script = many(alloc, b"AT 1234\n", 16_384)?;
-    let replies = many(alloc, b"NOW 1234\n", 16_384)?;
+    let script = repeated(&rt, alloc, b"AT 1234\n", 16_384);
+    let replies = repeated(&rt, alloc, b"NOW 1234\n", 16_384);
     let source = Source::of(&script, usize::MAX);
     let outcome = ran(&rt, alloc, GATHERED, 1, source, Sink::new(alloc));
     expect_end(&rt, outcome.ended, AT_END, 0);
     expect_bytes(&rt, &outcome.bytes, &replies, 0);
     expect_count(&rt, outcome.reads, 3, 0);
-    Ok(())
 }
 
 // The history of a run in which a job is held at the end.
 const HELD: &[u8] =
     b"history 3\nopen 0 0 0\n0 0 0 offer 0 0 0 0 1 a\n0 0 0 poll 0\n0 0 0 offer 1 1000 0 0 2 a\nend 3\n";
-
-fn expect_history(rt: &impl Abort, history: &Option<Sink<'static>>, wanted: &[u8]) {
-    let history = history.as_ref().expect(rt, "a device");
-    expect_bytes(rt, &history.bytes, wanted, 0);
-}
 
 // An interrupted read counts like a read that gives a byte. The history is written although the
 // input is given up.
@@ -92,7 +78,7 @@ fn an_input_without_an_end_is_given_up(rt: HostRuntime) {
     expect_count(&rt, outcome.reads, 10_000_000, 0);
     expect_bytes(&rt, &outcome.bytes, b"OFFERED 0 0\nITEM 0 0 1 a\n", 0);
     expect_count(&rt, outcome.calls, 2, 0);
-    expect_history(&rt, &history, HELD);
+    expect_history(&rt, &history, HELD, 0);
 }
 
 // A job with three attempts. The third failure is the last.
@@ -105,12 +91,13 @@ const JOB_REPLIES: &[u8] =
 
 // Returns the replies to the whole lines of `part`, a first part of the job's lines. There is one
 // more reply if a part of a line is left.
-fn replies_to(alloc: Global, part: &[u8]) -> Result<Vec<u8>, AllocError> {
-    let mut replies = Vec::from_slice(alloc, first_lines(JOB_REPLIES, feeds_of(part)))?;
-    if part.last().is_some_and(|&byte| byte != b'\n') {
-        replies.extend_from_slice(b"ERR 8 line\n")?;
+fn replies_to(rt: &impl Abort, alloc: Global, part: &[u8]) -> Vec<u8> {
+    let mut replies = Vec::new(alloc);
+    push(rt, &mut replies, first_lines(JOB_REPLIES, feeds_of(part)));
+    if !part.is_empty() && part.last() != Some(&b'\n') {
+        push(rt, &mut replies, b"ERR 8 line\n");
     }
-    Ok(replies)
+    replies
 }
 
 // The events of the job's whole lines, from the first on: an offer and a poll, a failure, and so on. A
@@ -135,34 +122,33 @@ fn left_by(lines: usize) -> (usize, &'static [u8]) {
 }
 
 // Returns the history of a part of the job's lines.
-fn history_of(alloc: Global, lines: usize) -> Result<Vec<u8>, Fail> {
+fn history_of(rt: &impl Abort, alloc: Global, lines: usize) -> Vec<u8> {
     let (events, failure) = left_by(lines);
-    let mut text = Vec::from_slice(alloc, b"history 3\nopen 0 0 0\n")?;
-    text.extend_from_slice(first_lines(JOB_EVENTS, events))?;
-    text.extend_from_slice(failure)?;
+    let mut text = Vec::new(alloc);
+    push(rt, &mut text, b"history 3\nopen 0 0 0\n");
+    push(rt, &mut text, first_lines(JOB_EVENTS, events));
+    push(rt, &mut text, failure);
     let count = events.saturating_add(feeds_of(failure));
-    write!(text, "end {count}\n")?;
-    Ok(text)
+    push_line(rt, &mut text, b"end ", count as u64, b"\n");
+    text
 }
 
-fn expect_part(rt: &impl Abort, alloc: Global, way: Way, len: usize) -> Result<(), Fail> {
+fn expect_part(rt: &impl Abort, alloc: Global, way: Way, len: usize) {
     let part = JOB.get(..len).unwrap_or(JOB);
     let (source, sink) = (Source::of(part, usize::MAX), Sink::new(alloc));
     let mut history = Some(Sink::new(alloc));
     let outcome = recorded(rt, alloc, way, 100, source, sink, &mut history);
     expect_end(rt, outcome.ended, AT_END, len);
-    expect_bytes(rt, &outcome.bytes, &replies_to(alloc, part)?, len);
-    expect_history(rt, &history, &history_of(alloc, feeds_of(part))?);
-    Ok(())
+    expect_bytes(rt, &outcome.bytes, &replies_to(rt, alloc, part), len);
+    expect_history(rt, &history, &history_of(rt, alloc, feeds_of(part)), len);
 }
 
 // What is held at the end of a part fails there, and nothing else does.
 #[test]
-fn each_part_of_a_script_gets_its_part_of_the_replies(rt: HostRuntime) -> Result<(), Fail> {
+fn each_part_of_a_script_gets_its_part_of_the_replies(rt: HostRuntime) {
     for way in [AT_ONCE, GATHERED] {
         for len in 0..JOB.len() {
-            expect_part(&rt, rt.alloc(), way, len)?;
+            expect_part(&rt, rt.alloc(), way, len);
         }
     }
-    Ok(())
 }

@@ -1,6 +1,7 @@
-use crate::tests::devices::{
-    AT_END, Client, End, GATHERED, Outcome, Sink, Source, expect, expect_bytes, expect_count,
-    expect_end, ran,
+use crate::tests::devices::{expect, expect_bytes, expect_count, expect_made, expect_same};
+use crate::tests::gathered_replies::repeated;
+use crate::tests::runs::devices::{
+    AT_END, Client, End, GATHERED, Outcome, Sink, Source, expect_end, ran,
 };
 use rb_binary::BinaryTimer;
 use rb_ending::BrokerFault;
@@ -8,11 +9,10 @@ use rb_kept::Kept;
 use rb_protocol::{LimitedReader, LimitedWriter, WriterStatus};
 use rb_retry::{Desk, KeptDesk, Policy};
 use rb_session::{Delivery, Ended, HandsOn, SessionFault, run_limited};
-use std::alloc::{AllocError, Global};
+use std::alloc::Global;
 use std::cell::Cell;
 use std::io::{Read, Write};
 use std::process::Abort;
-use std::test::Fail;
 
 // A conversation with one reply to each request.
 const REQUESTS: &[u8] = b"AT 100\nOFFER 50 a\nSIZE\npoll\nAT 150\nPOLL\nDONE 0\nQUIT\n";
@@ -40,14 +40,6 @@ fn a_client_that_waits_gets_its_reply(rt: HostRuntime) {
     }
 }
 
-fn many(alloc: Global, line: &[u8], count: usize) -> Result<Vec<u8>, AllocError> {
-    let mut text = Vec::new(alloc);
-    for _ in 0..count {
-        text.extend_from_slice(line)?;
-    }
-    Ok(text)
-}
-
 // Runs a script that one read gives whole, over a writer that takes everything.
 fn batch(rt: &impl Abort, alloc: Global, calls: u64, script: &[u8]) -> Outcome {
     let source = Source::of(script, usize::MAX);
@@ -56,29 +48,27 @@ fn batch(rt: &impl Abort, alloc: Global, calls: u64, script: &[u8]) -> Outcome {
 
 // 50,000 bytes of requests get 70,000 bytes of replies, so the room for replies is full once.
 #[test]
-fn ten_thousand_requests_are_a_few_writes(rt: HostRuntime) -> Result<(), Fail> {
+fn ten_thousand_requests_are_a_few_writes(rt: HostRuntime) {
     let alloc = rt.alloc();
-    let script = many(alloc, b"SIZE\n", 10_000)?;
-    let replies = many(alloc, b"SIZE 0\n", 10_000)?;
+    let script = repeated(&rt, alloc, b"SIZE\n", 10_000);
+    let replies = repeated(&rt, alloc, b"SIZE 0\n", 10_000);
     let outcome = batch(&rt, alloc, 10_000, &script);
     expect_end(&rt, outcome.ended, AT_END, 0);
     expect_bytes(&rt, &outcome.bytes, &replies, 0);
     expect_count(&rt, outcome.writes, 2, 0);
     expect_count(&rt, outcome.reads, 2, 0);
-    Ok(())
 }
 
 // In a script no take waits, so none costs a write.
 #[test]
-fn a_hundred_takes_of_a_script_are_one_write(rt: HostRuntime) -> Result<(), Fail> {
+fn a_hundred_takes_of_a_script_are_one_write(rt: HostRuntime) {
     let alloc = rt.alloc();
-    let script = many(alloc, b"TAKE\n", 100)?;
-    let replies = many(alloc, b"STOPPED\n", 100)?;
+    let script = repeated(&rt, alloc, b"TAKE\n", 100);
+    let replies = repeated(&rt, alloc, b"STOPPED\n", 100);
     let outcome = batch(&rt, alloc, 100, &script);
     expect_end(&rt, outcome.ended, AT_END, 0);
     expect_bytes(&rt, &outcome.bytes, &replies, 0);
     expect_count(&rt, outcome.writes, 1, 0);
-    Ok(())
 }
 
 // Runs the conversation over a writer with room for `room` bytes. Asserts which bytes it received,
@@ -150,46 +140,44 @@ fn session_of<R: Read, W: Write, D: Desk>(
     ended
 }
 
-fn cut_off(rt: &impl Abort, alloc: Global, script: &[u8], hands_on: HandsOn) -> Result<Cut, Fail> {
+fn cut_off(rt: &impl Abort, alloc: Global, script: &[u8], hands_on: HandsOn) -> Cut {
     let policy = Policy::fixed(1_000, 3).expect(rt, "a policy");
-    let (mut kept, mut tally) = Kept::<BinaryTimer>::new(alloc, 100)?;
+    let (mut kept, mut tally) = expect_made(rt, Kept::<BinaryTimer>::new(alloc, 100));
     let mut desk = KeptDesk::new(&mut kept, &mut tally);
     let mut source = Source::of(script, usize::MAX);
     let mut sink = Sink::bounded(alloc, 5, true);
     let delivery = Delivery::Gathered(hands_on);
     let ended = session_of(alloc, &mut source, &mut sink, &mut desk, &policy, delivery);
-    Ok(Cut {
+    Cut {
         ended,
         bytes: sink.bytes,
         events: kept.history().len(),
         left: kept.audit().left,
-    })
+    }
 }
 
 fn expect_cut(rt: &impl Abort, cut: &Cut) {
-    assert_eq!(rt; cut.ended, Err(SessionFault::Write { lost: 0 }));
+    expect_same(rt, cut.ended, Err(SessionFault::Write { lost: 0 }));
 }
 
 // All lines were served and two jobs are held when the write of the replies fails. The reply with
 // the second job is lost, and both jobs come back.
 #[test]
-fn held_jobs_fail_after_a_late_write_fault(rt: HostRuntime) -> Result<(), Fail> {
+fn held_jobs_fail_after_a_late_write_fault(rt: HostRuntime) {
     let script = b"OFFER 0 a\nOFFER 0 b\nPOLL\nPOLL\n";
-    let cut = cut_off(&rt, rt.alloc(), script, HandsOn::BeforeReads)?;
+    let cut = cut_off(&rt, rt.alloc(), script, HandsOn::BeforeReads);
     expect_cut(&rt, &cut);
     expect_count(&rt, cut.events, 6, 0);
-    Ok(())
 }
 
 // A take that need not wait hands nothing on before. Its job fails at the end of the session, as the replies can't be
 // handed on.
 #[test]
-fn a_take_that_need_not_wait_is_served_before_a_write_fault(rt: HostRuntime) -> Result<(), Fail> {
+fn a_take_that_need_not_wait_is_served_before_a_write_fault(rt: HostRuntime) {
     let script = b"OFFER 0 a\nTAKE\n";
-    let cut = cut_off(&rt, rt.alloc(), script, HandsOn::BeforeReadsAndWaits)?;
+    let cut = cut_off(&rt, rt.alloc(), script, HandsOn::BeforeReadsAndWaits);
     expect_cut(&rt, &cut);
     expect_bytes(&rt, &cut.bytes, b"OFFER", 0);
     expect_count(&rt, cut.events, 3, 0);
     expect(&rt, cut.left == 1);
-    Ok(())
 }

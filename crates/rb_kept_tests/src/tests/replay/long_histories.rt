@@ -4,12 +4,13 @@
 //! place in the round, from 0 to 99. It has the same number of digits in each round, except for
 //! attempts and sizes.
 
-use crate::tests::devices::{
-    Device, NEVER, Restless, expect, expect_count, expect_unreadable, expect_written, write_to,
+use crate::tests::fixtures::expect_made;
+use crate::tests::replay::devices::{
+    Device, NEVER, expect, expect_count, expect_unreadable, expect_written, write_to,
 };
-use crate::tests::fixtures::{
+use crate::tests::replay::fixtures::{
     Deed, EMPTY, Start, checked, expect_audit, expect_linked, history_of, is_read_as, linked,
-    opened, opening, opening_at, payload, push_row,
+    opened, opening, opening_at, payload, push_event, push_row,
 };
 use rb_delayed::Element;
 use rb_queue::{Act, Audit, Event, Ids, Items, Opening};
@@ -20,7 +21,6 @@ use rb_retry::Policy;
 use std::alloc::{AllocError, Global};
 use std::fmt::Write;
 use std::process::Abort;
-use std::test::Fail;
 
 const ROUNDS: u64 = 1_000;
 
@@ -151,89 +151,82 @@ fn took_place(place: u64) -> u64 {
     if place == 55 { 3 } else { asked(place) }
 }
 
-fn push_event(
-    events: &mut Vec<Event>,
-    rt: &impl Abort,
-    alloc: Global,
-    round: u64,
-    place: u64,
-) -> Result<(), AllocError> {
-    let deed = match place {
+fn deed(rt: &impl Abort, round: u64, place: u64) -> Deed {
+    match place {
         0..=49 => Deed::Offer(offered(rt, round, place)),
         50..=60 => giving(round, place),
         _ => closing(round, place),
-    };
-    let asked = begin(round).saturating_add(asked(place));
-    let at = begin(round).saturating_add(took_place(place));
-    push_row(events, alloc, (place % 10, asked, at, deed))
-}
-
-fn push_round(
-    events: &mut Vec<Event>,
-    rt: &impl Abort,
-    alloc: Global,
-    round: u64,
-) -> Result<(), AllocError> {
-    for place in 0..100 {
-        push_event(events, rt, alloc, round, place)?;
     }
-    Ok(())
 }
 
-fn rounds(rt: &impl Abort, alloc: Global, count: u64) -> Result<Vec<Event>, AllocError> {
+fn push_round(rt: &impl Abort, alloc: Global, events: &mut Vec<Event>, round: u64) {
+    for place in 0..100 {
+        let asked = begin(round).saturating_add(asked(place));
+        let at = begin(round).saturating_add(took_place(place));
+        let deed = deed(rt, round, place);
+        push_row(rt, alloc, events, (place % 10, asked, at, deed));
+    }
+}
+
+fn rounds(rt: &impl Abort, alloc: Global, count: u64) -> Vec<Event> {
     let mut events = Vec::new(alloc);
     for round in 0..count {
-        push_round(&mut events, rt, alloc, round)?;
+        push_round(rt, alloc, &mut events, round);
     }
-    Ok(events)
+    events
 }
 
 // Returns the history of `events` after the opening of all rounds.
-fn run_of(alloc: Global, events: Vec<Event>) -> Result<History, Fail> {
-    history_of(opening(alloc, Some((&[], FIRST_ID)))?, events)
+fn run_of(rt: &impl Abort, alloc: Global, events: Vec<Event>) -> History {
+    history_of(rt, opening(rt, alloc, Some((&[], FIRST_ID))), events)
 }
 
 // Returns the history of the first `count` rounds.
-fn run(rt: &impl Abort, alloc: Global, count: u64) -> Result<History, Fail> {
-    run_of(alloc, rounds(rt, alloc, count)?)
+fn run(rt: &impl Abort, alloc: Global, count: u64) -> History {
+    run_of(rt, alloc, rounds(rt, alloc, count))
+}
+
+fn push_element(rt: &impl Abort, elements: &mut Vec<Element>, element: Element) {
+    expect_made(rt, elements.push(element));
 }
 
 // Appends the elements that are left of a round.
-fn push_left(elements: &mut Vec<Element>, rt: &impl Abort, round: u64) -> Result<(), AllocError> {
+fn push_left(rt: &impl Abort, elements: &mut Vec<Element>, round: u64) {
     for place in 20..OFFERS_A_ROUND {
-        elements.push(offered(rt, round, place))?;
+        push_element(rt, elements, offered(rt, round, place));
     }
-    Ok(())
 }
 
 // Returns what is left of the rounds after the clear, in the order of ids and of expiries.
-fn all_left(rt: &impl Abort, alloc: Global) -> Result<Vec<Element>, AllocError> {
+fn all_left(rt: &impl Abort, alloc: Global) -> Items {
     let mut elements = Vec::new(alloc);
     for round in CLEARED_ROUND.saturating_add(1)..ROUNDS {
-        push_left(&mut elements, rt, round)?;
+        push_left(rt, &mut elements, round);
     }
-    Ok(elements)
+    Items::new(elements)
 }
 
 // Returns the opening that all rounds lead to. The last round ends 10 nanoseconds after it begins.
-fn end(rt: &impl Abort, alloc: Global) -> Result<Opening, Fail> {
-    opening_at(Items::new(all_left(rt, alloc)?), id(ROUNDS, 0), 1_999_010)
+fn end(rt: &impl Abort, alloc: Global) -> Opening {
+    opening_at(rt, all_left(rt, alloc), id(ROUNDS, 0), 1_999_010)
 }
 
 // A moment at which everything that is left is expired.
 const EXPIRED: u64 = 2_200_000;
 
 // Returns the history of a run that polls each of the elements that stand at its start.
-fn polls(opening: Opening, alloc: Global) -> Result<History, Fail> {
+fn polls(rt: &impl Abort, alloc: Global, opening: Opening) -> History {
+    let polls = polls_of(rt, alloc, opening.elements.as_slice());
+    history_of(rt, opening, polls)
+}
+
+fn polls_of(rt: &impl Abort, alloc: Global, elements: &[Element]) -> Vec<Event> {
     let mut events = Vec::new(alloc);
-    for element in opening.elements.as_slice() {
-        push_row(
-            &mut events,
-            alloc,
-            (0, EXPIRED, EXPIRED, Deed::Poll(Some(element.id))),
-        )?;
+    for element in elements {
+        let deed = Deed::Poll(Some(element.id));
+        push_row(rt, alloc, &mut events, (0, EXPIRED, EXPIRED, deed));
     }
-    history_of(opening, events)
+    events
 }
 
 // Asserts that the text of the history has `bytes` bytes, and that the history is read from it.
@@ -283,9 +276,8 @@ fn passes(
 const BYTES: usize = 4_450_000 - 2 + 2_893 + 2 * 2_134 + 34 * 2_131 + 37;
 
 #[test]
-fn a_long_history_passes_each_call(rt: HostRuntime) -> Result<(), Fail> {
+fn a_long_history_passes_each_call(rt: HostRuntime) {
     let alloc = rt.alloc();
-    let (history, end) = (run(&rt, alloc, ROUNDS)?, end(&rt, alloc)?);
     let audit = Audit {
         calls: 100_000,
         offered: 50_000,
@@ -295,8 +287,8 @@ fn a_long_history_passes_each_call(rt: HostRuntime) -> Result<(), Fail> {
         left: 15_000,
         opening: 0,
     };
-    passes(&rt, alloc, &history, BYTES, audit, &end);
-    Ok(())
+    let history = run(&rt, alloc, ROUNDS);
+    passes(&rt, alloc, &history, BYTES, audit, &end(&rt, alloc));
 }
 
 // A line has 39 bytes for an element and 30 for a poll. The lines around these have 10, 26 and 10
@@ -304,9 +296,8 @@ fn a_long_history_passes_each_call(rt: HostRuntime) -> Result<(), Fail> {
 const POLLED_BYTES: usize = 15_000 * 39 + 15_000 * 30 + 46;
 
 #[test]
-fn a_long_opening_passes_each_call(rt: HostRuntime) -> Result<(), Fail> {
+fn a_long_opening_passes_each_call(rt: HostRuntime) {
     let alloc = rt.alloc();
-    let history = polls(end(&rt, alloc)?, alloc)?;
     let audit = Audit {
         calls: 15_000,
         offered: 0,
@@ -316,9 +307,14 @@ fn a_long_opening_passes_each_call(rt: HostRuntime) -> Result<(), Fail> {
         left: 0,
         opening: 15_000,
     };
-    let nothing = opening_at(Items::new(Vec::new(alloc)), id(ROUNDS, 0), EXPIRED)?;
+    let history = polls(&rt, alloc, end(&rt, alloc));
+    let nothing = nothing_left(&rt, alloc);
     passes(&rt, alloc, &history, POLLED_BYTES, audit, &nothing);
-    Ok(())
+}
+
+// Returns the opening that the polls lead to.
+fn nothing_left(rt: &impl Abort, alloc: Global) -> Opening {
+    opening_at(rt, Items::new(Vec::new(alloc)), id(ROUNDS, 0), EXPIRED)
 }
 
 // The index of the last event.
@@ -326,12 +322,12 @@ const LAST: u64 = 99_999;
 
 // Returns the history of all rounds, except that its last event counts 0 elements where 15,000
 // stand.
-fn forged(rt: &impl Abort, alloc: Global) -> Result<History, Fail> {
-    let mut events = rounds(rt, alloc, ROUNDS)?;
+fn forged(rt: &impl Abort, alloc: Global) -> History {
+    let mut events = rounds(rt, alloc, ROUNDS);
     if let Some(event) = events.last_mut() {
         event.act = Act::Size(0);
     }
-    run_of(alloc, events)
+    run_of(rt, alloc, events)
 }
 
 fn expect_late_faults(rt: &impl Abort, alloc: Global, history: &History) {
@@ -346,22 +342,20 @@ fn expect_late_faults(rt: &impl Abort, alloc: Global, history: &History) {
 }
 
 #[test]
-fn a_late_fault_is_told(rt: HostRuntime) -> Result<(), Fail> {
-    let alloc = rt.alloc();
-    let history = forged(&rt, alloc)?;
-    expect_late_faults(&rt, alloc, &history);
-    Ok(())
+fn a_late_fault_is_told(rt: HostRuntime) {
+    expect_late_faults(&rt, rt.alloc(), &forged(&rt, rt.alloc()));
+}
+
+fn expect_late_attempt(rt: &impl Abort, alloc: Global, history: &History) {
+    let answer = linked(rt, alloc, history, Policy::fixed(10, 999));
+    let (index, reason) = (99_900, ChainReason::TooMany);
+    expect_linked(rt, answer, Some(ChainFault::At { index, reason }));
 }
 
 // The last attempt is offered by the first event of the last round.
 #[test]
-fn a_late_attempt_too_many_is_told(rt: HostRuntime) -> Result<(), Fail> {
-    let alloc = rt.alloc();
-    let history = run(&rt, alloc, ROUNDS)?;
-    let answer = linked(&rt, alloc, &history, Policy::fixed(10, 999));
-    let (index, reason) = (99_900, ChainReason::TooMany);
-    expect_linked(&rt, answer, Some(ChainFault::At { index, reason }));
-    Ok(())
+fn a_late_attempt_too_many_is_told(rt: HostRuntime) {
+    expect_late_attempt(&rt, rt.alloc(), &run(&rt, rt.alloc(), ROUNDS));
 }
 
 // The number of elements in the texts of the first two versions.
@@ -388,59 +382,59 @@ fn push_lines(text: &mut String, front: &str) -> Result<(), AllocError> {
     Ok(())
 }
 
-// Returns a text of the second version, whose opening lists the elements, and whose events offer
-// them again.
-fn second_text(alloc: Global) -> Result<String, AllocError> {
-    let mut text = String::new(alloc);
-    text.push_str("history 2\nopen 100000 0 100000\n")?;
-    push_lines(&mut text, "keep")?;
-    push_lines(&mut text, "0 0 0 offer")?;
-    text.push_str("end 100000\n")?;
-    Ok(text)
+// Appends the lines of a text: those of the opening, if it lists the elements, and of the events, which
+// offer them.
+fn push_text(text: &mut String, opening: &str, keeps: bool) -> Result<(), AllocError> {
+    text.push_str(opening)?;
+    if keeps {
+        push_lines(text, "keep")?;
+    }
+    push_lines(text, "0 0 0 offer")?;
+    text.push_str("end 100000\n")
 }
 
-fn first_text(alloc: Global) -> Result<String, AllocError> {
+fn text_of(rt: &impl Abort, alloc: Global, opening: &str, keeps: bool) -> String {
     let mut text = String::new(alloc);
-    text.push_str("history 1\n")?;
-    push_lines(&mut text, "0 0 0 offer")?;
-    text.push_str("end 100000\n")?;
-    Ok(text)
+    expect_made(rt, push_text(&mut text, opening, keeps));
+    text
 }
 
-fn told_elements(rt: &impl Abort, alloc: Global) -> Result<Vec<Element>, AllocError> {
+fn told_elements(rt: &impl Abort, alloc: Global) -> Vec<Element> {
     let mut elements = Vec::new(alloc);
     for id in 0..TOLD {
-        elements.push(told(rt, id))?;
+        push_element(rt, &mut elements, told(rt, id));
     }
-    Ok(elements)
+    elements
 }
 
 // Returns the history that begins with `start` and offers all of the elements.
-fn told_history(rt: &impl Abort, alloc: Global, start: Start<'_>) -> Result<History, Fail> {
+fn told_history(rt: &impl Abort, alloc: Global, start: Start<'_>) -> History {
     let mut events = Vec::new(alloc);
     for id in 0..TOLD {
-        push_row(&mut events, alloc, (0, 0, 0, Deed::Offer(told(rt, id))))?;
+        let deed = Deed::Offer(told(rt, id));
+        push_row(rt, alloc, &mut events, (0, 0, 0, deed));
     }
-    history_of(opening(alloc, start)?, events)
+    history_of(rt, opening(rt, alloc, start), events)
+}
+
+fn expect_told(rt: &impl Abort, alloc: Global, text: &String, start: Start<'_>) {
+    let wanted = told_history(rt, alloc, start);
+    expect(rt, is_read_as(alloc, text.as_bytes(), &wanted));
 }
 
 #[test]
-fn a_long_text_of_the_first_version_is_read(rt: HostRuntime) -> Result<(), Fail> {
-    let alloc = rt.alloc();
-    let wanted = told_history(&rt, alloc, EMPTY)?;
-    let text = first_text(alloc)?;
-    expect(&rt, is_read_as(alloc, text.as_bytes(), &wanted));
-    Ok(())
+fn a_long_text_of_the_first_version_is_read(rt: HostRuntime) {
+    let text = text_of(&rt, rt.alloc(), "history 1\n", false);
+    expect_told(&rt, rt.alloc(), &text, EMPTY);
 }
 
+// The opening lists the elements, and the events offer them again.
 #[test]
-fn a_long_text_of_the_second_version_is_read(rt: HostRuntime) -> Result<(), Fail> {
-    let alloc = rt.alloc();
-    let kept = told_elements(&rt, alloc)?;
-    let wanted = told_history(&rt, alloc, Some((&kept, TOLD)))?;
-    let text = second_text(alloc)?;
-    expect(&rt, is_read_as(alloc, text.as_bytes(), &wanted));
-    Ok(())
+fn a_long_text_of_the_second_version_is_read(rt: HostRuntime) {
+    let opening = "history 2\nopen 100000 0 100000\n";
+    let text = text_of(&rt, rt.alloc(), opening, true);
+    let kept = told_elements(&rt, rt.alloc());
+    expect_told(&rt, rt.alloc(), &text, Some((&kept, TOLD)));
 }
 
 // A number of rounds whose text has more than 100,000 bytes. Their attempts have 41 digits. Their
@@ -455,71 +449,66 @@ fn is_whole(rt: &impl Abort, alloc: Global, history: &History, bytes: &[u8]) {
     expect(rt, is_read_as(alloc, bytes, history));
 }
 
+fn is_written_by_bytes(rt: &impl Abort, alloc: Global, history: &History) {
+    let mut device = Device::new(alloc, 1, NEVER);
+    let ended = write_to(rt, alloc, history.opening(), history.events(), &mut device);
+    expect_written(rt, ended, Ok(()));
+    expect_count(rt, device.calls, FEW_BYTES.saturating_add(1));
+    is_whole(rt, alloc, history, &device.bytes);
+}
+
 // Each byte is one write, and one flush follows them.
 #[test]
-fn a_device_may_take_a_byte_at_a_time(rt: HostRuntime) -> Result<(), Fail> {
-    let alloc = rt.alloc();
-    let history = run(&rt, alloc, FEW_ROUNDS)?;
-    let mut device = Device::new(alloc, 1, NEVER);
-    let ended = write_to(&rt, alloc, history.opening(), history.events(), &mut device);
-    expect_written(&rt, ended, Ok(()));
-    expect_count(&rt, device.calls, FEW_BYTES.saturating_add(1));
-    is_whole(&rt, alloc, &history, &device.bytes);
-    Ok(())
+fn a_device_may_take_a_byte_at_a_time(rt: HostRuntime) {
+    is_written_by_bytes(&rt, rt.alloc(), &run(&rt, rt.alloc(), FEW_ROUNDS));
 }
 
 // Asserts that a device gets the whole text if it is interrupted at two of three writes and takes
 // at most `most` bytes at the third.
 fn is_written_between(rt: &impl Abort, alloc: Global, history: &History, most: usize) {
-    let bytes = Vec::new(alloc);
-    let mut device = Restless {
-        bytes,
-        most,
-        writes: 0,
-    };
+    let mut device = Device::new(alloc, most, NEVER);
+    device.is_restless = true;
     let ended = write_to(rt, alloc, history.opening(), history.events(), &mut device);
     expect_written(rt, ended, Ok(()));
     is_whole(rt, alloc, history, &device.bytes);
 }
 
 #[test]
-fn a_write_that_is_interrupted_is_made_again(rt: HostRuntime) -> Result<(), Fail> {
+fn a_write_that_is_interrupted_is_made_again(rt: HostRuntime) {
     let alloc = rt.alloc();
-    let history = run(&rt, alloc, FEW_ROUNDS)?;
+    let history = run(&rt, alloc, FEW_ROUNDS);
     for most in [1, 1_000, NEVER] {
         is_written_between(&rt, alloc, &history, most);
     }
-    Ok(())
 }
 
 // Returns 100,000 ids of 20 digits.
-fn long_ids(alloc: Global) -> Result<Vec<u64>, AllocError> {
+fn long_ids(rt: &impl Abort, alloc: Global) -> Ids {
     let mut ids = Vec::new(alloc);
     for number in 0..100_000 {
-        ids.push(10_000_000_000_000_000_000_u64.saturating_add(number))?;
+        let id = 10_000_000_000_000_000_000_u64.saturating_add(number);
+        expect_made(rt, ids.push(id));
     }
-    Ok(ids)
+    Ids::new(ids)
 }
 
-fn push_drain(events: &mut Vec<Event>, alloc: Global) -> Result<(), AllocError> {
-    let ids = Ids::new(long_ids(alloc)?);
-    let max = 100_000;
-    events.push(Event {
+fn long_drain(rt: &impl Abort, alloc: Global) -> Event {
+    let (max, ids) = (100_000, long_ids(rt, alloc));
+    Event {
         seat: 0,
         asked: 0,
         at: 0,
         act: Act::Drain { max, ids },
-    })?;
-    Ok(())
+    }
 }
 
 // Returns the history of 50 drains of 100,000 ids each.
-fn drains(alloc: Global) -> Result<History, Fail> {
+fn drains(rt: &impl Abort, alloc: Global) -> History {
     let mut events = Vec::new(alloc);
     for _ in 0..50 {
-        push_drain(&mut events, alloc)?;
+        push_event(rt, &mut events, long_drain(rt, alloc));
     }
-    history_of(Opening::empty(alloc), events)
+    history_of(rt, Opening::empty(alloc), events)
 }
 
 // A drain's line has 19 bytes, and 21 more for each id. The lines around the drains have 10, 11 and
@@ -527,9 +516,7 @@ fn drains(alloc: Global) -> Result<History, Fail> {
 const DRAINED_BYTES: usize = 50 * (19 + 100_000 * 21) + 28;
 
 #[test]
-fn a_text_of_a_hundred_megabytes_is_written_and_read(rt: HostRuntime) -> Result<(), Fail> {
+fn a_text_of_a_hundred_megabytes_is_written_and_read(rt: HostRuntime) {
     let alloc = rt.alloc();
-    let history = drains(alloc)?;
-    is_written_and_read(&rt, alloc, &history, DRAINED_BYTES);
-    Ok(())
+    is_written_and_read(&rt, alloc, &drains(&rt, alloc), DRAINED_BYTES);
 }

@@ -2,13 +2,13 @@
 // `each_of_the_calls` writes, so both have to allocate equally often. `dev/refuse_allocations` counts
 // their allocations.
 
-use crate::tests::devices::{Scale, expect, expect_count, write_in};
-use crate::tests::fixtures::{Deed, EMPTY, history_of, opening, push_row};
+use crate::tests::fixtures::expect_made;
+use crate::tests::replay::devices::{Scale, expect, expect_count, write_in};
+use crate::tests::replay::fixtures::{Deed, EMPTY, history_of, opening, push_row};
 use rb_history::HistoryRoom;
 use rb_replay::History;
-use std::alloc::{AllocError, Global};
+use std::alloc::Global;
 use std::process::Abort;
-use std::test::Fail;
 
 // The numbers of events of the histories: none, some, and several pieces.
 const COUNTS: [u64; 3] = [0, 100, 10_000];
@@ -18,34 +18,29 @@ const COUNTS: [u64; 3] = [0, 100, 10_000];
 const BYTES: [usize; 3] = [27, 21 + 50 * 33 + 8, 21 + 5_000 * 33 + 10];
 
 #[test]
-fn none_of_the_calls(rt: HostRuntime) -> Result<(), Fail> {
+fn none_of_the_calls(rt: HostRuntime) {
     for (count, _) in COUNTS.iter().zip(BYTES.iter()) {
-        let _ = made(rt.alloc(), *count)?;
+        let _ = made(&rt, rt.alloc(), *count);
     }
-    Ok(())
 }
 
 #[test]
-fn each_of_the_calls(rt: HostRuntime) -> Result<(), Fail> {
+fn each_of_the_calls(rt: HostRuntime) {
     for (count, bytes) in COUNTS.iter().zip(BYTES.iter()) {
-        let (room, history) = made(rt.alloc(), *count)?;
+        let (room, history) = made(&rt, rt.alloc(), *count);
         is_written(&rt, room, &history, *bytes);
     }
-    Ok(())
 }
 
-fn made(alloc: Global, count: u64) -> Result<(HistoryRoom, History), Fail> {
+fn made(rt: &impl Abort, alloc: Global, count: u64) -> (HistoryRoom, History) {
     let mut events = Vec::new(alloc);
     for _ in 0..count / 2 {
-        push_row(
-            &mut events,
-            alloc,
-            (0, 0, 0, Deed::Drain(3, [Some(7), Some(8), Some(9)])),
-        )?;
-        push_row(&mut events, alloc, (0, 0, 0, Deed::Size(0)))?;
+        let drain = Deed::Drain(3, [Some(7), Some(8), Some(9)]);
+        push_row(rt, alloc, &mut events, (0, 0, 0, drain));
+        push_row(rt, alloc, &mut events, (0, 0, 0, Deed::Size(0)));
     }
-    let room = HistoryRoom::new(alloc)?;
-    Ok((room, history_of(opening(alloc, EMPTY)?, events)?))
+    let room = expect_made(rt, HistoryRoom::new(alloc));
+    (room, history_of(rt, opening(rt, alloc, EMPTY), events))
 }
 
 fn is_written(rt: &impl Abort, room: HistoryRoom, history: &History, bytes: usize) {
