@@ -17,7 +17,8 @@ standard error says.
 
 It prints a line for each crate, the attacks that were not refused, each with the prover's words, the attacks that were
 refused only because a proof names what the edit removed, and finally `N refused, M not`, with `, K not tried` if time
-was short. An earlier run has refused `(L before)` of them.
+was short. An earlier run has refused `(L before)` of them. In a group that also changes what a function calls, a check
+may not look at the function's own proof. Such an attack is tried alone.
 
 Exit status: 0 if all were refused, 1 if one was not, or not tried, 2 if an argument is wrong or there is no `rt`.
 """
@@ -265,7 +266,7 @@ def attack_crate(crate: str, edits: Sequence[str], room: Path, until: float) -> 
             attacks.try_all(copies.free.qsize())
     except subprocess.TimeoutExpired:
         pass
-    kept.keep({edit: said for edit, (refused, said) in attacks.verdicts.items() if refused and edit not in before})
+    kept.keep({edit: verdict.said for edit, verdict in attacks.verdicts.items() if verdict.refused and edit not in before})
     return attacks, len(before)
 
 

@@ -12,6 +12,7 @@ SAID_OF_FUNCTION = re.compile(r"^fn ([\w:]+): (.*)$", re.M)
 TOLD = re.compile(r"^(?:note: )?(?:\./)?([^:\s]+):(\d+):\d+: (.*)$", re.M)
 # A proof names what the edit took away, which shows little of the contract.
 NAMES_WHAT_IS_GONE = re.compile(r"error.*(?:has no field|is not in scope|has no `|was not admitted)")
+CALLS_ONE = ("not proved; it calls", "no proof: it calls")  # that is not proved; the second has no proof that was looked at
 MOST = 8  # in a group: one that can't be read spoils the check of all
 
 Texts = dict[str, str]  # files, by their paths in the crate
@@ -88,19 +89,28 @@ def is_of(path: str, change: Change) -> bool:
     return names[:len(modules)] == modules and change.function in names[len(modules):]
 
 
-def is_refused(change: Change, said: str) -> bool:
-    """Whether a check says that the changed function is not proved, and not only that it calls one that is not."""
-    return any(is_of(path, change) and not verdict.startswith(("proved", "no proof: it calls"))
-               for path, verdict in SAID_OF_FUNCTION.findall(said))
-
-
-def says_little(change: Change | None, said: str) -> bool:
-    """Whether all that a check says of the changed function, or of the crate where it is not one function that is
-    changed, is that a proof names what is gone."""
-    told = TOLD.findall(said)
+def told_of(change: Change | None, said: str) -> list[str]:
+    """What a check says of the changed function, by its lines and those of its proof, or of the crate where it is not one
+    function that is changed."""
+    told = TOLD.findall(said.replace("\n  ", " "))  # a long message goes on behind two spaces
     if change:
         rooms = tuple("/".join(["proofs", *path.split("::")[1:], ""])
                       for path, _ in SAID_OF_FUNCTION.findall(said) if is_of(path, change))
         told = [(file, line, what) for file, line, what in told
                 if file.startswith(rooms) or file == change.file and int(line) - 1 in change.within]
-    return bool(told) and all(NAMES_WHAT_IS_GONE.match(what) for _, _, what in told)
+    return [what for _, _, what in told]
+
+
+def is_refused(change: Change, said: str) -> bool:
+    """Whether a check says that the changed function is not proved, and not only that it calls one that is not: then its
+    proof may not have been looked at."""
+    verdicts = [verdict for path, verdict in SAID_OF_FUNCTION.findall(said) if is_of(path, change)]
+    by_itself = [verdict for verdict in verdicts if not verdict.startswith(("proved", *CALLS_ONE))]
+    return bool(by_itself) or any(verdict.startswith(CALLS_ONE[0]) for verdict in verdicts) and bool(told_of(change, said))
+
+
+def says_little(change: Change | None, said: str) -> bool:
+    """Whether all that a check says of the changed function, or of the crate where it is not one function that is
+    changed, is that a proof names what is gone."""
+    told = told_of(change, said)
+    return bool(told) and all(NAMES_WHAT_IS_GONE.match(what) for what in told)

@@ -10,6 +10,7 @@ from building.crates import PARTS
 from common.program import TOP
 
 ROOM = "rb_broker/attacks"  # below the user's folder for what can be made again
+RULE = "dev/grouping.py"  # which says what counts as refused
 MOST = 4  # texts of a crate for which it is kept
 
 
@@ -43,10 +44,11 @@ class Refused:
 
 
 def sum_of(crates: Iterable[str]) -> str:
-    """A sum of all that a check of these crates reads: the kit, the table, and each text."""
+    """A sum of all that a check of these crates reads: the kit, the table, and each text; and of what reads its words."""
     kit = subprocess.run(["rt", "version"], stdout=subprocess.PIPE, stderr=subprocess.DEVNULL, check=False).stdout
     found = hashlib.sha256(kit)
     files = [path for crate in sorted(crates) for part in PARTS for path in Path(TOP, "crates", crate, part).rglob("*")]
-    for path in (Path(TOP, "crates.txt"), Path(TOP, "HANDLES"), *sorted(filter(Path.is_file, files))):
+    read = [Path(TOP, name) for name in ("crates.txt", "HANDLES", RULE)]
+    for path in (*read, *sorted(filter(Path.is_file, files))):
         found.update(repr((str(path.relative_to(TOP)), path.read_bytes())).encode())
     return found.hexdigest()

@@ -27,7 +27,7 @@ from checking.trying import built
 from common.program import TOP
 from side_by_side import side_by_side
 
-# The modules of tests that are built, of those that a crate has.
+# The modules of tests that are built, of those that a crate has, also in folders of its tests.
 KEPT = (
     "memory_refusals",
     "timer_refusals",
@@ -57,14 +57,14 @@ RUNS = threading.BoundedSemaphore(AT_ONCE)
 UNMET = {
     "rb_blocking_tests": 2,
     "rb_kept_tests": 7,
-    "rb_replay_tests": 2,
+    "rb_kept_tests/replay": 2,
     "rb_retry_tests": 14,
-    # Two pages for each of eight runs of a script, and 93 that change nothing, most of them at the words.
-    "rb_runs_tests": 8 * 2 + 93,
     # By each of the two calls, two pages for each of three servers, and two and the room of a text for the end of one.
     "rb_serving_tests": 2 * (3 * 2 + 2 + 1),
     # Four pages in each of six tests, and the history of each of 68 queues.
     "rb_session_tests": 6 * 4 + 68,
+    # Two pages for each of eight runs of a script, and 93 that change nothing, most of them at the words.
+    "rb_session_tests/runs": 8 * 2 + 93,
 }
 
 
@@ -98,7 +98,7 @@ class CrateTests:
     """The built tests of a crate. The program and its copies are in `room`, in which no other tests are built."""
 
     def __init__(self, crate: str, room: str) -> None:
-        self.crate, self.room = crate, room
+        self.room = room
         program = Path(built(copied(crate, room), room, "--test", "--fail-alloc", str(NONE)))
         self.code = program.read_bytes()
         self.places = [found.start() for found in re.finditer(re.escape(comparison(NONE, IF_OTHER)), self.code)]
@@ -153,10 +153,10 @@ class CrateTests:
         """Whether a test makes the allocation of this number."""
         return self.run(test, number, trap=TRAP).status == -signal.SIGTRAP
 
-    def count_calls(self) -> tuple[str, str]:
+    def count_calls(self, suite: str) -> tuple[str, str]:
         """Compares how often the tests of allocations.rt allocate, of which both make the same things and only one
         makes the calls, and then refuses the calls all memory. Returns what was done, and what is wrong."""
-        names = [f"tests::allocations::{name}_of_the_calls" for name in ("none", "each")]
+        names = [f"{named(suite, 'allocations')}::{name}_of_the_calls" for name in ("none", "each")]
         none, each = map(self.run, names)
         made, with_calls = map(self.allocations, (none, each), names)
         done = f"{made} allocations without the calls, {with_calls} with them"
@@ -169,10 +169,10 @@ class CrateTests:
                 return f"{test} with each allocation from {made + 1} on refused", fault
         return f"{done}, which answer with all memory refused", ""
 
-    def refuse_each(self) -> tuple[str, str]:
+    def refuse_each(self, suite: str) -> tuple[str, str]:
         """Refuses one allocation after the other of each test of refusals. Returns what was done, and what is wrong."""
         every = met = 0
-        for test in tests_of_refusals(self.crate):
+        for test in tests_of_refusals(suite):
             whole = self.run(test)
             if not whole.is_unmet:
                 return "with no allocation refused", whole.fault or "a refusal was counted"
@@ -185,7 +185,7 @@ class CrateTests:
         done = f"each of {every} allocations refused in turn, {met} refusals met"
         if not met:
             return done, "no call has met one"
-        unmet = UNMET.get(self.crate, 0)
+        unmet = UNMET.get(suite, 0)
         return done, "" if every - met == unmet else f"{every - met} are not met, and {unmet} must not be"
 
 
@@ -197,32 +197,49 @@ def comparison(number: int, jump: bytes) -> bytes:
     return COMPARE + word(number) + jump
 
 
-def source_of(crate: str, module: str) -> str:
-    """The text of a module of a crate's tests; empty if it has none of this name."""
-    path = Path(TOP, "crates", crate, "src/tests", f"{module}.rt")
+def folders_in(tests: Path) -> list[Path]:
+    return sorted(found for found in tests.glob("*") if found.is_dir())
+
+
+def suites_of(crate: str) -> list[str]:
+    """The crate, for the modules in its src/tests, and CRATE/FOLDER for those in each folder there."""
+    folders = folders_in(Path(TOP, "crates", crate, "src/tests"))
+    return [crate, *(f"{crate}/{folder.name}" for folder in folders)]
+
+
+def source_of(suite: str, module: str) -> str:
+    """The text of a module of a suite; empty if it has none of this name."""
+    crate, _, folder = suite.partition("/")
+    path = Path(TOP, "crates", crate, "src/tests", folder, f"{module}.rt")
     return path.read_text("utf-8") if path.is_file() else ""
 
 
-def tests_of_refusals(crate: str) -> list[str]:
+def named(suite: str, module: str) -> str:
+    """A module of a suite, as the built program names it."""
+    return "::".join(["tests", *suite.split("/")[1:], module])
+
+
+def tests_of_refusals(suite: str) -> list[str]:
     """The tests of which each allocation is refused, as the built program names them."""
     tests = re.compile(r"^#\[test\]\nfn (\w+)\(", re.M)
-    texts = {module: source_of(crate, module) for module in KEPT}
+    texts = {module: source_of(suite, module) for module in KEPT}
     refusing = {module: tests.findall(text) for module, text in texts.items() if REFUSALS.search(text)}
-    return [f"tests::{module}::{name}" for module, names in refusing.items() for name in names]
+    return [f"{named(suite, module)}::{name}" for module, names in refusing.items() for name in names]
 
 
 def copied(crate: str, room: str) -> str:
     """Copies the checkout, without the crate's other tests. Returns the folder of the crate in the copy."""
     copy_crates(TOP, Path(room), lambda _: ("out", "must-fail", "attacks"))
     tests = Path(room, "crates", crate, "src/tests")
-    replace(tests.with_suffix(".rt"), re.compile(rf"^mod (?!(?:{'|'.join(KEPT)});)\w+;\n", re.M), "")
-    for found in tests.iterdir():
-        if found.is_dir():
-            shutil.rmtree(found)
-        elif found.stem in KEPT:
-            replace(found, REFUSALS, r"\1 1;")
-        else:
-            found.unlink()
+    folders = [tests, *folders_in(tests)]
+    kept = "|".join([*KEPT, *(folder.name for folder in folders)])
+    for folder in folders:
+        replace(folder.with_suffix(".rt"), re.compile(rf"^mod (?!(?:{kept});)\w+;\n", re.M), "")
+        for found in folder.glob("*.rt"):
+            if found.stem in KEPT:
+                replace(found, REFUSALS, r"\1 1;")
+            elif found.with_suffix("") not in folders:
+                found.unlink()
     return f"{room}/crates/{crate}"
 
 

@@ -180,7 +180,7 @@ TRIED = {
     "README.md": {
         "$ printf": "test_the_first_screen", "./broker script": "test_the_first_look",
         "tools/service": "test_five_minutes_as_a_service", "def deliver": "test_five_minutes_as_a_service",
-        "PYTHONPATH=": "test_five_minutes_as_a_service", "apt install": "dev/check package", "(cd crates": "rt",
+        "PYTHONPATH=": "test_five_minutes_as_a_service", "apt install": "dev/check package", "dev/unproved": "dev/checking/tests",
     },
     PROTOCOL: {
         "rb_broker script": "test_a_synopsis", "rb_broker serve": "test_a_synopsis",
@@ -206,7 +206,7 @@ TRIED = {
         **dict.fromkeys(("mkdir -p", "export PYTHONPATH", "cat > letters.py", "exec 3<>"), "redis/tests"),
     },
     "docs/SCALING.md": {"/usr/bin/python3 -m rb_broker_redis load": "redis/tests"},
-    "docs/EXTENDING.md": {"tools/conform": "test_the_cases_of_a_file"},
+    "docs/EXTENDING.md": {"tools/conform": "test_the_cases_of_a_file", "dev/check program": "test_the_tests_that_are_chosen"},
     "docs/TESTING.md": {"dev/test": "dev/test", "ls crates": "test_the_lists_of_tests", "file: ": "dev/attack"},
 }
 

@@ -143,3 +143,11 @@ def test_each_name_of_a_client_is_there(folder: str, kind: str) -> None:
 def test_pages_are_those_of_the_folder_that_is_tested() -> None:
     """So what is planted can be tried."""
     assert page("README.md") == Path(os.environ.get(TESTED) or TOP, "README.md").read_text("utf-8")
+
+
+def test_the_tests_that_are_chosen() -> None:
+    """Each word is in the name of one that goes through a table."""
+    texts = [file.read_text("utf-8") for file in Path(TOP, "dev/checking/program").glob("test_*.py")]
+    tests = re.findall(r"\.parametrize\(.*\)\ndef (test_\w+)", "\n".join(texts))
+    words = re.search("dev/check program --unproved --only (.*)", page("docs/EXTENDING.md"))[1].split()
+    assert words and all(any(word in test for test in tests) for word in words)

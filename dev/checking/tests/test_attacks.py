@@ -189,13 +189,40 @@ def test_the_functions_of_a_source() -> None:
 
 @pytest.mark.parametrize("verdict, is_refused", [
     ("proved, may abort", False),
-    ("not proved; it calls `rb_a::b::g`, which is not proved", True),
+    ("not proved; it calls `rb_a::b::g`, which is not proved", False),  # its own proof was not looked at
+    ("not proved; it calls `rb_a::b::g`, which is not proved\n./proofs/b/B/f/Answers.antt:7:9: error: `returns`: no", True),
+    ("not proved; it calls `rb_a::b::g`, which is not proved\nnote: src/b.rt:9:1: it is not proved", True),
+    ("not proved; it calls `rb_a::b::g`, which is not proved\nnote: src/b.rt:10:1: it is not proved", False),
     ("no proof: expected answers in ./proofs/b/B/f/Answers.antt; `search` did not prove `returns`", True),
     ("no proof: it calls `rb_a::b::g`, which is not proved", False),  # another attack of the group is refused
 ])
 def test_what_a_check_says_of_a_function(verdict: str, is_refused: bool) -> None:
     change = grouping.Change("src/b.rt", "f", range(9), {})
     assert grouping.is_refused(change, f"fn rb_a::b::B::f: {verdict}\nfn rb_a::c::C::f: not proved\n") is is_refused
+
+
+@pytest.mark.parametrize("message, says_little", [
+    ("record `c` (nearest: .d)\n  has no field `e`\n  the fields are `d`", True),
+    ("`returns`: as printed, the two types differ", False),
+])
+def test_a_proof_that_names_what_is_gone(message: str, says_little: bool) -> None:
+    change = grouping.Change("src/b.rt", "f", range(9), {})
+    said = f"./proofs/b/f/Answers.antt:7:9: error: {message}\nfn rb_a::b::f: not proved\n"
+    assert grouping.says_little(change, said) is says_little
+
+
+def test_an_attack_beside_what_its_function_calls() -> None:
+    """It is tried alone, since the check of its group may not have looked at its proof."""
+    made: list[object] = []
+
+    def check(texts: object) -> tuple[int, str]:
+        made.append(texts)
+        return 1, "fn rb_bell::place::Place::enter: not proved; it calls `rb_bell::a`, which is not proved\nlogic=not-proved\n"
+
+    edit = "enters_and_is_not_counted.edit"
+    attacks = attacking.Attacks("rb_bell", [edit], check)
+    attacks.try_all(1)
+    assert (len(made), attacks.verdicts) == (2, {edit: attacking.Verdict(True)})
 
 
 def test_attacks_of_one_function_are_apart() -> None:

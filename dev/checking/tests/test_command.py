@@ -40,6 +40,7 @@ def test_several_parts_of_which_one_fails(tmp_path: Path) -> None:
 @pytest.mark.parametrize(("words", "said"), [
     (["docs", "no-such-part"], "no part is named no-such-part"),
     (["program", "--program", "/nowhere/none"], "/nowhere/none is no command\n"),
+    (["program", "--program", sys.executable, "--unproved"], "not allowed with argument --program\n"),
 ])
 def test_words_that_are_refused(tmp_path: Path, words: list[str], said: str) -> None:
     ran = check(tmp_path, *words)

@@ -24,14 +24,14 @@ class BodyTest(RoomTest):
         for path, text in edited(Path(self.path("crates"), os.path.dirname(body)), BODIES / f"{body}.edit").items():
             path.write_text(text, "utf-8")
 
-    def expect(self, crate: str, body: str, said: str) -> None:
-        """Expects that with this body the tests of the crate fail, and why."""
+    def expect(self, crate: str, body: str, said: str, passed: int = 0) -> None:
+        """Expects that with this body the tests of the crate fail, all but this many, and why."""
         self.plant(body)
         command = [sys.executable, "-B", self.path("dev/refuse_allocations"), crate]
         ran = subprocess.run(command, capture_output=True, encoding="utf-8", timeout=PATIENCE, check=False)
         self.assertEqual((1, ""), (ran.returncode, ran.stderr), ran.stdout)
         self.assertRegex(ran.stdout, re.compile(rf"^{crate}: {said}$", re.M))
-        self.assertRegex(ran.stdout, r"\n0 passed, \d failed\n\Z")
+        self.assertRegex(ran.stdout, rf"\n{passed} passed, [1-9]\d* failed\n\Z")
 
     def test_a_split_that_waits_once_memory_is_refused(self) -> None:
         # The split is behind the 26 allocations of the calls through a pass, and before the 24 of the offers that ring.
@@ -40,7 +40,8 @@ class BodyTest(RoomTest):
 
     def test_an_act_that_asks_for_memory_in_vain(self) -> None:
         said = r"\d+ allocations without the calls, \d+ with them \(\d+ s\): the calls take memory"
-        self.expect("rb_kept_tests", "rb_kept/act_asks_in_vain", said)
+        # Those of rb_replay, which acts at no kept queue, pass.
+        self.expect("rb_kept_tests", "rb_kept/act_asks_in_vain", said, passed=2)
 
     def test_an_offer_that_asks_for_memory_in_vain(self) -> None:
         # The test makes 28 calls through a pass, and 40 that ring or wait.
