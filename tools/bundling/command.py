@@ -6,7 +6,7 @@ tool packs the program byte for byte as it is; without --program, ./broker first
 the repository's: its tag, or else the time and the name of the last commit. The same files make the same package.
 
 The tool needs git and debhelper, which it looks for before all else, and no network. It prints the path of the
-package.
+package, rb-broker.deb, which it writes over one made before. `dpkg-deb -f rb-broker.deb Version` says which it is.
 
 Exit status: 0 if the package was made, 2 if it was not; one line on standard error then says why.
 """

@@ -13,6 +13,7 @@ from common.program import TOP
 
 FOLDERS = ("clients/java", "clients/python", "docs", "examples", "packaging", "redis", "tools")
 PAGES = ("CHANGELOG.md", "CONTRIBUTING.md", "README.md")
+NAME = "rb-broker.deb"  # whatever its version is, so that one file alone fits the command that the pages have
 NOT_PACKED = shutil.ignore_patterns("tests", "__pycache__", "*.py[co]")
 NEEDED = {"/usr/bin/make": "make", "dh": "debhelper", "git": "git"}  # commands, each with Debian's package of it
 
@@ -36,7 +37,8 @@ def look_ahead(folder: Path) -> None:
 
 
 def make_package(program: Path, folder: Path) -> Path:
-    """Makes the package of a program in a folder, and returns its path. The same files make the same package."""
+    """Makes the package of a program in a folder, in place of one made before, and returns its path. The same files
+    make the same package."""
     if not program.is_file() or program.read_bytes()[:4] != b"\x7fELF":
         raise Fault(f"{program} is no {'ELF program' if program.is_file() else 'file'}")
     version, moment = version_of_repository()
@@ -47,7 +49,7 @@ def make_package(program: Path, folder: Path) -> Path:
         (tree / "debian/changelog").write_text(CHANGELOG.format(version, email.utils.formatdate(moment)), "utf-8")
         build(tree)
         (package,) = Path(room).glob("*.deb")
-        return Path(shutil.copy(package, folder))
+        return Path(shutil.copy(package, folder / NAME))
 
 
 def copy_to(tree: Path, program: Path) -> None:

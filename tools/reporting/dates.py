@@ -3,6 +3,7 @@
 The runs of tools/service open at later moments than those before ended, by the time that passed. A run that goes on
 with --from opens at the moment of the last event before, so the time between the two is missing from later dates.
 """
+import functools
 from datetime import timedelta
 from typing import NamedTuple
 
@@ -20,5 +21,10 @@ class Clock(NamedTuple):
         if self.offset is None:
             return str(moment)
         seconds, rest = divmod(moment + self.offset, SECOND)
-        text = (EPOCH + timedelta(seconds=seconds)).strftime("%Y-%m-%d %H:%M:%S")
+        text = _second(seconds)
         return f"{text}.{rest:09d}"[:len(text) + 1 + digits] if digits else text
+
+
+@functools.lru_cache  # a run lasts for minutes, and a page has tens of thousands of its moments
+def _second(seconds: int) -> str:
+    return (EPOCH + timedelta(seconds=seconds)).strftime("%Y-%m-%d %H:%M:%S")

@@ -9,7 +9,7 @@ from reporting.dates import Clock
 from reporting.depth import Depth, depth_of
 from reporting.findings import Finding, findings_of
 from reporting.jobs import Jobs, jobs_of
-from reporting.lateness import lateness_of
+from reporting.lateness import given_in, in_rising_order
 
 
 class Figures(NamedTuple):
@@ -27,5 +27,6 @@ class Figures(NamedTuple):
 
 def figures_of(name: str, history: History, last: int | None = None, clock: Clock = Clock()) -> Figures:
     """Counts everything."""
-    depth, jobs = depth_of(history), jobs_of(history, last)
-    return Figures(name, history, clock, last, depth, lateness_of(history), jobs, [*findings_of(history, depth)])
+    depth, given = depth_of(history), given_in(history)
+    return Figures(name, history, clock, last, depth, in_rising_order(given.late), jobs_of(history, given, last),
+                   [*findings_of(history, depth)])

@@ -7,10 +7,10 @@ from __future__ import annotations
 from array import array
 from collections import Counter
 from heapq import nlargest
-from operator import itemgetter
 from typing import Iterable, NamedTuple, Sequence
 
 from rb_broker_formats.history import History
+from reporting.lateness import Given
 
 MOST_LATEST = 100
 
@@ -30,20 +30,20 @@ class Jobs(NamedTuple):
     last_given: list[int]  # that were given their last attempt, if that is known
 
 
-def jobs_of(history: History, last: int | None) -> Jobs:
+def jobs_of(history: History, given: Given, last: int | None) -> Jobs:
     """Counts the elements of each job, and the attempts of all. The last attempt may be known."""
     roots, attempts = history.elements.roots, history.elements.attempts
     counts = array("i", bytes(4 * len(roots)))
     for root in roots:
         counts[root] += 1
-    offered, given = Counter(attempts), Counter(attempts[row] for row, _, _ in history.gifts())
+    offered, tried = Counter(attempts), Counter(map(attempts.__getitem__, given.rows))
     again = sorted((root for root, count in enumerate(counts) if count > 1), key=lambda root: -counts[root])
-    latest = nlargest(MOST_LATEST, history.gifts(), key=itemgetter(2))
-    last_given = (roots[row] for row, _, _ in history.gifts() if attempts[row] == last)
+    latest = nlargest(MOST_LATEST, range(len(given.rows)), key=given.late.__getitem__)
+    last_given = (roots[row] for row in given.rows if attempts[row] == last) if last in tried else ()
     return Jobs(
-        counts, [(job, offered[job], given[job]) for job in sorted(offered)],
+        counts, [(job, offered[job], tried[job]) for job in sorted(offered)],
         array("i", (root for root, count in enumerate(counts) if count)), again,
-        list(dict.fromkeys(roots[row] for row, _, _ in latest)), list(dict.fromkeys(last_given)))
+        list(dict.fromkeys(roots[given.rows[place]] for place in latest)), list(dict.fromkeys(last_given)))
 
 
 def lives(history: History, roots: Iterable[int]) -> dict[int, list[int]]:

@@ -3,7 +3,7 @@ from __future__ import annotations
 
 from array import array
 from heapq import merge
-from typing import Sequence
+from typing import NamedTuple, Sequence
 
 from rb_broker_formats.history import History
 
@@ -20,9 +20,20 @@ def in_rising_order(values: array[int]) -> array[int]:
     return array(values.typecode, merge(*parts))
 
 
-def lateness_of(history: History) -> array[int]:
-    """How late each element was that a poll, a take, a timed poll or a drain gave, in rising order."""
-    return in_rising_order(array("Q", (late for _, _, late in history.gifts())))
+class Given(NamedTuple):
+    """The rows of the elements that a poll, a take, a timed poll or a drain gave, in rising order, and how late each was.
+    """
+
+    rows: array[int]
+    late: array[int]
+
+
+def given_in(history: History) -> Given:
+    given = Given(array("i"), array("Q"))
+    for row, _, late in history.gifts():
+        given.rows.append(row)
+        given.late.append(late)
+    return given
 
 
 def rank(values: Sequence[int], share: float) -> int:

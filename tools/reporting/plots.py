@@ -8,7 +8,7 @@ from reporting.depth import Depth
 from reporting.figures import Figures
 from reporting.lateness import rank
 from reporting.time_axis import DATE_STEPS, TimeAxis
-from rb_broker_redis.watching.units import counted, mark, number, span
+from rb_broker_redis.watching.units import mark, number, span
 
 
 class Plot(NamedTuple):
@@ -56,7 +56,7 @@ class Late(NamedTuple):
 
     median: int
     greatest: int
-    gifts: int
+    given: int
 
 
 def lateness_in(axis: TimeAxis, history: History) -> list[Late | None]:
@@ -77,4 +77,4 @@ def lateness_plot(late: Sequence[Late | None], axis: TimeAxis) -> Plot:
         svg.y_axis(svg.round_ticks(y, DATE_STEPS, mark), "lateness"), axis,
         f"Of what was given in each {span(round(axis.width))}.",
         axis.readings([f"median {span(bucket.median)}", f"greatest {span(bucket.greatest)}",
-                       f"of {counted(bucket.gifts, 'gift')}"] if bucket else ["nothing was given"] for bucket in late))
+                       f"of {number(bucket.given)} given"] if bucket else ["nothing was given"] for bucket in late))

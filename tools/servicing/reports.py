@@ -20,7 +20,7 @@ TOOL = Path(__file__).resolve().parent.parent / "report"
 MOST_SECONDS, MOST_BYTES = 300.0, 16_000_000  # that a report may take
 FOUND = ("run", "offered", "id", "origin", "attempt", "payload")
 MOST_FOUND = 100  # in a run, and that are told
-NICENESS = 15  # the server and its clients come first
+NICENESS = 5  # the server and its clients come first, 3 to 1; with 15 it was 28 to 1, and a report took minutes
 _MAKING = threading.Lock()
 
 # What zgrep tells: the run, of an offer its moment, and then the id, the expiry, the origin, the first expiry, the
@@ -48,6 +48,9 @@ def _answer(kind: str, make: Callable[[], str]) -> Answer:
         return Answer(HTTPStatus.SERVICE_UNAVAILABLE, "text/plain", "another report is being made: try again later\n")
     try:
         return Answer(HTTPStatus.OK, kind, make())
+    except subprocess.TimeoutExpired as fault:
+        return Answer(HTTPStatus.SERVICE_UNAVAILABLE, "text/plain", f"there is no report: {fault.timeout:g} s were not "
+                      "enough, since this machine is busy: try again later\n")
     except (OSError, subprocess.SubprocessError) as fault:
         said = str(getattr(fault, "stderr", None) or fault).strip()
         return Answer(HTTPStatus.INTERNAL_SERVER_ERROR, "text/plain", f"there is no report: {said}\n")

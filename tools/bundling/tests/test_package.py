@@ -41,6 +41,27 @@ def test_same_files_make_the_same_package(package: Path, tmp_path: Path) -> None
     assert filecmp.cmp(package, made(tmp_path), shallow=False)
 
 
+def test_a_later_build_is_what_the_pages_install(tmp_path: Path, monkeypatch: pytest.MonkeyPatch) -> None:
+    """No earlier one is left in the folder that fits their command."""
+    made(tmp_path)
+    later = version_9_made(tmp_path, monkeypatch)
+    commands = [re.findall(r"^    apt install (\./\S+)$", Path(TOP, page).read_text("utf-8"), re.M)
+                for page in ("README.md", "docs/OPERATING.md")]
+    assert [[*tmp_path.glob(form)] for (form,) in commands] == [[later], [later]]
+    assert run("dpkg-deb", "-f", str(later), "Version").said.startswith("9+")
+
+
+def version_9_made(folder: Path, monkeypatch: pytest.MonkeyPatch) -> Path:
+    """The package of the same files in a repository of that version."""
+    repository = folder / "repository"
+    repository.mkdir()
+    for words in ("init -q .", "commit -q --allow-empty -m a", "tag -a -m a v9"):
+        told = run("git", "-c", "user.name=a", "-c", "user.email=a@example", *words.split(), folder=str(repository))
+        assert told.status == 0, told
+    monkeypatch.setenv("GIT_DIR", f"{repository}/.git")
+    return made(folder)
+
+
 def test_no_time_of_the_checkout_is_packed(program: str, tmp_path: Path) -> None:
     """A folder's is the older one if a commit was pulled into a clone, until byte code is written into it."""
     began = time.time()

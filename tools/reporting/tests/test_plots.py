@@ -61,8 +61,8 @@ class PlotsTest(unittest.TestCase):
     def test_a_backlog_of_ten_minutes(self) -> None:
         plot = plots_of(figures(backlog()))[-1]
         self.assertEqual(re.findall(r'class="y">([^<]*)<', plot.drawing)[-1], "8 min")
-        # The last of 200 buckets begins at 596.005 s, and has the gifts at 597 to 599 s.
-        self.assertEqual(plot.readings[-1][1], "9.93 min\nmedian 9.97 min\ngreatest 9.98 min\nof 3 gifts")
+        # The last of 200 buckets begins at 596.005 s, and has what was given at 597 to 599 s.
+        self.assertEqual(plot.readings[-1][1], "9.93 min\nmedian 9.97 min\ngreatest 9.98 min\nof 3 given")
 
     def test_lateness_in_each_bucket(self) -> None:
         # In thirds of 211 nanoseconds the events at 100 to 170, 200, and 310.

@@ -91,7 +91,6 @@ class PathsTest(RoomTest):
 
     def test_reports(self) -> None:
         """Of histories of ended runs that are kept, whole, compressed or not."""
-        self.enterContext(mock.patch.object(reports, "NICENESS", 0))  # so that other tests do not come first
         self.board.put(state())
         for number in (8, 10, 12):  # of a run that is not kept, of one that was lost, and of the present one
             self.file(f"run-{number}.txt", RUN)
@@ -107,7 +106,8 @@ class PathsTest(RoomTest):
         self.assertEqual((answer.status, answer.kind), (200, "text/html"))
         self.assertIn("<h1>", answer.text)
         self.assertIn("2026-11-26 05:53:20", answer.text, "the run began 7,600 seconds before 08:00:00.5")
-        for name, limit, says in (("MOST_SECONDS", 0.05, "timed out"), ("MOST_BYTES", 10, "larger than 10 bytes")):
+        for name, limit, says in (("MOST_SECONDS", 0.05, "0.05 s were not enough, since this machine is busy: try again"),
+                                  ("MOST_BYTES", 10, "larger than 10 bytes")):
             with mock.patch.object(reports, name, limit):
                 self.assertIn(says, self.answer("/runs/11").text)
         self.assertEqual(self.answer("/runs/11").status, 200, "what failed is tried again")

@@ -1,5 +1,6 @@
 """Opens the files of histories, which may be compressed, and reads those of runs that follow one another."""
 import gzip
+import io
 import zlib
 from contextlib import contextmanager
 from typing import BinaryIO, Callable, Iterator, Sequence
@@ -10,6 +11,7 @@ from .reader import Reader
 from .text import Text
 
 COMPRESSED = ".gz"  # the end of the name of a file that gzip wrote
+ROOM = 2**16  # bytes of its text that are read ahead
 
 
 Opener = Callable[[str], BinaryIO]  # of the file at a path
@@ -24,8 +26,10 @@ def open_history(path: str, opener: Opener = _open) -> Iterator[BinaryIO]:
     """The text in this file, which what is said of damage names."""
     with opener(path) as file:
         try:
-            # A GzipFile is read as a BinaryIO is.
-            yield gzip.GzipFile(fileobj=file) if path.endswith(COMPRESSED) else file  # type: ignore[misc]
+            if path.endswith(COMPRESSED):  # a GzipFile by itself takes twice the time for each line
+                yield io.BufferedReader(gzip.GzipFile(fileobj=file), ROOM)  # type: ignore[arg-type]
+            else:
+                yield file
         except (EOFError, zlib.error, gzip.BadGzipFile) as fault:
             raise BadCompression(path) from fault
         except Damaged as fault:

@@ -10,7 +10,7 @@ UNITS: tuple[tuple[int, str, int], ...] = (
 
 def unit_of(nanoseconds: int) -> tuple[int, str]:
     """The unit in which a span is shown: its nanoseconds and its name."""
-    return [(size, name) for size, name, least in UNITS if nanoseconds >= size * least][-1]
+    return next((size, name) for size, name, least in reversed(UNITS) if nanoseconds >= size * least)
 
 
 def span(nanoseconds: int) -> str:
