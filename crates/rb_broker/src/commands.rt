@@ -4,13 +4,13 @@ use crate::history_file::HistoryFile;
 use crate::listener::{address_of, handed_listener};
 use crate::run_clock::RunClock;
 use rb_blocking::MachineClock;
-use rb_ending::BrokerFault;
+use rb_ending::{BrokerFault, Recorder};
 use rb_options::{ReplayOptions, ScriptOptions, ServeOptions};
 use rb_protocol::{LimitedReader, LimitedWriter, WriterStatus};
 use rb_queue::Opening;
 use rb_runs::{ReadyScript, opening_in, over_timer, print_replay};
 use rb_serving::{
-    CountedListener, Ending, Recorder, TcpDoor, TcpManners, print_listening, run_server,
+    CountedListener, Ending, TcpDoor, TcpManners, print_listening, run_server,
 };
 use rb_session::{Delivery, Ended, HandsOn};
 use rb_timer::Timer;

@@ -2,9 +2,8 @@ ghost use Rattle.std.specs.Prelude.{◌≡◌, IfErr, IsTrue, false, is_some};
 ghost use Rattle.std.specs.Fs.{asks_write, asks_create, asks_truncate};
 ghost use Rattle.rb_ending.specs.declared.broker_fault.BrokerFault.TheVariants.{WriteHistory};
 
-use rb_ending::BrokerFault;
+use rb_ending::{BrokerFault, Recorder};
 use rb_protocol::WriteFault;
-use rb_serving::Recorder;
 use std::fs::{File, OpenOptions};
 use std::io::{self, ErrorKind, Write};
 

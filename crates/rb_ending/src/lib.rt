@@ -5,8 +5,10 @@
 
 mod audit;
 mod broker_fault;
+mod recorder;
 mod recording;
 
 pub use audit::audit_line;
 pub use broker_fault::BrokerFault;
+pub use recorder::{NoRecorder, Recorder};
 pub use recording::write_recording;

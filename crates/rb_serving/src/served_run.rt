@@ -7,14 +7,13 @@ ghost use Rattle.rb_serving.specs.Terms.{terms_of};
 ghost use Rattle.rb_serving.specs.Visits.{Satisfies};
 
 use crate::door::Door;
-use crate::recorder::Recorder;
 use crate::serve_clock::ServeClock;
 use crate::serve_end::ended;
 use crate::serve_report::ServeReport;
 use crate::served_queue::ServedQueue;
 use crate::server::serve_door_gathered;
 use rb_blocking::Clock;
-use rb_ending::{BrokerFault, write_recording};
+use rb_ending::{BrokerFault, Recorder, write_recording};
 use rb_history::{HistoryFault, HistoryRoom};
 use rb_options::ServerRunOptions;
 use rb_queue::Opening;

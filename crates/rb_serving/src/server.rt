@@ -8,14 +8,13 @@ ghost use Rattle.rb_serving.specs.Visits.{Satisfies};
 
 use crate::decision::{Decider, Deciding};
 use crate::door::Door;
-use crate::recorder::{NoRecorder, Recorder};
 use crate::serve_report::ServeReport;
 use crate::served_queue::ServedQueue;
 use crate::service::Service;
 use crate::visit_counts::VisitCounts;
 use crate::workers::serve_all;
 use rb_blocking::{Bell, Clock};
-use rb_ending::BrokerFault;
+use rb_ending::{BrokerFault, NoRecorder, Recorder};
 use rb_lock::{Pass, Shared};
 use rb_options::ServerRunOptions;
 use rb_session::{Delivery, HandsOn};

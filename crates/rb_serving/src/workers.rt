@@ -6,12 +6,11 @@ ghost use Rattle.rb_serving.specs.Visits.{IsUnused, Satisfies};
 
 use crate::decision::{Decided, Decider, Deciding, Decision};
 use crate::door::Door;
-use crate::recorder::Recorder;
 use crate::service::Service;
 use crate::visit_counts::VisitCounts;
 use crate::worker::work_with_all;
 use rb_blocking::Clock;
-use rb_ending::BrokerFault;
+use rb_ending::{BrokerFault, Recorder};
 use rb_lock::Pass;
 use rb_timer::Timer;
 use std::snapshot::Snapshot;

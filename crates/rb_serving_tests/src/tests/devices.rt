@@ -3,7 +3,7 @@
 ghost use Rattle.std.specs.Prelude.{◌≡◌, ◌≤◌, ◌↔◌, ◌<◌, true};
 
 use rb_blocking::{Clock, Gate, Rested};
-use rb_ending::{BrokerFault, audit_line};
+use rb_ending::{BrokerFault, NoRecorder, Recorder, audit_line};
 use rb_lock::Pass;
 use rb_options::ServerRunOptions;
 use rb_protocol::{LimitedReader, WriterStatus};
@@ -11,8 +11,7 @@ use rb_queue::{Audit, Opening};
 use rb_replay::check;
 use rb_retry::Policy;
 use rb_serving::{
-    Door, DoorFault, NoRecorder, Recorder, ServeReport, ServedQueue, Visit, serve_door,
-    serve_door_gathered,
+    Door, DoorFault, ServeReport, ServedQueue, Visit, serve_door, serve_door_gathered,
 };
 use rb_session::{Delivery, HandsOn};
 use rb_timer::{ListTimer, Timer};

@@ -5,9 +5,8 @@ ghost use Rattle.std.specs.Prelude.{false};
 use crate::tests::devices::{
     Received, at_once, expect, expect_number, expect_text, hundred_calls, planned, recorded,
 };
-use rb_ending::BrokerFault;
+use rb_ending::{BrokerFault, Recorder};
 use rb_protocol::WriteFault;
-use rb_serving::Recorder;
 use std::alloc::Global;
 use std::process::Abort;
 use std::sync::Wait;

@@ -2,7 +2,7 @@ ghost use Rattle.std.specs.Prelude.{◌≡◌, Bool, false, OnErr, OnOk};
 
 use rb_protocol::WriteFault;
 
-/// What records a server's run. It begins when the server has all that it needs and has let nobody in.
+/// What records a run. It begins when the run has all that it needs, before anything is read and anybody let in.
 ///
 /// `has_begun` tells how a recorder began, and `has_failed` that it could not. Code over any recorder learns them, and
 /// gets a `Begun`, in no other way than by letting it begin. So one that is as it was before has not begun.
@@ -16,8 +16,8 @@ pub trait Recorder {
 
     ghost keeps: { Self → Bool };
 
-    /// Begins, such as by emptying the file that the history goes to. `Err` means that it could not, and the server
-    /// then serves nobody.
+    /// Begins, such as by emptying the file that the history goes to. `Err` means that it could not, and then nobody is
+    /// served.
     fn begin(&mut self) -> Result<Self::Begun, WriteFault>
         ensures begun { OnOk result (has_begun self.old self.new) }
         ensures failed { OnErr result (has_failed self.old self.new) };
