@@ -3,4 +3,5 @@
 pub mod Beginnings
 pub mod TextVerdicts
 pub mod ScriptRuns
+pub mod RecordedScripts
 pub mod WrittenRuns

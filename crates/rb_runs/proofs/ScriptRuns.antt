@@ -13,7 +13,7 @@ use Rattle.rb_session.specs.declared.ended.Ended.{Ended}
 use Rattle.rb_session.specs.declared.session_fault.SessionFault.{SessionFault}
 use Rattle.rb_session.specs.declared.session_fault.SessionFault.TheVariants.{Memory}
 use Rattle.rb_ending.specs.declared.broker_fault.BrokerFault.{BrokerFault}
-use Rattle.rb_runs.specs.Script.{EndsScript, HistoryDevice, IsNew, IsRecording, RanScript, ScriptTerms, result_of}
+use Rattle.rb_runs.specs.Script.{EndsScript, HistoryDevice, IsNew, IsRecording, LeadsTo, RanScript, ScriptTerms, result_of}
 use Rattle.rb_runs.specs.declared.recording.Recording.{Recording}
 use Rattle.rb_runs.specs.declared.script_report.ScriptReport.{ScriptReport}
 
@@ -36,6 +36,33 @@ new_desk opening calls = record {
   share = nothing;
   moment = opening.last_at;
   before = 0;
+}
+
+-- a session ran from a new desk over a log to some other, and this log is what it led to
+pub leads_to : (terms : ScriptTerms) (left left' got got' : Option (List ℕ)) (name : ℕ) (log kept : Log) (share : Totals)
+    (from to : KeptState) (session : Result Ended SessionFault)
+    → from ≡ record { name = name; log = log; share = share; moment = log.opening.last_at; before = length log.history }
+    → log.opening ≡ terms.opening → log.history ≡ [] → log.capacity ≡ terms.calls → share ≡ nothing
+    → Exchanges left left' got got' (λ came sent.
+    Ran terms.rules (IsAtEnd left') from (record { came = came; sent = sent; ended = session }) to)
+    → kept ≡ to.log
+    → Exchanges left left' got got' (λ came sent.
+    LeadsTo terms (IsAtEnd left') (record { came = came; sent = sent; ended = session }) kept)
+leads_to terms left left' got got' name log kept share from to session new begins empty room none ran is = record {
+  came = ran.came;
+  sent = ran.sent;
+  consumed = ran.consumed;
+  appended = ran.appended;
+  holds = record {
+    to = to;
+    session = record {
+      from = from;
+      new = subst (λ desk. IsNew desk terms.opening terms.calls) (sym new)
+          (desk_over name terms.calls terms.opening log share begins empty room none);
+      ran = ran.holds;
+    };
+    log_is = is;
+  };
 }
 
 module _ {H : Type 0} (terms : ScriptTerms) (history : HistoryDevice H) where
@@ -61,30 +88,24 @@ module _ {H : Type 0} (terms : ScriptTerms) (history : HistoryDevice H) where
     };
   }
 
-  -- a session ran from a new desk over this log to some other, and this became of the log that it led to
-  pub ran_script : (left left' got got' : Option (List ℕ)) (name : ℕ) (log kept : Log) (share : Totals) (from to : KeptState)
-      (session : Result Ended SessionFault) (recording : Recording)
-      → from ≡ record { name = name; log = log; share = share; moment = log.opening.last_at; before = length log.history }
-      → log.opening ≡ terms.opening → log.history ≡ [] → log.capacity ≡ terms.calls → share ≡ nothing
+  -- this became of the log that a session led to
+  pub ran_script : (left left' got got' : Option (List ℕ)) (log : Log) (session : Result Ended SessionFault)
+      (recording : Recording)
       → Exchanges left left' got got' (λ came sent.
-      Ran terms.rules (IsAtEnd left') from (record { came = came; sent = sent; ended = session }) to)
-      → IsRecording history.contents kept session recording history.before history.after → kept ≡ to.log
+      LeadsTo terms (IsAtEnd left') (record { came = came; sent = sent; ended = session }) log)
+      → IsRecording history.contents log session recording history.before history.after
       → Exchanges left left' got got' (λ came sent.
       RanScript terms (IsAtEnd left') came sent (record { session = session; recording = recording }) history)
-  ran_script left left' got got' name log kept share from to session recording new begins empty room none ran recorded is = record {
+  ran_script left left' got got' log session recording ran recorded = record {
     came = ran.came;
     sent = ran.sent;
     consumed = ran.consumed;
     appended = ran.appended;
     holds = record {
-      to = to;
-      session = record {
-        from = from;
-        new = subst (λ desk. IsNew desk terms.opening terms.calls) (sym new)
-            (desk_over name terms.calls terms.opening log share begins empty room none);
-        ran = ran.holds;
-      };
-      recorded = subst (λ log. IsRecording history.contents log session recording history.before history.after) is recorded;
+      to = ran.holds.to;
+      session = ran.holds.session;
+      recorded = subst (λ log. IsRecording history.contents log session recording history.before history.after)
+          ran.holds.log_is recorded;
     };
   }
 

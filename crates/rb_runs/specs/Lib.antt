@@ -16,4 +16,5 @@ pub mod TextVerdict
 pub mod Beginning
 pub mod FileText
 pub mod Script
+pub mod RecordedScript
 pub mod WrittenRuns

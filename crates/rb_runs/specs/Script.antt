@@ -56,6 +56,12 @@ pub record RanSession (terms : ScriptTerms) (Over : Type 0) (served : Served) (t
   pub new : IsNew from terms.opening terms.calls
   pub ran : Ran terms.rules Over from served to
 
+-- The session was served so, and led to this log.
+pub record LeadsTo (terms : ScriptTerms) (Over : Type 0) (served : Served) (log : Log) : Type 0 where
+  pub to : KeptState
+  pub session : RanSession terms Over served to
+  pub log_is : log ≡ to.log
+
 -- The device for a history, if there is one: what it tells that it has got, as it was, and as it was left.
 pub record HistoryDevice (H : Type 0) : Type 0 where
   pub contents : H → Option (List ℕ)

@@ -5,11 +5,12 @@ ghost use Rattle.rb_session.specs.Exchange.{Exchanges};
 ghost use Rattle.rb_session.specs.Reasons.{IsReason, IsWriteReason};
 ghost use Rattle.rb_protocol.specs.Writes.{WritesOn};
 ghost use Rattle.rb_ending.specs.Recording.{lent, given_back};
-ghost use Rattle.rb_runs.specs.Script.{IsFresh, IsRecording, RanScript, script_terms, device_of};
+ghost use Rattle.rb_runs.specs.RecordedScript.{RanRecorded};
+ghost use Rattle.rb_runs.specs.Script.{IsFresh, LeadsTo, IsRecording, RanScript, script_terms, device_of};
 
 use crate::recording::Recording;
 use crate::script_report::ScriptReport;
-use rb_ending::write_recording;
+use rb_ending::{Recorder, write_recording};
 use rb_history::HistoryRoom;
 use rb_kept::Kept;
 use rb_ledger::Tally;
@@ -92,15 +93,7 @@ impl<T: Timer> ReadyScript<T> {
         ensures counted { reader.new.left ≤ reader.old.left }
         ensures same_reference { reader.new.inner.ghost_name ≡ reader.old.inner.ghost_name }
     {
-        let ReadyScript {
-            mut kept,
-            mut tally,
-            policy,
-            session,
-            text,
-        } = self;
-        let mut desk = KeptDesk::new(&mut kept, &mut tally);
-        let (writer, session) = run_in(session, reader, writer, &mut desk, &policy);
+        let (writer, session, kept, text) = self.run_session(reader, writer);
         match history {
             Some(device) => {
                 let recording = recorded(text, &kept, device);
@@ -111,6 +104,71 @@ impl<T: Timer> ReadyScript<T> {
                 (writer, ScriptReport { session, recording })
             }
         }
+    }
+
+    /// Runs one session like `run`, and then writes the run's history to the recorder, if that records.
+    pub(crate) fn run_recorded<'a, R: Read, W: Write, B: Recorder + Write>(
+        self,
+        reader: &mut LimitedReader<'_, R>,
+        writer: LimitedWriter<'a, W>,
+        recorder: &mut B,
+    ) -> (LimitedWriter<'a, W>, ScriptReport)
+        ensures ran { Exchanges
+            (R.remaining reader.old.inner.now) (R.remaining reader.new.inner.now)
+            (W.contents writer.entry.inner.now) (W.contents result.0.inner.now) (λ came sent.
+            RanRecorded B.keeps B.contents (script_terms W.contents (W.contents writer.entry.inner.now)
+            self.policy self.kept.capacity self.session.delivery self.kept.opening)
+            (IsAtEnd (R.remaining reader.new.inner.now)) came sent result.1 recorder.old recorder.new) }
+        ensures begun { result.1.session ≢ Err SessionFault.Memory }
+        ensures reason { IsReason reader.old.state reader.new result.1.session }
+        ensures write_reason { IsWriteReason writer.entry.status.now.state result.0.status.now result.1.session }
+        ensures on { WritesOn writer.entry result.0 }
+        ensures same_reference { reader.new.inner.ghost_name ≡ reader.old.inner.ghost_name }
+    {
+        let (writer, session, kept, room) = self.run_session(reader, writer);
+        if recorder.records() {
+            let recording = recorded(room, &kept, recorder);
+            (writer, ScriptReport { session, recording })
+        } else {
+            let recording = Recording::NotAsked;
+            (writer, ScriptReport { session, recording })
+        }
+    }
+
+    // Runs the session. The queue that it led to comes back, with the room for its history's text.
+    fn run_session<'a, R: Read, W: Write>(
+        self,
+        reader: &mut LimitedReader<'_, R>,
+        writer: LimitedWriter<'a, W>,
+    ) -> (
+        LimitedWriter<'a, W>,
+        Result<Ended, SessionFault>,
+        Kept<T>,
+        HistoryRoom,
+    )
+        ensures ran { Exchanges
+            (R.remaining reader.old.inner.now) (R.remaining reader.new.inner.now)
+            (W.contents writer.entry.inner.now) (W.contents result.0.inner.now) (λ came sent.
+            LeadsTo (script_terms W.contents (W.contents writer.entry.inner.now)
+            self.policy self.kept.capacity self.session.delivery self.kept.opening)
+            (IsAtEnd (R.remaining reader.new.inner.now)) (record { came = came; sent = sent; ended = result.1 }) result.2) }
+        ensures begun { result.1 ≢ Err SessionFault.Memory }
+        ensures reason { IsReason reader.old.state reader.new result.1 }
+        ensures write_reason { IsWriteReason writer.entry.status.now.state result.0.status.now result.1 }
+        ensures on { WritesOn writer.entry result.0 }
+        ensures counted { reader.new.left ≤ reader.old.left }
+        ensures same_reference { reader.new.inner.ghost_name ≡ reader.old.inner.ghost_name }
+    {
+        let ReadyScript {
+            mut kept,
+            mut tally,
+            policy,
+            session,
+            text,
+        } = self;
+        let mut desk = KeptDesk::new(&mut kept, &mut tally);
+        let (writer, session) = run_in(session, reader, writer, &mut desk, &policy);
+        (writer, session, kept, text)
     }
 }
 
