@@ -1,5 +1,6 @@
 ghost use Rattle.std.specs.Prelude.{◌≡◌, ◌<◌, Ok, Err, OnErr, OnOk, IfErr, IfOk};
 ghost use Rattle.std.specs.Io.KnownBytes.{Appends};
+ghost use Rattle.rb_ending.specs.declared.broker_fault.BrokerFault.TheVariants.{Listen};
 ghost use Rattle.rb_serving.specs.TcpReasons.{IsNoMore, ShowsDrain};
 ghost use Rattle.rb_serving.specs.TcpSteps.{IsClient, IsAsked};
 
@@ -14,6 +15,7 @@ use crate::tcp_reader::TcpReader;
 use crate::tcp_writer::TcpWriter;
 use crate::visit::Visit;
 use rb_blocking::MachineClock;
+use rb_ending::BrokerFault;
 use std::alloc::Global;
 use std::fmt::{self, Debug, Formatter};
 use std::io::Write;
@@ -54,8 +56,8 @@ pub enum NoMore<'a> {
 }
 
 impl<'a> TcpDoor<'a, CountedListener> {
-    /// A door for this many sessions, each of whose waits ends after this many turns. The fault is that of a listener
-    /// whose accepts can't be told to wait for 20 ms at most, which they are if something may end the server.
+    /// A door for this many sessions, each of whose waits ends after this many turns. The fault is `Listen`, if the
+    /// listener's accepts can't be told to wait for 20 ms at most, which they are if something may end the server.
     pub fn new(
         alloc: Global,
         listener: TcpListener,
@@ -63,14 +65,18 @@ impl<'a> TcpDoor<'a, CountedListener> {
         turns: u64,
         manners: TcpManners<'a>,
         clock: &'a MachineClock<'a, HostRuntime>,
-    ) -> io::Result<TcpDoor<'a, CountedListener>>
+    ) -> Result<TcpDoor<'a, CountedListener>, BrokerFault>
         ensures sessions { IfOk result (λ door. door.sessions ≡ sessions) }
         ensures turns { IfOk result (λ door. door.turns ≡ turns) }
+        ensures fault { IfErr result (λ fault. fault ≡ Listen) }
     {
         let most = manners.ending.map(|_| longest_look());
+        let Ok(listener) = CountedListener::new(listener, most) else {
+            return Err(BrokerFault::Listen);
+        };
         Ok(TcpDoor {
             alloc,
-            listener: CountedListener::new(listener, most)?,
+            listener,
             sessions,
             turns,
             manners,

@@ -1,4 +1,7 @@
+ghost use Rattle.std.specs.Prelude.{◌≡◌};
+
 use crate::ending::Ending;
+use rb_options::ServeOptions;
 
 /// How a TCP door treats its clients, beside what every one does.
 #[derive(Clone, Copy, Debug, Default)]
@@ -11,4 +14,27 @@ pub struct TcpManners<'a> {
     pub silent: Option<u64>,
     /// What may end the door's sessions, if anything.
     pub ending: Option<&'a Ending>,
+}
+
+impl<'a> TcpManners<'a> {
+    /// Those that the options of a server say.
+    pub fn of(
+        options: &ServeOptions,
+        greeting: &'a [u8],
+        ending: Option<&'a Ending>,
+    ) -> TcpManners<'a>
+        ensures { result ≡ record {
+          greeting = greeting.entry;
+          attentive = options.now.attentive;
+          silent = options.now.silent;
+          ending = ending.entry;
+        } }
+    {
+        TcpManners {
+            greeting,
+            attentive: options.attentive,
+            silent: options.silent,
+            ending,
+        }
+    }
 }
