@@ -1,20 +1,14 @@
-use crate::files::{check_output, text_of};
+use crate::files::{check_output, opening_behind, text_of};
 use crate::greeting::greeting_line;
 use crate::history_file::HistoryFile;
-use crate::listener::{address_of, handed_listener};
+use crate::listener::Place;
 use crate::run_clock::RunClock;
 use rb_blocking::MachineClock;
-use rb_ending::{BrokerFault, Recorder};
+use rb_ending::BrokerFault;
 use rb_options::{ReplayOptions, ScriptOptions, ServeOptions};
-use rb_protocol::{LimitedReader, LimitedWriter, WriterStatus};
-use rb_queue::Opening;
-use rb_runs::{ReadyScript, opening_in, over_timer, print_replay};
-use rb_serving::{
-    CountedListener, Ending, TcpDoor, TcpManners, print_listening, run_server,
-};
-use rb_session::{Delivery, Ended, HandsOn};
-use rb_timer::Timer;
-use std::net::TcpListener;
+use rb_runs::{over_timer, print_replay, record_script};
+use rb_serving::{Ending, TcpDoor, TcpManners, print_listening, run_server};
+use rb_session::Ended;
 use std::sync::Wait;
 use std::thread::Threads;
 use std::time;
@@ -33,29 +27,18 @@ pub fn script(
     let opening = opening_behind(rt, from)?;
     check_output(rt, history)?;
     let history = HistoryFile::create(rt, history)?;
-    over_timer!(
+    let (_, ended) = over_timer!(
         options.timer,
-        script_over::<_>(rt, options, opening, history)
-    )
-}
-
-// Runs a script over this timer.
-fn script_over<T: Timer>(
-    rt: &HostRuntime,
-    options: &ScriptOptions,
-    opening: Opening,
-    mut history: HistoryFile,
-) -> Result<Ended, BrokerFault> {
-    let delivery = Delivery::Gathered(HandsOn::BeforeReads);
-    let ready = ReadyScript::<T>::new(rt.alloc(), options, delivery, opening)?;
-    history.begin().map_err(|_| BrokerFault::WriteHistory)?;
-    let mut input = rt.stdin();
-    let mut output = rt.stdout();
-    let mut reader = LimitedReader::new(&mut input);
-    let mut status = WriterStatus::of(&output);
-    let writer = LimitedWriter::new(&mut output, &mut status);
-    let (_, report) = ready.run(&mut reader, writer, history.device());
-    report.result()
+        record_script::<_, _, _, _>(
+            rt.alloc(),
+            options,
+            opening,
+            &mut rt.stdin(),
+            &mut rt.stdout(),
+            history
+        )
+    );
+    ended
 }
 
 /// Checks the history in a file, prints the line about it, and returns the exit status.
@@ -81,64 +64,29 @@ pub fn serve<R: Threads + Wait + time::Clock + Sync>(
     history: Option<&str>,
     from: Option<&str>,
 ) -> Result<(), BrokerFault> {
-    let alloc = rt.alloc();
     let opening = opening_behind(rt, from)?;
-    let greeting = greeting_line(alloc, greeting)?;
-    let address = address_of(options.port);
-    let handed = match options.socket {
-        Some(number) => Some(handed_listener(number, address)?),
-        None => None,
-    };
+    let greeting = greeting_line(rt.alloc(), greeting)?;
+    let place = Place::of(options)?;
     check_output(rt, history)?;
     let history = HistoryFile::create(rt, history)?;
-    let listener = match handed {
-        Some(listener) => listener,
-        None => TcpListener::bind(rt, address).map_err(|_| BrokerFault::Listen)?,
-    };
-    let manners = TcpManners {
-        greeting: greeting.as_slice(),
-        attentive: options.attentive,
-        silent: options.silent,
-        ending,
-    };
+    let listener = place.listener(rt)?;
     let clock = MachineClock::new(rt);
+    let manners = TcpManners::of(options, greeting.as_slice(), ending);
     let (sessions, turns) = (options.sessions, options.turns);
-    let door = TcpDoor::new(alloc, listener, sessions, turns, manners, &clock).map_err(
-        |_| BrokerFault::Listen,
-    )?;
-    print_listening(alloc, &mut rt.stdout(), options.port)?;
-    over_timer!(
+    let door = TcpDoor::new(rt.alloc(), listener, sessions, turns, manners, &clock)?;
+    print_listening(rt.alloc(), &mut rt.stdout(), options.port)?;
+    let (_, _, ended) = over_timer!(
         options.timer,
-        serve_over::<_, R>(rt, handle, &door, options, opening, history)
-    )
-}
-
-// Serves the clients of a door over this timer.
-fn serve_over<T: Timer + Send, R: Threads + Wait + time::Clock + Sync>(
-    rt: &HostRuntime,
-    handle: &R,
-    door: &TcpDoor<'_, CountedListener>,
-    options: &ServeOptions,
-    opening: Opening,
-    history: HistoryFile,
-) -> Result<(), BrokerFault> {
-    let (_, _, ended) = run_server::<T, _, _, _, _, _>(
-        handle,
-        rt.alloc(),
-        door.entrance(),
-        RunClock::new(handle, options.since),
-        &options.run,
-        opening,
-        history,
-        &mut rt.stdout(),
+        run_server::<_, _, _, _, _, _>(
+            handle,
+            rt.alloc(),
+            door.entrance(),
+            RunClock::new(handle, options.since),
+            &options.run,
+            opening,
+            history,
+            &mut rt.stdout()
+        )
     );
     ended
-}
-
-// The opening of a run: the one that the history in a file leads to, or if none is named the empty one.
-fn opening_behind(rt: &HostRuntime, from: Option<&str>) -> Result<Opening, BrokerFault> {
-    match from {
-        Some(path) => opening_in(rt.alloc(), &text_of(rt, path)?),
-        None => Ok(Opening::empty(rt.alloc())),
-    }
 }

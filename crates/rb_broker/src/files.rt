@@ -5,7 +5,8 @@ ghost use Rattle.rb_ending.specs.declared.broker_fault.BrokerFault.TheVariants.{
 ghost use Rattle.rb_broker.specs.declared.files.TheConstants.{NOT_OPEN};
 
 use rb_ending::BrokerFault;
-use rb_runs::read_all;
+use rb_queue::Opening;
+use rb_runs::{opening_in, read_all};
 use std::fs;
 use std::io::{self, Write};
 
@@ -20,6 +21,15 @@ pub fn text_of(rt: &HostRuntime, path: &str) -> Result<Vec<u8>, BrokerFault>
     match fs::open(rt, path) {
         Ok(mut file) => read_all(rt.alloc(), &mut file),
         Err(_) => Err(BrokerFault::ReadHistory),
+    }
+}
+
+/// The opening of a run: the one that the history in a file leads to, or if none is named the empty one. The faults are
+/// those of `text_of`, and `BadOpening` if no run can continue that text.
+pub fn opening_behind(rt: &HostRuntime, from: Option<&str>) -> Result<Opening, BrokerFault> {
+    match from {
+        Some(path) => opening_in(rt.alloc(), &text_of(rt, path)?),
+        None => Ok(Opening::empty(rt.alloc())),
     }
 }
 

@@ -29,11 +29,6 @@ impl HistoryFile {
             Err(_) => Err(BrokerFault::WriteHistory),
         }
     }
-
-    /// The file, to write the history to.
-    pub fn device(&mut self) -> Option<&mut File> {
-        self.file.as_mut()
-    }
 }
 
 impl Recorder for HistoryFile {
