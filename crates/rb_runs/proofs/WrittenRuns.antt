@@ -48,7 +48,7 @@ wrote_whole : {H : Type 0} (contents : H → Option (List ℕ)) (log : Log) (ses
 wrote_whole contents log (Err fault) recording ended device left is recorded = absurd (cc)
 wrote_whole contents log (Ok other) NotAsked ended device left is recorded = absurd (cc)
 wrote_whole contents log (Ok other) NotBegun ended device left is recorded = absurd (cc)
-wrote_whole contents log (Ok other) Written ended device left is recorded = (cc, recorded.2)
+wrote_whole contents log (Ok other) Written ended device left is recorded = (cc, recorded.2.records)
 wrote_whole contents log (Ok other) (Failed fault) ended device left is recorded = absurd (cc)
 
 pub script_is_read : {W H : Type 0} (sends : W → Option (List ℕ)) (contents : H → Option (List ℕ))

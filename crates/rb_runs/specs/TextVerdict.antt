@@ -18,6 +18,7 @@ use Rattle.rb_replay.specs.declared.chain_fault.ChainFault.TheVariants as chain
 use Rattle.rb_replay.specs.declared.chain_reason.ChainReason.{ChainReason}
 use Rattle.rb_replay.specs.declared.replay_fault.ReplayFault.TheVariants as check
 use Rattle.rb_ending.specs.AuditText.{audit_text}
+use Rattle.rb_ending.specs.WriteReasons.{FailsBetween}
 use Rattle.rb_ending.specs.declared.broker_fault.BrokerFault.{BrokerFault}
 use Rattle.rb_ending.specs.declared.broker_fault.BrokerFault.TheVariants.{Memory, Write}
 use Rattle.rb_runs.specs.declared.text_verdict.TextVerdict.{TextVerdict}
@@ -77,12 +78,13 @@ pub record Tells (verdict : TextVerdict) (line : List ℕ) (status : ℕ) : Type
   pub line_is : line ≡ verdict_text verdict
   pub status_is : status ≡ status_of_verdict verdict
 
--- The line of the verdict was printed, with this status; or nothing, if memory was refused; or a first part of it.
-abbrev pub PrintsVerdict : (TextVerdict → Type 0) → Result ℕ BrokerFault → Option (List ℕ) → Option (List ℕ) → Type 0
-PrintsVerdict Holds (Ok status) got got' =
-    (verdict : TextVerdict) × Holds verdict × ((line : List ℕ) × Tells verdict line status × Appends got got' line)
-PrintsVerdict Holds (Err Memory) got got' = Keeps got got'
-PrintsVerdict Holds (Err fault) got got' =
-    (fault ≡ Write) × ((verdict : TextVerdict) × Holds verdict
-    × ((line : List ℕ) × (status : ℕ) × Tells verdict line status
-    × ((sent : List ℕ) × (unsent : List ℕ) × (line ≡ sent ++ unsent) × Appends got got' sent)))
+-- The line of the verdict was printed, with this status; or nothing, if memory was refused; or a first part of it, if the
+-- output can't be written to.
+abbrev pub PrintsVerdict : {W : Type 0} → (W → Option (List ℕ)) → (TextVerdict → Type 0) → Result ℕ BrokerFault → W → W
+    → Type 0
+PrintsVerdict contents Holds (Ok status) old new = (verdict : TextVerdict) × Holds verdict
+    × ((line : List ℕ) × Tells verdict line status × Appends (contents old) (contents new) line)
+PrintsVerdict contents Holds (Err Memory) old new = Keeps (contents old) (contents new)
+PrintsVerdict contents Holds (Err fault) old new = (fault ≡ Write) × FailsBetween old new
+    × ((verdict : TextVerdict) × Holds verdict × ((line : List ℕ) × (status : ℕ) × Tells verdict line status
+    × ((sent : List ℕ) × (unsent : List ℕ) × (line ≡ sent ++ unsent) × Appends (contents old) (contents new) sent)))

@@ -1,9 +1,10 @@
-ghost use Rattle.std.specs.Prelude.{◌≡◌, List, IfOk, IfErr, string_bytes};
+ghost use Rattle.std.specs.Prelude.{◌≡◌, List, IfOk, IfErr, OnErr, string_bytes};
 ghost use Rattle.rb_queue.specs.declared.event.Event.{Event};
 ghost use Rattle.rb_queue.specs.declared.opening.Opening.{Opening};
 ghost use Rattle.rb_history.specs.Ranges.{IsRightOpening, AreRightEvents};
 ghost use Rattle.rb_history.specs.Readings.{IsTextOf};
 ghost use Rattle.rb_protocol.specs.Sending.{Sends};
+ghost use Rattle.rb_ending.specs.WriteReasons.{FailsBetween};
 ghost use Rattle.rb_runs.specs.TextVerdict.{IsVerdictOf, IsVerdictOn, PrintsVerdict, Tells};
 ghost use Rattle.rb_runs.specs.declared.text_verdict.TextVerdict.{TextVerdict};
 
@@ -43,10 +44,10 @@ pub fn print_replay<W: Write>(
     text: &[u8],
     output: &mut W,
 ) -> Result<u8, BrokerFault>
-    ensures line { PrintsVerdict (IsVerdictOf options.now.chains text.now) result (W.contents output.old) (W.contents output.new) }
+    ensures line { PrintsVerdict W.contents (IsVerdictOf options.now.chains text.now) result output.old output.new }
     ensures each { (opening : Opening) (events : List Event) → IsRightOpening opening → AreRightEvents events
-        → IsTextOf opening events text.now → PrintsVerdict (IsVerdictOn options.now.chains opening events) result
-        (W.contents output.old) (W.contents output.new) }
+        → IsTextOf opening events text.now → PrintsVerdict W.contents (IsVerdictOn options.now.chains opening events)
+        result output.old output.new }
 {
     let (line, status) = run_replay(alloc, options, text)?;
     match print(output, line.as_bytes()) {
@@ -57,7 +58,8 @@ pub fn print_replay<W: Write>(
 
 // Writes a line and flushes.
 fn print<W: Write>(output: &mut W, line: &[u8]) -> Result<(), WriteFault>
-    ensures { Sends result (W.contents output.old) line.now (W.contents output.new) }
+    ensures sent { Sends result (W.contents output.old) line.now (W.contents output.new) }
+    ensures failed { OnErr result (FailsBetween output.old output.new) }
 {
     let mut status = WriterStatus::of(&*output);
     send_at_once(&mut LimitedWriter::new(output, &mut status), line)

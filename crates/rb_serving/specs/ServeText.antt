@@ -4,6 +4,7 @@ use Rattle.std.specs.Io.KnownBytes.{Appends, Keeps}
 use Rattle.rb_history.specs.declared.history_fault.HistoryFault.{HistoryFault}
 use Rattle.rb_ending.specs.AuditText.{audit_text}
 use Rattle.rb_ending.specs.BrokerFault.{fault_of_history}
+use Rattle.rb_ending.specs.WriteReasons.{FailsBetween}
 use Rattle.rb_ending.specs.declared.broker_fault.BrokerFault.{BrokerFault}
 use Rattle.rb_ending.specs.declared.broker_fault.BrokerFault.TheVariants.{Memory, Write}
 use Rattle.rb_serving.specs.declared.serve_report.ServeReport.{ServeReport}
@@ -22,12 +23,12 @@ visits_text sessions faults lost =
 abbrev pub report_text : {T : Type 0} → ServeReport T → List ℕ
 report_text report = visits_text report.sessions report.faults report.lost ++ audit_text report.audit
 
--- The text was printed; or nothing, if memory was refused; or a first part of it.
-abbrev pub Prints : Result (Unit {0}) BrokerFault → Option (List ℕ) → List ℕ → Option (List ℕ) → Type 0
-Prints (Ok done) got text got' = Appends got got' text
-Prints (Err Memory) got text got' = Keeps got got'
-Prints (Err fault) got text got' =
-    (fault ≡ Write) × ((sent : List ℕ) × (unsent : List ℕ) × (text ≡ sent ++ unsent) × Appends got got' sent)
+-- The text was printed; or nothing, if memory was refused; or a first part of it, if the output can't be written to.
+abbrev pub Prints : {W : Type 0} → (W → Option (List ℕ)) → Result (Unit {0}) BrokerFault → W → List ℕ → W → Type 0
+Prints contents (Ok done) old text new = Appends (contents old) (contents new) text
+Prints contents (Err Memory) old text new = Keeps (contents old) (contents new)
+Prints contents (Err fault) old text new = (fault ≡ Write) × FailsBetween old new
+    × ((sent : List ℕ) × (unsent : List ℕ) × (text ≡ sent ++ unsent) × Appends (contents old) (contents new) sent)
 
 -- the fault of the history is answered, if there is one, and otherwise that of printing
 abbrev pub first_fault : Result (Unit {0}) HistoryFault → Result (Unit {0}) BrokerFault → Result (Unit {0}) BrokerFault

@@ -12,7 +12,7 @@ use Rattle.rb_history.specs.declared.history_fault.HistoryFault.TheVariants.{Wri
 use Rattle.rb_options.specs.declared.server_run_options.ServerRunOptions.{ServerRunOptions}
 use Rattle.rb_ending.specs.declared.broker_fault.BrokerFault.{BrokerFault}
 use Rattle.rb_ending.specs.declared.broker_fault.BrokerFault.TheVariants as Broker
-use Rattle.rb_ending.specs.Recording.{RecordsLog}
+use Rattle.rb_ending.specs.Recording.{RecordsTo}
 use Rattle.rb_session.specs.Served.{Served}
 use Rattle.rb_serving.specs.DoorSteps.{DoorStep, Gathers, all_steps}
 use Rattle.rb_serving.specs.ServeText.{Prints, first_fault, report_text}
@@ -114,15 +114,15 @@ EndsRecorded _ _ _ _ = ⊥
 abbrev pub RecordsIn : {B : Type 0} → (B → Bool) → (B → Option (List ℕ)) → Log → Result (Unit {0}) HistoryFault → B → B
     → Type 0
 RecordsIn keeps contents log wrote old new =
-    MatchBool (keeps old) (RecordsLog log wrote (contents old) (contents new)) ((wrote ≡ Ok tt) × (new ≡ old))
+    MatchBool (keeps old) (RecordsTo contents log wrote old new) ((wrote ≡ Ok tt) × (new ≡ old))
 
 module _ {I O G C : Type 0} (terms : Terms I O G C) where
   -- A whole run: the server's report, of a run that begins with this opening, is what was recorded and printed. The recorder
-  -- had begun before, and the output had got `got`. `ended` is the fault of recording, if there is one, and otherwise
-  -- that of printing. The history is written in memory that was taken before, so recording never lacks any.
-  pub record EndsRun (T : Type 0) {D B : Type 0} (has_joined : D → ℕ → List (DoorStep I O G) → Type 0)
+  -- had begun before. `ended` is the fault of recording, if there is one, and otherwise that of printing. The history is
+  -- written in memory that was taken before, so recording never lacks any.
+  pub record EndsRun (T : Type 0) {D B W : Type 0} (has_joined : D → ℕ → List (DoorStep I O G) → Type 0)
       (has_begun : B → B → Type 0) (keeps : B → Bool) (contents : B → Option (List ℕ)) (begun : Opening)
-      (options : ServerRunOptions) (old_door new_door : D) (old new : B) (got got' : Option (List ℕ))
+      (options : ServerRunOptions) (old_door new_door : D) (old new : B) (sends : W → Option (List ℕ)) (output output' : W)
       (ended : Result (Unit {0}) BrokerFault) : Type 0 where
     pub report : ServeReport T
     pub run : IsServersRun terms begun options report
@@ -133,22 +133,22 @@ module _ {I O G C : Type 0} (terms : Terms I O G C) where
     pub records : RecordsIn keeps contents report.kept recorded between new
     pub fault : IfErr recorded (λ fault. fault ≡ Write)
     pub printed : Result (Unit {0}) BrokerFault
-    pub prints : Prints printed got (report_text report) got'
+    pub prints : Prints sends printed output (report_text report) output'
     pub outcome : ended ≡ first_fault recorded printed
 
 -- no run was served, for this reason: nothing happened at any entrance, and nothing was printed
-pub record FailsRun {D I O G B : Type 0} (has_joined : D → ℕ → List (DoorStep I O G) → Type 0) (has_failed : B → B → Type 0)
-    (old_door new_door : D) (old new : B) (got got' : Option (List ℕ)) (ended : Result (Unit {0}) BrokerFault) : Type 0 where
+pub record FailsRun {D I O G B W : Type 0} (has_joined : D → ℕ → List (DoorStep I O G) → Type 0) (has_failed : B → B → Type 0)
+    (old_door new_door : D) (old new : B) (output output' : W) (ended : Result (Unit {0}) BrokerFault) : Type 0 where
   pub fault : BrokerFault
   pub unused : Gathers has_joined old_door [] new_door
   pub reason : EndsRecorded has_failed old new fault
-  pub silent : got' ≡ got
+  pub silent : output' ≡ output
   pub outcome : ended ≡ Err fault
 
 -- there was no memory for a run, and nothing happened
-pub record LacksMemory {D B : Type 0} (old_door new_door : D) (old new : B) (got got' : Option (List ℕ))
+pub record LacksMemory {D B W : Type 0} (old_door new_door : D) (old new : B) (output output' : W)
     (ended : Result (Unit {0}) BrokerFault) : Type 0 where
   pub door : new_door ≡ old_door
   pub recorder : new ≡ old
-  pub silent : got' ≡ got
+  pub silent : output' ≡ output
   pub outcome : ended ≡ Err Broker.Memory

@@ -44,7 +44,7 @@ pub fn end_server<T: Timer, W: Write, H: Write>(
 ) -> ServerEnd
     ensures recorded { RecordsRun H.contents report.now.kept result.recorded (lent history.entry) (given_back history.exit) }
     ensures fault { IfErr result.recorded (λ fault. fault ≡ Write) }
-    ensures printed { Prints result.printed (W.contents writer.old) (report_text report.now) (W.contents writer.new) }
+    ensures printed { Prints W.contents result.printed writer.old (report_text report.now) writer.new }
 {
     match history {
         Some(device) => {
@@ -63,7 +63,7 @@ pub(crate) fn ended<T: Timer, W: Write>(
     recorded: Result<(), HistoryFault>,
 ) -> ServerEnd
     ensures recorded { result.recorded ≡ recorded }
-    ensures printed { Prints result.printed (W.contents writer.old) (report_text report.now) (W.contents writer.new) }
+    ensures printed { Prints W.contents result.printed writer.old (report_text report.now) writer.new }
 {
     let printed = print_report(alloc, writer, report);
     ServerEnd { recorded, printed }

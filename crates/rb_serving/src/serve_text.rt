@@ -2,7 +2,7 @@ ghost use Rattle.rb_serving.specs.ServeText.{Prints, listening_text, report_text
 
 use crate::serve_report::ServeReport;
 use rb_ending::{BrokerFault, audit_line};
-use rb_protocol::{LimitedWriter, WriterStatus, send_at_once};
+use rb_protocol::{LimitedWriter, WriteFault, WriterStatus, send_at_once};
 use rb_timer::Timer;
 use std::alloc::Global;
 use std::io::Write;
@@ -15,7 +15,7 @@ pub fn print_listening<W: Write>(
     writer: &mut W,
     port: u16,
 ) -> Result<(), BrokerFault>
-    ensures { Prints result (W.contents writer.old) (listening_text port) (W.contents writer.new) }
+    ensures { Prints W.contents result writer.old (listening_text port) writer.new }
 {
     let line = format!(in alloc; "listening 127.0.0.1:{port}\n")?;
     print(writer, &line)
@@ -29,7 +29,7 @@ pub(crate) fn print_report<T: Timer, W: Write>(
     writer: &mut W,
     report: &ServeReport<T>,
 ) -> Result<(), BrokerFault>
-    ensures { Prints result (W.contents writer.old) (report_text report.now) (W.contents writer.new) }
+    ensures { Prints W.contents result writer.old (report_text report.now) writer.new }
 {
     let (sessions, faults, lost) = (report.sessions, report.faults, report.lost);
     let mut text = format!(in alloc; "sessions {sessions} faults {faults} lost {lost}\n")?;
@@ -39,9 +39,12 @@ pub(crate) fn print_report<T: Timer, W: Write>(
 
 // Writes a text and flushes.
 fn print<W: Write>(writer: &mut W, text: &str) -> Result<(), BrokerFault>
-    ensures { Prints result (W.contents writer.old) text.now (W.contents writer.new) }
+    ensures { Prints W.contents result writer.old text.now writer.new }
 {
     let mut status = WriterStatus::of(&*writer);
     let mut writer = LimitedWriter::new(writer, &mut status);
-    send_at_once(&mut writer, text.as_bytes()).map_err(|_| BrokerFault::Write)
+    match send_at_once(&mut writer, text.as_bytes()) {
+        Ok(()) => Ok(()),
+        Err(WriteFault) => Err(BrokerFault::Write),
+    }
 }

@@ -54,8 +54,8 @@ pub fn serve_run<
     ensures ended { (opening : Opening) → IsOpened opening options.now queue.shared queue.pass
         → EndsRun (terms_of D.Reader.Read D.Writer.Write D.Gate.Gate C.Clock clock.now options.now.policy (Delivery.Gathered HandsOn.BeforeReadsAndWaits) queue.shared)
         T D.has_joined B.has_begun B.keeps B.contents opening options.now door result.0 recorder result.1
-        (W.contents writer.old) (W.contents writer.new) result.2
-        ⊎ FailsRun D.has_joined B.has_failed door result.0 recorder result.1 (W.contents writer.old) (W.contents writer.new) result.2 }
+        W.contents writer.old writer.new result.2
+        ⊎ FailsRun D.has_joined B.has_failed door result.0 recorder result.1 writer.old writer.new result.2 }
 {
     let (door, mut recorder, served) = serve_door_gathered(
         rt, alloc, door, clock, options, queue, recorder,
@@ -98,9 +98,9 @@ pub fn run_server<
     ensures ended { ((table : TableId) × (EndsRun
         (terms_of D.Reader.Read D.Writer.Write D.Gate.Gate ⟦<ServeClock<C> as Clock>⟧ (record { first = opening.last_at; passed = passed }) options.now.policy (Delivery.Gathered HandsOn.BeforeReadsAndWaits) table)
         T D.has_joined B.has_begun B.keeps B.contents opening options.now door result.0 recorder result.1
-        (W.contents writer.old) (W.contents writer.new) result.2
-        ⊎ FailsRun D.has_joined B.has_failed door result.0 recorder result.1 (W.contents writer.old) (W.contents writer.new) result.2))
-        ⊎ LacksMemory door result.0 recorder result.1 (W.contents writer.old) (W.contents writer.new) result.2 }
+        W.contents writer.old writer.new result.2
+        ⊎ FailsRun D.has_joined B.has_failed door result.0 recorder result.1 writer.old writer.new result.2))
+        ⊎ LacksMemory door result.0 recorder result.1 writer.old writer.new result.2 }
 {
     let clock = ServeClock::new(opening.last_at, passed);
     let Ok(text) = HistoryRoom::new(alloc) else {

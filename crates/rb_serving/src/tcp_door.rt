@@ -68,6 +68,7 @@ impl<'a> TcpDoor<'a, CountedListener> {
     ) -> Result<TcpDoor<'a, CountedListener>, BrokerFault>
         ensures sessions { IfOk result (λ door. door.sessions ≡ sessions) }
         ensures turns { IfOk result (λ door. door.turns ≡ turns) }
+        ensures manners { IfOk result (λ door. door.manners ≡ manners.entry) }
         ensures fault { IfErr result (λ fault. fault ≡ Listen) }
     {
         let most = manners.ending.map(|_| longest_look());

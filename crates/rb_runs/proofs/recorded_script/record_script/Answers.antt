@@ -2,7 +2,7 @@
 use Rattle.std.proofs.Common.{◌≡◌, ◌∙◌, rules, sym, ap, subst, inl}
 use Rattle.rb_protocol.specs.declared.streams.reader_state.ReaderState.{ReaderState}
 use Rattle.rb_session.specs.Reasons.{IsReason}
-use Rattle.rb_runs.proofs.RecordedScripts.{first_is, last_is, tells}
+use Rattle.rb_ending.proofs.Writers.{first_is, last_is, tells}
 use Rattle.rb_runs.proofs.recorded_script.record_script.Goals as goal
 
 pub returns : goal.returns

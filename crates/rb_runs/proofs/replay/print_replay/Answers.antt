@@ -11,4 +11,4 @@ returns-in-Ok-clause-each g c opening events is_opening are_events is_text =
 pub returns-clause-each : goal.returns-clause-each
 returns-clause-each g c opening events is_opening are_events is_text =
     let (verdict, of_text, tells) = c.in_ok-line.ensures.each opening events is_opening are_events is_text in
-    (refl, (verdict, of_text, (string_bytes c.in_ok-line.line, c.in_ok-line.status, tells, search (rules, c.in-Err.ensures))))
+    (refl, search (rules, c.in-Err.ensures), (verdict, of_text, (string_bytes c.in_ok-line.line, c.in_ok-line.status, tells, search (rules, c.in-Err.ensures))))

@@ -6,6 +6,4 @@ use Rattle.rb_serving.proofs.serve_text.print_listening.Goals as goal
 pub returns : goal.returns
 returns g c =
     let line : c.deref.result.now ≡ listening_text c.args.port = c.deref.ensures ∙ c.in_ok-line.ensures.ok in
-    let got = g.W.Write.contents c.args.writer.now in
-    let got' = g.W.Write.contents c.print.new.writer in
-    subst (λ text. Prints c.print.result got text got') line c.print.ensures
+    subst (λ text. Prints g.W.Write.contents c.print.result c.args.writer.now text c.print.new.writer) line c.print.ensures

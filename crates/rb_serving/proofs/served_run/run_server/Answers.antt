@@ -34,9 +34,9 @@ returns g c =
             (terms_of g.D.Reader.Read g.D.Writer.Write g.D.Gate.Gate (clock_impl.ghosts g.row.C g.C.Clock g.C.Clock-dict) clock
             c.args.options.now.policy (Delivery.Gathered HandsOn.BeforeReadsAndWaits) queue.shared)
             g.row.T.Denot g.D.Door.has_joined g.B.Recorder.has_begun g.B.Recorder.keeps g.B.Write.contents c.args.opening c.args.options.now
-            c.args.door served.result.0 c.args.recorder served.result.1 (g.W.Write.contents c.args.writer.now) (g.W.Write.contents served.new.writer) served.result.2
+            c.args.door served.result.0 c.args.recorder served.result.1 g.W.Write.contents c.args.writer.now served.new.writer served.result.2
             ⊎ FailsRun g.D.Door.has_joined g.B.Recorder.has_failed c.args.door served.result.0 c.args.recorder served.result.1
-            (g.W.Write.contents c.args.writer.now) (g.W.Write.contents served.new.writer) served.result.2)
+            c.args.writer.now served.new.writer served.result.2)
             clock (served.ensures.ended c.args.opening c.in-Ok-open.ensures.opened),
       );
     }

@@ -1,0 +1,2 @@
+-- The lemmas of this crate: what becomes of writers.
+pub mod Writers
