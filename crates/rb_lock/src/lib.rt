@@ -18,7 +18,7 @@ mod steps;
 mod view;
 
 pub use fault::{CloseFault, OpenFault, SplitFault};
-pub use laws::{looks_have_their_value, most_names_has_its_value};
+pub use laws::{looks_have_their_value, most_names_has_its_value, pauses_have_their_value};
 pub use note::Note;
 pub use pair::MOST_NAMES;
 pub use pass::Pass;

@@ -27,7 +27,12 @@ const SLEPT_ON: u64 = 2;
 
 // How often a thread that finds the lock taken looks at it before it sleeps. Most calls are over before
 // a sleep would begin.
-const LOOKS: u32 = 100;
+const LOOKS: u32 = 16;
+
+// How often it pauses between two looks, about a microsecond in all. A look takes the word's cache line away from the
+// thread that holds the lock, and whoever gets the lock needs all that a call reads in its own processor's cache. So a
+// thread that makes call after call makes several before another one looks.
+const PAUSES: u32 = 64;
 
 /// Takes the lock, and with it the pair in its slot. If another seat holds the lock, it watches it for
 /// a while, and then sleeps until it is given back.
@@ -68,14 +73,21 @@ fn has_taken<T: Timer>(table: &LockTable<T>, seat: &mut PassSeat<T>) -> bool
     table.compare_exchange::<Take>(seat, 0, FREE, HELD) == FREE
 }
 
-// Watches the lock for a while, as long as it is taken and no thread may sleep on it.
+// Watches the lock for a while, as long as it is taken.
 fn watch<T: Timer>(table: &LockTable<T>)
     requires lock { HasOneWord table.now.table_id }
 {
     for _ in 0..LOOKS {
-        if table.peek(0) != HELD {
+        if table.peek(0) == FREE {
             return;
         }
+        pause();
+    }
+}
+
+// Lets the time between two looks pass.
+fn pause() {
+    for _ in 0..PAUSES {
         spin_loop();
     }
 }
