@@ -1,4 +1,4 @@
-ghost use Rattle.std.specs.Prelude.{◌≡◌, ℕ, ◌+◌, ◌<◌, ◌≤◌, ◌↔◌, [], length, IsErrOf, IsErrAnd, IfOk, IfErr, OnErr};
+ghost use Rattle.std.specs.Prelude.{◌≡◌, ℕ, ◌+◌, ◌<◌, ◌≤◌, ◌↔◌, [], length, vec_capacity, IsErrOf, IsErrAnd, IfOk, IfErr, OnErr};
 ghost use Rattle.rb_ledger.specs.Totals.{nothing};
 ghost use Rattle.rb_queue.specs.History.{IsLegal, state_of};
 ghost use Rattle.rb_queue.specs.Counts.{audit_of};
@@ -11,7 +11,7 @@ use crate::outcome::{Outcome, Step};
 use crate::perform::{Answer, Performed, perform};
 use crate::tries::Try;
 use rb_ledger::{Books, Tally};
-use rb_queue::{Ask, Audit, DelayQueue, Event, Opening, Sums, each_element_counted};
+use rb_queue::{Act, Ask, Audit, DelayQueue, Event, Opening, Sums, each_element_counted};
 use rb_timer::Timer;
 use std::alloc::{AllocError, Global};
 use std::marker::Model;
@@ -115,6 +115,15 @@ impl<T: Timer> Kept<T> {
             alloc,
         };
         Ok((kept, tally))
+    }
+
+    /// Fills the history's room once, before the first call, and empties it again. So the system finds the memory for
+    /// all events now, and not in the middle of calls for which others wait.
+    pub fn touch_room(&mut self)
+        requires { self.old.history ≡ [] }
+        ensures { self.new ≡ self.old }
+    {
+        touch(&mut self.history, self.capacity);
     }
 
     /// Makes one call for a seat, at the later of the moment `asked`, in nanoseconds, and that of the
@@ -226,6 +235,24 @@ impl<T: Timer> Kept<T> {
             opening: self.opening.elements.as_slice().len() as u64,
         }
     }
+}
+
+// Fills this much of an empty history's room, and empties it again.
+fn touch(history: &mut Vec<Event>, capacity: u64)
+    requires empty { history.old.items ≡ [] }
+    requires room { capacity ≤ vec_capacity history.old }
+    ensures empty { history.new.items ≡ [] }
+    ensures room { vec_capacity history.new ≡ vec_capacity history.old }
+{
+    for _place in 0..capacity {
+        history.push_reserved(Event {
+            seat: 0,
+            asked: 0,
+            at: 0,
+            act: Act::Clear,
+        });
+    }
+    history.clear();
 }
 
 // The moment of the last event or, if there is none, that of the opening.

@@ -69,6 +69,9 @@ impl<T: Timer> Shared<T> {
         ensures kept { IfErr result (λ refused. refused.0 ≡ kept) }
         ensures handed_back { IfErr result (λ refused. refused.1 ≡ tally) }
     {
+        let mut kept = kept;
+        // A page of the history that is first needed while one pass calls would keep all others waiting.
+        kept.touch_room();
         let start = Snapshot::of(&kept);
         // For the proof: how long a history may be.
         let _ = kept.capacity();

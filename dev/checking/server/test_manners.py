@@ -1,6 +1,7 @@
 """How a server treats its clients: that it greets them, ends their waits, and ends those that are silent."""
 import contextlib
 import os
+import re
 import socket
 import subprocess
 import time
@@ -19,6 +20,16 @@ SILENT = 1500  # milliseconds, long enough for a busy machine
 LAST = 5000 * SECOND  # the moment of an opening
 AWAY = 1000  # seconds
 SUSPENDED = "unshare", "--time", "--boottime", str(AWAY)  # as on a machine that has been suspended for so long
+CALLS, EVENT = 1_000_000, 128  # calls for which there is room, and bytes of the history that each has, at least
+
+
+def test_the_room_for_calls() -> None:
+    """A server has the memory for all calls before the first one, so that none waits for it, nor makes others wait."""
+    with Server(["--calls", CALLS]) as server, Session(server.port) as client:
+        assert client.ask("SIZE") == "SIZE 0"
+        status = Path(f"/proc/{server.process.pid}/status").read_text()
+        assert client.ask("QUIT") == "BYE"
+    assert int(re.search(r"^VmRSS:\s+(\d+) kB$", status, re.M)[1]) * 1024 >= CALLS * EVENT
 
 
 @pytest.mark.parametrize("line", ["RUN 7 lost 0", "g" * 255, " grüß dich\t"])
