@@ -129,7 +129,7 @@ measure_offers() {
         for build in "${builds[@]}"; do
             start_server "$build" 16
             "$room/clients" waiting "$port" 15 $((OFFERS / batch * batch)) "$batch" >> "$room/$build.offers" || { kill "$server" && exit 1; }
-            kill "$server" # some of its sessions still wait
+            kill "$server" 2> /dev/null || true # unless none of its sessions waits any more
             wait "$server" || true
         done
     done
