@@ -9,10 +9,10 @@ pub fn most_names_has_its_value()
 
 /// How often a thread that finds the lock taken looks at it before it sleeps. No clause counts the looks.
 pub fn looks_have_their_value()
-    ensures { LOOKS ≡ 16 }
+    ensures { LOOKS ≡ 4 }
 {}
 
 /// How often it pauses between two looks. No clause counts the pauses.
 pub fn pauses_have_their_value()
-    ensures { PAUSES ≡ 64 }
+    ensures { PAUSES ≡ 512 }
 {}

@@ -27,12 +27,12 @@ const SLEPT_ON: u64 = 2;
 
 // How often a thread that finds the lock taken looks at it before it sleeps. Most calls are over before
 // a sleep would begin.
-const LOOKS: u32 = 16;
+const LOOKS: u32 = 4;
 
-// How often it pauses between two looks, about a microsecond in all. A look takes the word's cache line away from the
-// thread that holds the lock, and whoever gets the lock needs all that a call reads in its own processor's cache. So a
-// thread that makes call after call makes several before another one looks.
-const PAUSES: u32 = 64;
+// How often it pauses between two looks: 3 to 8 microseconds, by the processor. A look takes the word's cache line away
+// from the thread that holds the lock, and whoever gets the lock needs all that a call reads in its own processor's
+// cache. So a thread that makes call after call makes many before another one looks.
+const PAUSES: u32 = 512;
 
 /// Takes the lock, and with it the pair in its slot. If another seat holds the lock, it watches it for
 /// a while, and then sleeps until it is given back.
