@@ -55,7 +55,7 @@ impl<'a, W: Write> Outlet<'a, W> {
     {
         self.hand_on();
         self.sent?;
-        self.writer.flush()
+        self.writer.flush(&())
     }
 
     /// The writer. What is still gathered is dropped.
@@ -83,7 +83,7 @@ impl<'a, W: Write> Outlet<'a, W> {
         ensures clear { self.new.gathered.items ≡ [] }
     {
         if self.sent.is_ok() {
-            self.sent = send_line(&mut self.writer, &self.gathered);
+            self.sent = send_line(&mut self.writer, &(), &self.gathered);
         }
         self.gathered.clear();
     }

@@ -133,7 +133,7 @@ abbrev pub latest : ℕ → List Turn → ℕ
 latest moment [] = moment
 latest moment (turn ∷ turns) = latest (moment_after moment turn.reading) turns
 
-module _ {D : Type 0} (words : Desk.Ghosts D) where
+module _ {D V : Type 0} (words : Desk.Ghosts D V) where
   -- the law of lines that are served: what the desk made is what these lines made
   abbrev pub MakesByLines : Type 0
   MakesByLines =

@@ -66,7 +66,7 @@ pub record MadeByRun (policy : Policy) (Over : Type 0) (served : Served) (Grows 
   pub grows : Grows (by_lines ++ by_closing)
 
 -- the law of runs: what was made through the desk grows by just what the run made
-abbrev pub MakesByRun : {D W : Type 0} → Desk.Ghosts D → (W → Option (List ℕ)) → Type 0
+abbrev pub MakesByRun : {D V W : Type 0} → Desk.Ghosts D V → (W → Option (List ℕ)) → Type 0
 MakesByRun words contents =
     (policy : Policy) (got : Option (List ℕ)) (delivery : Delivery) (rest : Option (List ℕ))
     (from to : words.State) (served : Served)

@@ -20,7 +20,7 @@ abbrev pub LeadsOn : {S : Type 0} → Policy → (S → List Made) → Point S �
 LeadsOn policy mine from to =
     (made : List Made) × (mine to.desk ≡ mine from.desk ++ made) × HandlesAll policy from.held made to.held
 
-module _ {D : Type 0} (words : Desk.Ghosts D) where
+module _ {D V : Type 0} (words : Desk.Ghosts D V) where
   -- the law of lines that are served
   abbrev pub HandlesLines : Type 0
   HandlesLines =

@@ -10,6 +10,8 @@ ghost use Rattle.rb_jobs.specs.ScriptEvents.{RecordsByScript};
 ghost use Rattle.rb_jobs.specs.ServerEvents.{CallsByVisit, GathersSessions};
 
 use rb_blocking::Clock;
+use rb_lock::Pass;
+use rb_protocol::Recipient;
 use rb_retry::{Desk, KeptDesk};
 use rb_serving::Door;
 use rb_timer::Timer;
@@ -60,15 +62,19 @@ pub fn history_of_script<W: Write>()
 
 /// A visit adds to the calls of the pass that serves it just the events of the lines that were served, and
 /// then those of the jobs that its session still held.
-pub fn calls_of_visit<D: Door, C: Clock>()
+pub fn calls_of_visit<T: Timer, D: Door, C: Clock>()
+where
+    D::Writer: Recipient<Pass<T>>,
     ensures { (clock : C) (policy : Policy) (delivery : Delivery) (table : TableId) → CallsByVisit
-        (terms_of D.Reader.Read D.Writer.Write D.Gate.Gate C.Clock clock policy delivery table) }
+        (terms_of D.Reader.Read D.Writer.Recipient D.Gate.Gate C.Clock clock policy delivery table) }
 {}
 
 /// In the history that a server gives back each worker has a name of its own. Its events are those of the
 /// sessions that it served, one after the other, and no event has another name. So each event is of a line
 /// that one session served, or of a job that this session still held at its end.
 pub fn history_of_server<T: Timer, D: Door, C: Clock>()
+where
+    D::Writer: Recipient<Pass<T>>,
     ensures { (clock : C) (policy : Policy) (delivery : Delivery) (table : TableId) → GathersSessions
-        (terms_of D.Reader.Read D.Writer.Write D.Gate.Gate C.Clock clock policy delivery table) T }
+        (terms_of D.Reader.Read D.Writer.Recipient D.Gate.Gate C.Clock clock policy delivery table) T }
 {}

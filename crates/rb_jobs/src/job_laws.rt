@@ -10,6 +10,8 @@ ghost use Rattle.rb_serving.specs.Terms.{terms_of};
 ghost use Rattle.rb_session.specs.declared.delivery.Delivery.{Delivery};
 
 use rb_blocking::Clock;
+use rb_lock::Pass;
+use rb_protocol::Recipient;
 use rb_retry::Desk;
 use rb_serving::Door;
 use rb_timer::Timer;
@@ -44,10 +46,12 @@ pub fn script_keeps_jobs<W: Write>()
 /// interleave, no job is in two places at any moment of the history that it gives back. Behind each line that one of
 /// its sessions serves, that holds no more than the calls of its worker allow.
 pub fn server_keeps_jobs<T: Timer, D: Door, C: Clock>()
+where
+    D::Writer: Recipient<Pass<T>>,
     ensures lines { (clock : C) (policy : Policy) (delivery : Delivery) (table : TableId) → VisitsKeepJobs
-        (terms_of D.Reader.Read D.Writer.Write D.Gate.Gate C.Clock clock policy delivery table) }
+        (terms_of D.Reader.Read D.Writer.Recipient D.Gate.Gate C.Clock clock policy delivery table) }
     ensures run { (clock : C) (policy : Policy) (delivery : Delivery) (table : TableId) → ServerKeepsJobs
-        (terms_of D.Reader.Read D.Writer.Write D.Gate.Gate C.Clock clock policy delivery table) T }
+        (terms_of D.Reader.Read D.Writer.Recipient D.Gate.Gate C.Clock clock policy delivery table) T }
 {}
 
 /// Jobs in are jobs out. The jobs of a script's opening and those that its replies accept, sent or not, are done,
@@ -60,8 +64,10 @@ pub fn script_accounts<W: Write>()
 /// The same over all sessions of a server, whose events its history is made of. Replies that a failing write did
 /// not send count too.
 pub fn server_accounts<T: Timer, D: Door, C: Clock>()
+where
+    D::Writer: Recipient<Pass<T>>,
     ensures { (clock : C) (policy : Policy) (delivery : Delivery) (table : TableId) → ServerAccounts
-        (terms_of D.Reader.Read D.Writer.Write D.Gate.Gate C.Clock clock policy delivery table) T }
+        (terms_of D.Reader.Read D.Writer.Recipient D.Gate.Gate C.Clock clock policy delivery table) T }
 {}
 
 /// Of a history that keeps jobs `chains` answers `Ok`, or that memory is short. An empty opening begins with
@@ -82,6 +88,8 @@ pub fn script_hands_jobs_on<W: Write>()
 
 /// The same of a server, over all its sessions.
 pub fn server_hands_jobs_on<T: Timer, D: Door, C: Clock>()
+where
+    D::Writer: Recipient<Pass<T>>,
     ensures { (clock : C) (policy : Policy) (delivery : Delivery) (table : TableId) → ServerHandsJobsOn
-        (terms_of D.Reader.Read D.Writer.Write D.Gate.Gate C.Clock clock policy delivery table) T }
+        (terms_of D.Reader.Read D.Writer.Recipient D.Gate.Gate C.Clock clock policy delivery table) T }
 {}

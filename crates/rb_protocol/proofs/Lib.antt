@@ -8,3 +8,4 @@ pub mod Texts
 pub mod Attempts
 pub mod WrittenBytes
 pub mod Sending
+pub mod Accepted

@@ -32,6 +32,7 @@ pub use request::{MOST_LINE_BYTES, Request, one_reading, read_request, request_h
 pub use streams::limited_reader::LimitedReader;
 pub use streams::limited_writer::LimitedWriter;
 pub use streams::reader_state::ReaderState;
+pub use streams::recipient::Recipient;
 pub use streams::send::{send_at_once, send_line};
 pub use streams::writer_state::WriterState;
 pub use streams::writer_status::WriterStatus;

@@ -4,6 +4,7 @@
 pub(crate) mod limited_reader;
 pub(crate) mod limited_writer;
 pub(crate) mod reader_state;
+pub(crate) mod recipient;
 pub(crate) mod send;
 pub(crate) mod writer_state;
 pub(crate) mod writer_status;

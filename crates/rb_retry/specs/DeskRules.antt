@@ -18,7 +18,7 @@ pub record DeskRules (S : Type 0) : Type 1 where
   pub policy : Policy
 
 -- those of any desk, under this policy
-abbrev pub desk_rules : {D : Type 0} → (words : Desk.Ghosts D) → Policy → DeskRules words.State
+abbrev pub desk_rules : {D V : Type 0} → (words : Desk.Ghosts D V) → Policy → DeskRules words.State
 desk_rules words policy = record {
   gives = words.gives;
   Sets = words.Sets;

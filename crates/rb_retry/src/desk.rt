@@ -49,6 +49,15 @@ pub trait Desk {
     /// What a try does after which the call would have to wait.
     ghost Misses: { State → State → Type 0 };
 
+    /// What the desk shows of itself to whom its caller serves: something that only calls change and nobody can make up.
+    type Witness;
+
+    ghost shows: { State → Self.Witness → Type 0 };
+
+    /// The witness of what was made so far.
+    fn witness(&self) -> &Self::Witness
+        ensures { shows (state self.now) result.now };
+
     /// The moment of the desk's clock, in nanoseconds.
     fn now(&self) -> u64
         ensures { gives (state self.now) result };

@@ -84,6 +84,14 @@ impl<'a, T: Timer> Desk for KeptDesk<'a, T> {
 
     ghost Misses = { NeverMisses };
 
+    type Witness = Kept<T>;
+
+    ghost shows = { λ state kept. kept ≡ state.log };
+
+    fn witness(&self) -> &Kept<T> {
+        self.kept
+    }
+
     fn now(&self) -> u64 {
         self.moment
     }

@@ -62,7 +62,7 @@ fn print<W: Write>(output: &mut W, line: &[u8]) -> Result<(), WriteFault>
     ensures failed { OnErr result (FailsBetween output.old output.new) }
 {
     let mut status = WriterStatus::of(&*output);
-    send_at_once(&mut LimitedWriter::new(output, &mut status), line)
+    send_at_once(&mut LimitedWriter::new(output, &mut status), &(), line)
 }
 
 // The verdict on the text.

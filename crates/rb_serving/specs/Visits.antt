@@ -17,7 +17,8 @@ use Rattle.rb_retry.specs.DeskRules.{DeskRules}
 use Rattle.rb_retry.specs.declared.policy.Policy.{Policy}
 use Rattle.rb_session.specs.Rules.{SessionRules, session_rules, HadGotBehind}
 use Rattle.rb_session.specs.Served.{Served}
-use Rattle.rb_session.specs.Ran.{Ran}
+use Rattle.rb_session.specs.Ran.{Ran, DemandsOnlyAnswers}
+use Rattle.rb_session.specs.Turn.{point}
 use Rattle.rb_session.specs.Reasons.{IsReason, IsWriteReason}
 use Rattle.rb_serving.specs.DoorSteps.{DoorStep, Sees, LetIn, TurnedAway, NoMore, Left}
 use Rattle.rb_serving.specs.Terms.{Terms}
@@ -106,12 +107,17 @@ module _ {I O G C : Type 0} (terms : Terms I O G C) where
     pub left : Sees has_seen old_door (Left reader status writer) new_door
     pub ran : RanVisit visit reader status writer old served new
 
-  -- What a session leaves of a visit, and of the pass that serves it, is what the door demands of them.
-  abbrev pub Satisfies : (Visit I O G → LimitedReader I → WriterStatus O → O → PassState → PassState → Type 0) → Type 0
-  Satisfies demands =
-      (visit : Visit I O G) (reader : LimitedReader I) (status : WriterStatus O) (writer : O) (old : PassState)
-      (served : Served) (new : PassState)
-      → RanVisit visit reader status writer old served new → demands visit reader status writer old new
+  -- What is demanded of a session, of a visit that an entrance awaits, holds: what the visit's writer demands of each piece
+  -- and of the pass, while the session runs; and what the door demands of what is left of the visit, and of the pass.
+  pub record Satisfies {D : Type 0} (awaits : D → Visit I O G → PassState → Type 0)
+      (demands : Visit I O G → LimitedReader I → WriterStatus O → O → PassState → PassState → Type 0) : Type 0 where
+    pub meanwhile : (door : D) (visit : Visit I O G) (old : PassState) (from : SharedState C G) → awaits door visit old
+        → old.table ≡ terms.table → IsDeskOf terms.clock visit.gate old from
+        → DemandsOnlyAnswers (visit_rules visit.writer) (point from []) (λ desk pass. pass ≡ desk.pass)
+        terms.remaining visit.reader terms.contents terms.demands visit.writer
+    pub afterwards : (visit : Visit I O G) (reader : LimitedReader I) (status : WriterStatus O) (writer : O) (old : PassState)
+        (served : Served) (new : PassState)
+        → RanVisit visit reader status writer old served new → demands visit reader status writer old new
 
   -- All that happened at an entrance, up to its end, and what became of its visitors. One was turned away, and the
   -- pass did nothing; or one was let in, the session of this visit was run by the pass, and the next that happened was

@@ -11,7 +11,7 @@ use rb_blocking::Gate;
 use rb_lock::Pass;
 use rb_protocol::{LimitedReader, WriterStatus};
 use rb_timer::Timer;
-use std::io::{Read, Write};
+use std::io::Read;
 use std::sync::Wait;
 use std::time;
 use thiserror::Error;
@@ -30,13 +30,15 @@ pub struct DoorFault;
 ///
 /// An entrance is for the visits of one pass: it lets the next one in only for that pass as it was when the last one
 /// left, and takes back only what a session left that led the pass from there to where it is. So the pass makes no
-/// other calls in between, and no call answers two visitors.
+/// other calls in between, and no call answers two visitors. While a session runs, its writer is shown the pass with each
+/// piece, so nobody gets an answer that no call has.
 pub trait Door {
     /// What a visitor's requests are read from.
     type Reader: Read + Drop + Send;
 
-    /// What a visitor's replies are written to.
-    type Writer: Write + Drop + Send;
+    /// What a visitor's replies are written to. A server wants it to be a `Recipient` that is shown the pass that serves
+    /// the visit.
+    type Writer: Drop + Send;
 
     /// What may end a visitor's waits.
     type Gate: Gate + Drop + Send;

@@ -8,6 +8,8 @@ ghost use Rattle.rb_serving.specs.declared.tcp_door.TheConstants.{PAUSE};
 
 use crate::door::Door;
 use rb_blocking::Clock;
+use rb_lock::Pass;
+use rb_protocol::Recipient;
 use rb_timer::Timer;
 
 /// A worker that could not let a client in waits this long, in milliseconds, before it tries again.
@@ -18,6 +20,8 @@ pub fn pause_has_its_value()
 /// Each visitor that a server's workers let in was served: a session was run on what it sent and of what it was sent,
 /// and the entrance got back what is left of it before anything else happened there.
 pub fn each_visitor_is_served<T: Timer, D: Door, C: Clock>()
+where
+    D::Writer: Recipient<Pass<T>>,
     ensures { (clock : C) (policy : Policy) (delivery : Delivery) (table : TableId) → ServesAll
-        (terms_of D.Reader.Read D.Writer.Write D.Gate.Gate C.Clock clock policy delivery table) T }
+        (terms_of D.Reader.Read D.Writer.Recipient D.Gate.Gate C.Clock clock policy delivery table) T }
 {}

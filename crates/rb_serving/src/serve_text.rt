@@ -43,7 +43,7 @@ fn print<W: Write>(writer: &mut W, text: &str) -> Result<(), BrokerFault>
 {
     let mut status = WriterStatus::of(&*writer);
     let mut writer = LimitedWriter::new(writer, &mut status);
-    match send_at_once(&mut writer, text.as_bytes()) {
+    match send_at_once(&mut writer, &(), text.as_bytes()) {
         Ok(()) => Ok(()),
         Err(WriteFault) => Err(BrokerFault::Write),
     }

@@ -15,7 +15,9 @@ use crate::server::serve_door_gathered;
 use rb_blocking::Clock;
 use rb_ending::{BrokerFault, Recorder, write_recording};
 use rb_history::{HistoryFault, HistoryRoom};
+use rb_lock::Pass;
 use rb_options::ServerRunOptions;
+use rb_protocol::Recipient;
 use rb_queue::Opening;
 use rb_session::{Delivery, HandsOn};
 use rb_timer::Timer;
@@ -48,11 +50,13 @@ pub fn serve_run<
     text: HistoryRoom,
     writer: &mut W,
 ) -> (D, B, Result<(), BrokerFault>)
+where
+    D::Writer: Recipient<Pass<T>>,
     requires splits { D.may_split door options.now.workers 0 }
     requires honest { Satisfies
-        (terms_of D.Reader.Read D.Writer.Write D.Gate.Gate C.Clock clock.now options.now.policy (Delivery.Gathered HandsOn.BeforeReadsAndWaits) queue.shared) D.demands }
+        (terms_of D.Reader.Read D.Writer.Recipient D.Gate.Gate C.Clock clock.now options.now.policy (Delivery.Gathered HandsOn.BeforeReadsAndWaits) queue.shared) D.awaits D.demands }
     ensures ended { (opening : Opening) → IsOpened opening options.now queue.shared queue.pass
-        → EndsRun (terms_of D.Reader.Read D.Writer.Write D.Gate.Gate C.Clock clock.now options.now.policy (Delivery.Gathered HandsOn.BeforeReadsAndWaits) queue.shared)
+        → EndsRun (terms_of D.Reader.Read D.Writer.Recipient D.Gate.Gate C.Clock clock.now options.now.policy (Delivery.Gathered HandsOn.BeforeReadsAndWaits) queue.shared)
         T D.has_joined B.has_begun B.keeps B.contents opening options.now door result.0 recorder result.1
         W.contents writer.old writer.new result.2
         ⊎ FailsRun D.has_joined B.has_failed door result.0 recorder result.1 writer.old writer.new result.2 }
@@ -92,11 +96,13 @@ pub fn run_server<
     recorder: B,
     writer: &mut W,
 ) -> (D, B, Result<(), BrokerFault>)
+where
+    D::Writer: Recipient<Pass<T>>,
     requires splits { D.may_split door options.now.workers 0 }
     requires honest { (table : TableId) → Satisfies
-        (terms_of D.Reader.Read D.Writer.Write D.Gate.Gate ⟦<ServeClock<C> as Clock>⟧ (record { first = opening.last_at; passed = passed }) options.now.policy (Delivery.Gathered HandsOn.BeforeReadsAndWaits) table) D.demands }
+        (terms_of D.Reader.Read D.Writer.Recipient D.Gate.Gate ⟦<ServeClock<C> as Clock>⟧ (record { first = opening.last_at; passed = passed }) options.now.policy (Delivery.Gathered HandsOn.BeforeReadsAndWaits) table) D.awaits D.demands }
     ensures ended { ((table : TableId) × (EndsRun
-        (terms_of D.Reader.Read D.Writer.Write D.Gate.Gate ⟦<ServeClock<C> as Clock>⟧ (record { first = opening.last_at; passed = passed }) options.now.policy (Delivery.Gathered HandsOn.BeforeReadsAndWaits) table)
+        (terms_of D.Reader.Read D.Writer.Recipient D.Gate.Gate ⟦<ServeClock<C> as Clock>⟧ (record { first = opening.last_at; passed = passed }) options.now.policy (Delivery.Gathered HandsOn.BeforeReadsAndWaits) table)
         T D.has_joined B.has_begun B.keeps B.contents opening options.now door result.0 recorder result.1
         W.contents writer.old writer.new result.2
         ⊎ FailsRun D.has_joined B.has_failed door result.0 recorder result.1 writer.old writer.new result.2))

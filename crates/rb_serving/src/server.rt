@@ -17,6 +17,7 @@ use rb_blocking::{Bell, Clock};
 use rb_ending::{BrokerFault, NoRecorder, Recorder};
 use rb_lock::{Pass, Shared};
 use rb_options::ServerRunOptions;
+use rb_protocol::Recipient;
 use rb_session::{Delivery, HandsOn};
 use rb_timer::Timer;
 use std::alloc::Global;
@@ -47,11 +48,13 @@ pub fn serve_door<
     options: &ServerRunOptions,
     queue: ServedQueue<T>,
 ) -> (D, Result<ServeReport<T>, BrokerFault>)
+where
+    D::Writer: Recipient<Pass<T>>,
     requires splits { D.may_split door options.now.workers 0 }
     requires honest { Satisfies
-        (terms_of D.Reader.Read D.Writer.Write D.Gate.Gate C.Clock clock.now options.now.policy Delivery.AtOnce queue.shared) D.demands }
+        (terms_of D.Reader.Read D.Writer.Recipient D.Gate.Gate C.Clock clock.now options.now.policy Delivery.AtOnce queue.shared) D.awaits D.demands }
     ensures served { (opening : Opening) → IsOpened opening options.now queue.shared queue.pass → IfOk result.1 (λ report. (run : IsServersRun
-        (terms_of D.Reader.Read D.Writer.Write D.Gate.Gate C.Clock clock.now options.now.policy Delivery.AtOnce queue.shared)
+        (terms_of D.Reader.Read D.Writer.Recipient D.Gate.Gate C.Clock clock.now options.now.policy Delivery.AtOnce queue.shared)
         opening options.now report) × Gathers D.has_joined door (all_steps run.logs) result.0) }
     ensures unused { OnErr result.1 (Gathers D.has_joined door [] result.0) }
     ensures fault { IfErr result.1 (λ fault. fault ≡ BrokerFault.Worker) }
@@ -87,11 +90,13 @@ pub fn serve_door_gathered<
     queue: ServedQueue<T>,
     recorder: B,
 ) -> (D, B, Result<ServeReport<T>, BrokerFault>)
+where
+    D::Writer: Recipient<Pass<T>>,
     requires splits { D.may_split door options.now.workers 0 }
     requires honest { Satisfies
-        (terms_of D.Reader.Read D.Writer.Write D.Gate.Gate C.Clock clock.now options.now.policy (Delivery.Gathered HandsOn.BeforeReadsAndWaits) queue.shared) D.demands }
+        (terms_of D.Reader.Read D.Writer.Recipient D.Gate.Gate C.Clock clock.now options.now.policy (Delivery.Gathered HandsOn.BeforeReadsAndWaits) queue.shared) D.awaits D.demands }
     ensures served { (opening : Opening) → IsOpened opening options.now queue.shared queue.pass → IfOk result.2 (λ report. (run : IsServersRun
-        (terms_of D.Reader.Read D.Writer.Write D.Gate.Gate C.Clock clock.now options.now.policy (Delivery.Gathered HandsOn.BeforeReadsAndWaits) queue.shared)
+        (terms_of D.Reader.Read D.Writer.Recipient D.Gate.Gate C.Clock clock.now options.now.policy (Delivery.Gathered HandsOn.BeforeReadsAndWaits) queue.shared)
         opening options.now report) × Gathers D.has_joined door (all_steps run.logs) result.0) }
     ensures unused { OnErr result.2 (Gathers D.has_joined door [] result.0) }
     ensures recorder { MatchResult result.2 (λ _. B.has_begun recorder result.1)
@@ -118,11 +123,13 @@ fn serve_delivering<
     queue: ServedQueue<T>,
     recorder: B,
 ) -> (D, B, Result<ServeReport<T>, BrokerFault>)
+where
+    D::Writer: Recipient<Pass<T>>,
     requires splits { D.may_split door options.now.workers 0 }
     requires honest { Satisfies
-        (terms_of D.Reader.Read D.Writer.Write D.Gate.Gate C.Clock clock.now options.now.policy delivery queue.shared) D.demands }
+        (terms_of D.Reader.Read D.Writer.Recipient D.Gate.Gate C.Clock clock.now options.now.policy delivery queue.shared) D.awaits D.demands }
     ensures served { (opening : Opening) → IsOpened opening options.now queue.shared queue.pass → IfOk result.2 (λ report. (run : IsServersRun
-        (terms_of D.Reader.Read D.Writer.Write D.Gate.Gate C.Clock clock.now options.now.policy delivery queue.shared)
+        (terms_of D.Reader.Read D.Writer.Recipient D.Gate.Gate C.Clock clock.now options.now.policy delivery queue.shared)
         opening options.now report) × Gathers D.has_joined door (all_steps run.logs) result.0) }
     ensures unused { OnErr result.2 (Gathers D.has_joined door [] result.0) }
     ensures recorder { MatchResult result.2 (λ _. B.has_begun recorder result.1)
@@ -160,15 +167,17 @@ fn decide_and_serve<
     queue: ServedQueue<T>,
     recorder: B,
 ) -> (D, B, Result<ServeReport<T>, BrokerFault>)
+where
+    D::Writer: Recipient<Pass<T>>,
     requires name { blank.name ≡ L.name }
     requires parts { blank.parts ≡ L.parts }
     requires all { L.all ≡ L.parts }
     requires some { 0 < L.all }
     requires splits { D.may_split door options.now.workers 0 }
     requires honest { Satisfies
-        (terms_of D.Reader.Read D.Writer.Write D.Gate.Gate C.Clock clock.now options.now.policy delivery queue.shared) D.demands }
+        (terms_of D.Reader.Read D.Writer.Recipient D.Gate.Gate C.Clock clock.now options.now.policy delivery queue.shared) D.awaits D.demands }
     ensures served { (opening : Opening) → IsOpened opening options.now queue.shared queue.pass → IfOk result.2 (λ report. (run : IsServersRun
-        (terms_of D.Reader.Read D.Writer.Write D.Gate.Gate C.Clock clock.now options.now.policy delivery queue.shared)
+        (terms_of D.Reader.Read D.Writer.Recipient D.Gate.Gate C.Clock clock.now options.now.policy delivery queue.shared)
         opening options.now report) × Gathers D.has_joined door (all_steps run.logs) result.0) }
     ensures unused { OnErr result.2 (Gathers D.has_joined door [] result.0) }
     ensures recorder { MatchResult result.2 (λ _. B.has_begun recorder result.1)

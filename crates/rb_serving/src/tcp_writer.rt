@@ -1,7 +1,9 @@
+ghost use Rattle.std.specs.Prelude.{None};
 ghost use Rattle.std.specs.Io.{WritesAtMost};
 
 use crate::patience::{Patience, is_timeout};
 use rb_blocking::Clock;
+use rb_protocol::Recipient;
 use std::fmt::{self, Debug, Formatter};
 use std::io::{self, ErrorKind, Write};
 use std::net::TcpStream;
@@ -31,15 +33,19 @@ impl<'a> TcpWriter<'a> {
     }
 }
 
-impl<'a> Write for TcpWriter<'a> {
-    fn write(&mut self, buf: &[u8]) -> io::Result<usize> {
+impl<'a, V> Recipient<V> for TcpWriter<'a> {
+    ghost contents = { λ writer. None };
+
+    ghost demands = { λ writer shown piece. Unit {0} };
+
+    fn take(&mut self, _shown: &V, piece: &[u8]) -> io::Result<usize> {
         match self.patience {
-            Some(patience) => self.write_patiently(buf, patience),
-            None => self.stream.write(buf),
+            Some(patience) => self.write_patiently(piece, patience),
+            None => self.stream.write(piece),
         }
     }
 
-    fn flush(&mut self) -> io::Result<()> {
+    fn hand_on(&mut self, _shown: &V) -> io::Result<()> {
         Ok(())
     }
 }

@@ -12,7 +12,7 @@ use crate::visit::Visit;
 use crate::visit_counts::VisitCounts;
 use rb_blocking::Clock;
 use rb_lock::Pass;
-use rb_protocol::{LimitedReader, LimitedWriter, WriterStatus};
+use rb_protocol::{LimitedReader, LimitedWriter, Recipient, WriterStatus};
 use rb_session::{Ended, SessionFault, run_limited};
 use rb_shared_desk::SharedDesk;
 use rb_timer::Timer;
@@ -27,18 +27,20 @@ pub(crate) fn work_with_all<'a, T: Timer, D: Door, C: Clock, V: Decision, R: Wai
     door: D,
     pass: Pass<T>,
 ) -> (Pass<T>, VisitCounts, D, OnceToken<'a, V>)
+where
+    D::Writer: Recipient<Pass<T>>,
     requires pass { pass.table ≡ service.now.shared.now }
     requires unused { IsUnused pass }
     requires unseen { D.has_seen door [] }
     requires ready { D.is_ready door pass }
     requires honest { Satisfies
-        (service_terms D.Reader.Read D.Writer.Write D.Gate.Gate C.Clock service.now) D.demands }
+        (service_terms D.Reader.Read D.Writer.Recipient D.Gate.Gate C.Clock service.now) D.awaits D.demands }
     ensures pass { result.0.table ≡ service.now.shared.now }
     ensures parts { result.0.parts ≡ pass.parts }
     ensures token { result.3.of ≡ service.now.serves.now.id }
     ensures served { V.serves result.3.value ≡ true → (log : List (DoorStep D.Reader D.Writer D.Gate))
         × D.has_seen result.2 log × IsWorkerResult
-        (service_terms D.Reader.Read D.Writer.Write D.Gate.Gate C.Clock service.now)
+        (service_terms D.Reader.Read D.Writer.Recipient D.Gate.Gate C.Clock service.now)
         pass.capacity pass.opening log result.0 result.1 }
     ensures left { V.serves result.3.value ≡ false → (result.0 ≡ pass) × D.has_seen result.2 [] }
 {
@@ -60,16 +62,18 @@ pub(crate) fn work<T: Timer, D: Door, C: Clock, V, R: Wait + time::Clock>(
     mut door: D,
     mut pass: Pass<T>,
 ) -> (Pass<T>, VisitCounts, D)
+where
+    D::Writer: Recipient<Pass<T>>,
     requires pass { pass.table ≡ service.now.shared.now }
     requires unused { IsUnused pass }
     requires unseen { D.has_seen door [] }
     requires ready { D.is_ready door pass }
     requires honest { Satisfies
-        (service_terms D.Reader.Read D.Writer.Write D.Gate.Gate C.Clock service.now) D.demands }
+        (service_terms D.Reader.Read D.Writer.Recipient D.Gate.Gate C.Clock service.now) D.awaits D.demands }
     ensures pass { result.0.table ≡ service.now.shared.now }
     ensures parts { result.0.parts ≡ pass.parts }
     ensures worked { (log : List (DoorStep D.Reader D.Writer D.Gate)) × D.has_seen result.2 log × IsWorkerResult
-        (service_terms D.Reader.Read D.Writer.Write D.Gate.Gate C.Clock service.now)
+        (service_terms D.Reader.Read D.Writer.Recipient D.Gate.Gate C.Clock service.now)
         pass.capacity pass.opening log result.0 result.1 }
 {
     let mut counts = VisitCounts::default();
@@ -97,14 +101,16 @@ fn serve_visit<T: Timer, D: Door, C: Clock, V, R: Wait + time::Clock>(
     door: &mut D,
     visit: Visit<D::Reader, D::Writer, D::Gate>,
 ) -> Result<Ended, SessionFault>
+where
+    D::Writer: Recipient<Pass<T>>,
     requires pass { pass.old.table ≡ service.now.shared.now }
     requires awaited { D.awaits door.old visit pass.old }
     requires honest { Satisfies
-        (service_terms D.Reader.Read D.Writer.Write D.Gate.Gate C.Clock service.now) D.demands }
+        (service_terms D.Reader.Read D.Writer.Recipient D.Gate.Gate C.Clock service.now) D.awaits D.demands }
     ensures ready { D.is_ready door.new pass.new }
     ensures worked { IsWorked pass.old pass.new }
     ensures ran { (served : Served) × (served.ended ≡ result) × LeftVisit
-        (service_terms D.Reader.Read D.Writer.Write D.Gate.Gate C.Clock service.now) D.has_seen
+        (service_terms D.Reader.Read D.Writer.Recipient D.Gate.Gate C.Clock service.now) D.has_seen
         door.old visit pass.old served pass.new door.new }
 {
     let Visit {

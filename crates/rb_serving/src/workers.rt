@@ -12,6 +12,7 @@ use crate::worker::work_with_all;
 use rb_blocking::Clock;
 use rb_ending::{BrokerFault, Recorder};
 use rb_lock::Pass;
+use rb_protocol::Recipient;
 use rb_timer::Timer;
 use std::snapshot::Snapshot;
 use std::sync::{OnceLock, OnceToken, Wait};
@@ -30,12 +31,15 @@ struct OfWorker<'a, T: Timer, C: Clock, V> {
 
 impl<'a, T: Timer, D: Door, C: Clock, V: Decision> Promise<
     (Pass<T>, VisitCounts, D, OnceToken<'a, V>),
-> for OfWorker<'a, T, C, V> {
+> for OfWorker<'a, T, C, V>
+where
+    D::Writer: Recipient<Pass<T>>,
+{
     ghost kept_by = { λ promise worked. (worked.0.table ≡ promise.service.now.shared.now)
         × (worked.0.parts ≡ promise.start.value.parts)
         × (worked.3.of ≡ promise.service.now.serves.now.id)
         × (V.serves worked.3.value ≡ true → (log : List (DoorStep D.Reader D.Writer D.Gate)) × D.has_seen worked.2 log
-        × IsWorkerResult (service_terms D.Reader.Read D.Writer.Write D.Gate.Gate C.Clock promise.service.now)
+        × IsWorkerResult (service_terms D.Reader.Read D.Writer.Recipient D.Gate.Gate C.Clock promise.service.now)
         promise.start.value.capacity promise.start.value.opening log worked.0 worked.1)
         × (V.serves worked.3.value ≡ false → (worked.0 ≡ promise.start.value) × D.has_seen worked.2 []) };
 }
@@ -61,14 +65,16 @@ pub(crate) fn serve_all<
     pass: Pass<T>,
     count: u64,
 ) -> (D, B, Result<(Pass<T>, VisitCounts), BrokerFault>)
+where
+    D::Writer: Recipient<Pass<T>>,
     requires all { L.all ≡ L.parts }
     requires some { 0 < L.all }
     requires pass { pass.table ≡ service.now.shared.now }
     requires splits { (least : ℕ) × D.may_split door count least × (least ≤ pass.noted) }
     requires honest { Satisfies
-        (service_terms D.Reader.Read D.Writer.Write D.Gate.Gate C.Clock service.now) D.demands }
+        (service_terms D.Reader.Read D.Writer.Recipient D.Gate.Gate C.Clock service.now) D.awaits D.demands }
     ensures folds { IfOk result.2 (λ served. GathersWorkers
-        (service_terms D.Reader.Read D.Writer.Write D.Gate.Gate C.Clock service.now)
+        (service_terms D.Reader.Read D.Writer.Recipient D.Gate.Gate C.Clock service.now)
         D.has_joined count door pass result.0 served.0 served.1) }
     ensures unused { OnErr result.2 (Gathers D.has_joined door [] result.0) }
     ensures recorder { MatchResult result.2 (λ _. B.has_begun recorder result.1)
@@ -80,9 +86,9 @@ pub(crate) fn serve_all<
         move |scope| -> (D, B, Result<(Pass<T>, VisitCounts), BrokerFault>)
             requires { (L.all ≡ L.parts) × (0 < L.all) × (pass.table ≡ service.now.shared.now)
                 × ((least : ℕ) × D.may_split door count least × (least ≤ pass.noted)) × Satisfies
-                (service_terms D.Reader.Read D.Writer.Write D.Gate.Gate C.Clock service.now) D.demands }
+                (service_terms D.Reader.Read D.Writer.Recipient D.Gate.Gate C.Clock service.now) D.awaits D.demands }
             ensures { IfOk result.2 (λ served. GathersWorkers
-                (service_terms D.Reader.Read D.Writer.Write D.Gate.Gate C.Clock service.entry.now)
+                (service_terms D.Reader.Read D.Writer.Recipient D.Gate.Gate C.Clock service.entry.now)
                 D.has_joined count door pass result.0 served.0 served.1)
                 × OnErr result.2 (Gathers D.has_joined door [] result.0)
                 × MatchResult result.2 (λ _. B.has_begun recorder result.1)
@@ -121,14 +127,16 @@ fn start_all<
     Result<(Pass<T>, VisitCounts), BrokerFault>,
     OnceToken<'s, Decided<L, B::Begun>>,
 )
+where
+    D::Writer: Recipient<Pass<T>>,
     requires all { L.all ≡ L.parts }
     requires some { 0 < L.all }
     requires pass { pass.table ≡ service.now.shared.now }
     requires splits { (least : ℕ) × D.may_split door count least × (least ≤ pass.noted) }
     requires honest { Satisfies
-        (service_terms D.Reader.Read D.Writer.Write D.Gate.Gate C.Clock service.now) D.demands }
+        (service_terms D.Reader.Read D.Writer.Recipient D.Gate.Gate C.Clock service.now) D.awaits D.demands }
     ensures folds { IfOk result.1 (λ served. GathersWorkers
-        (service_terms D.Reader.Read D.Writer.Write D.Gate.Gate C.Clock service.now)
+        (service_terms D.Reader.Read D.Writer.Recipient D.Gate.Gate C.Clock service.now)
         D.has_joined count door pass result.0 served.0 served.1) }
     ensures unused { OnErr result.1 (Gathers D.has_joined door [] result.0) }
     ensures token { result.2.of ≡ service.now.serves.now.id }
@@ -155,12 +163,12 @@ fn start_all<
         move || -> (Pass<T>, VisitCounts, D, OnceToken<'_, Decided<L, B::Begun>>)
             requires { (child.table ≡ service.now.shared.now) × IsUnused child × D.has_seen entrance []
                 × D.is_ready entrance child × Satisfies
-                (service_terms D.Reader.Read D.Writer.Write D.Gate.Gate C.Clock service.now) D.demands }
+                (service_terms D.Reader.Read D.Writer.Recipient D.Gate.Gate C.Clock service.now) D.awaits D.demands }
             ensures { (result.0.table ≡ service.entry.now.shared.now) × (result.0.parts ≡ child.parts)
                 × (result.3.of ≡ service.entry.now.serves.now.id)
                 × (is_some result.3.value.begun ≡ true → (log : List (DoorStep D.Reader D.Writer D.Gate)) × D.has_seen result.2 log
                 × IsWorkerResult
-                (service_terms D.Reader.Read D.Writer.Write D.Gate.Gate C.Clock service.entry.now)
+                (service_terms D.Reader.Read D.Writer.Recipient D.Gate.Gate C.Clock service.entry.now)
                 child.capacity child.opening log result.0 result.1)
                 × (is_some result.3.value.begun ≡ false → (result.0 ≡ child) × D.has_seen result.2 []) }
         { work_with_all(rt, service, entrance, child) },

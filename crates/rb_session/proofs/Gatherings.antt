@@ -2,7 +2,7 @@
 use Rattle.std.proofs.Common.{◌≡◌, ◌≤◌, ℕ, List, [], ◌++◌, Option, Some, None, Result, Ok, Err}
 use Rattle.std.proofs.Common.{refl, sym, ap, ◌∙◌, append_assoc, length, arith}
 use Rattle.std.proofs.lemmas.List.{append-nil, append_cancel_left}
-use Rattle.std.specs.declared.io.Write as Write
+use Rattle.rb_protocol.specs.declared.streams.recipient.Recipient as Recipient
 use Rattle.std.specs.Io.KnownBytes.{Appends, append_known}
 use Rattle.rb_protocol.specs.Sending.{Sends}
 use Rattle.rb_protocol.specs.Writes.{FailsNoMore, TellsOf}
@@ -71,9 +71,9 @@ known_at_first None got' gathered none same = same
 known_at_first (Some xs) got' gathered none same =
     ap (λ b. Some (xs ++ b)) none ∙ ap (λ b. Some b) (append-nil xs) ∙ same
 
-module _ {W : Type 0} (words : Write.Ghosts W) where
+module _ {W V : Type 0} (words : Recipient.Ghosts W V) where
   -- an outlet may stay as it is
-  pub stays : (outlet : Outlet W words) → Becomes words outlet outlet
+  pub stays : (outlet : Outlet W) → Becomes words outlet outlet
   stays outlet = record {
     on = writes_same outlet.writer;
     grows = grows_same _;
@@ -81,7 +81,7 @@ module _ {W : Type 0} (words : Write.Ghosts W) where
   }
 
   -- what an outlet becomes in two steps it may become
-  pub goes_on : (one two three : Outlet W words) → Becomes words one two → Becomes words two three
+  pub goes_on : (one two three : Outlet W) → Becomes words one two → Becomes words two three
       → Becomes words one three
   goes_on one two three first second = record {
     on = writes_then first.on second.on;
@@ -90,7 +90,7 @@ module _ {W : Type 0} (words : Write.Ghosts W) where
   }
 
   -- where nothing is held back, the writer has got all that was sent
-  pub gets : (old new : Outlet W words) (text : List ℕ) → new.gathered.items ≡ []
+  pub gets : (old new : Outlet W) (text : List ℕ) → new.gathered.items ≡ []
       → Appends (sent_to words old) (sent_to words new) text
       → HadGotBehind words.contents (sent_to words old) text
   gets old new text clear sent = (new.writer.inner.now, all_got _ _ new.gathered.items text clear sent)

@@ -8,6 +8,7 @@ pub mod ReplyTexts
 pub mod Turns
 pub mod Outlets
 pub mod Gatherings
+pub mod Passed
 pub mod KnownDevices
 pub mod DeskParts
 pub mod GivenJobs

@@ -18,7 +18,7 @@ module _ {P Q : List ℕ → List ℕ → Type 0} {left0 left1 left2 got0 got1 :
   }
 
   -- more came, and more was sent
-  pub exchanges_more : (more text : List ℕ) (got3 : Option (List ℕ)) → Consumes left1 left2 more
+  unfoldable pub exchanges_more : (more text : List ℕ) (got3 : Option (List ℕ)) → Consumes left1 left2 more
       → Appends got2 got3 text → Q (so_far.came ++ more) (so_far.sent ++ text)
       → Exchanges left0 left2 got0 got3 Q
   exchanges_more more text got3 consumed appended holds = record {
@@ -31,7 +31,7 @@ module _ {P Q : List ℕ → List ℕ → Type 0} {left0 left1 left2 got0 got1 :
   }
 
 -- more was sent, and nothing more came
-pub exchanges_sent : {P Q : List ℕ → List ℕ → Type 0} {left0 left1 got0 got1 : Option (List ℕ)}
+unfoldable pub exchanges_sent : {P Q : List ℕ → List ℕ → Type 0} {left0 left1 got0 got1 : Option (List ℕ)}
     (so_far : Exchanges left0 left1 got0 got1 P) (got2 : Option (List ℕ)) (kept : Keeps got1 got2) (text : List ℕ)
     (got3 : Option (List ℕ)) → Appends got2 got3 text → Q so_far.came (so_far.sent ++ text)
     → Exchanges left0 left1 got0 got3 Q

@@ -9,7 +9,7 @@ use Rattle.rb_protocol.specs.declared.streams.writing.WriteFault.{WriteFault}
 use Rattle.rb_session.specs.Rules.{SessionRules, IsGathered, most_held_back}
 use Rattle.rb_session.specs.Turn.{Point}
 use Rattle.rb_session.specs.Session.{ServesFirst, ServesToEnd}
-use Rattle.rb_session.specs.Ran.{BreaksOff, FailsToSend}
+use Rattle.rb_session.specs.Ran.{BreaksOff, FailsToSend, ServesSome}
 use Rattle.rb_session.specs.Reasons.{IsReason}
 use Rattle.rb_session.specs.Progress.{Stops, FailsToRead, ReadsOn, end_of}
 use Rattle.rb_session.specs.declared.delivery.Delivery.{Delivery}
@@ -53,13 +53,13 @@ module _ {S : Type 0} (rules : SessionRules S) (Over : Type 0) {from : Point S} 
   stops_failed to came sent (Ok stop) failed fails = absurd (cc)
   stops_failed to came sent (Err fault) failed fails = fails
 
-  -- what was served could not be handed on
-  pub stops_late : IsGathered rules.delivery → (to : Point S) (came sent : List ℕ) (stop : Stop)
-      → Stops rules Over from came sent (Ok stop) to → FailsToSend rules Over from came sent to
-  stops_late late to came sent stops.Quit stopped = inr (late, inl stopped)
-  stops_late late to came sent stops.EndOfInput stopped = inr (late, inr (inl stopped))
-  stops_late late to came sent stops.Read stopped = inr (late, inr (inr (inl stopped.0)))
-  stops_late late to came sent stops.ReadTurns stopped = inr (late, inr (inr (inl stopped.0)))
+  -- where the lines stopped, some had been served
+  pub stops_served : (to : Point S) (came sent : List ℕ) (stop : Stop) → Stops rules Over from came sent (Ok stop) to
+      → ServesSome rules Over from came sent to
+  stops_served to came sent stops.Quit stopped = inl stopped
+  stops_served to came sent stops.EndOfInput stopped = inr (inl stopped)
+  stops_served to came sent stops.Read stopped = inr (inr (inl stopped.0))
+  stops_served to came sent stops.ReadTurns stopped = inr (inr (inl stopped.0))
 
   module _ {here : Point S} {came sent : List ℕ} (first : ServesFirst rules from came sent here)
       (no_feed : HasNoLineFeed first.unserved) (more text : List ℕ) where

@@ -1,5 +1,7 @@
 -- What a run of a session comes to: what came, what was sent, and the desk's way between them.
 use Rattle.std.specs.Prelude.{◌≡◌, ℕ, ◌<◌, ◌≤◌, ◌⊎◌, List, [], ◌∷◌, ◌++◌, length, Result, Ok, Err}
+use Rattle.std.specs.Prelude.{Option}
+use Rattle.std.specs.Io.KnownBytes.{Appends, Consumes, IsAtEnd}
 use Rattle.rb_protocol.specs.Line.{HasNoLineFeed}
 use Rattle.rb_protocol.specs.declared.format.TheConstants.{LINE_FEED}
 use Rattle.rb_protocol.specs.declared.request.Request.{Request}
@@ -56,6 +58,20 @@ module _ {S : Type 0} (rules : SessionRules S) where
       ServesToQuit rules from came text to
       ⊎ (ServesToEnd rules Over from came text to
       ⊎ (ServesFirst rules from came text to ⊎ MissesNext from came text to))
+
+  -- What a session may send while it runs begins the answers to the lines that it has served by then.
+  abbrev pub BeginsAnswers : Type 0 → Point S → List ℕ → List ℕ → Point S → Type 0
+  BeginsAnswers Over from came sent to = (unsent : List ℕ) × ServesSome Over from came (sent ++ unsent) to
+
+  -- What a recipient demands of a piece holds if all that it has got since it was this one, and the piece, begin the
+  -- answers to lines that came from the reader by then, and it is shown the desk where those lines led it.
+  abbrev pub DemandsOnlyAnswers : {I O V : Type 0} → Point S → (S → V → Type 0) → (I → Option (List ℕ)) → I
+      → (O → Option (List ℕ)) → (O → V → List ℕ → Type 0) → O → Type 0
+  DemandsOnlyAnswers {I = I} {O = O} {V = V} from shows remaining reader contents demands writer =
+      (reader' : I) (writer' : O) (came sent piece : List ℕ) (to : Point S) (shown : V)
+      → Consumes (remaining reader) (remaining reader') came → Appends (contents writer) (contents writer') sent
+      → BeginsAnswers (IsAtEnd (remaining reader')) from came (sent ++ piece) to → shows to.desk shown
+      → demands writer' shown piece
 
   -- A write failed: a reply could not be sent, or all that was served was answered, and what was held back of gathered
   -- replies could not be handed on.

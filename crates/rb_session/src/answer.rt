@@ -2,7 +2,7 @@ ghost use Rattle.std.specs.Prelude.{◌≡◌, ◌⊎◌, ℕ, [], Option, Resul
 ghost use Rattle.std.specs.Io.KnownBytes.{Keeps};
 ghost use Rattle.rb_retry.specs.DeskRules.{desk_rules};
 ghost use Rattle.rb_session.specs.Held.{AreGiven};
-ghost use Rattle.rb_session.specs.Outlet.{sent_to, Becomes, WriterTells};
+ghost use Rattle.rb_session.specs.Outlet.{sent_to, Becomes, MayHandOn, Passes, WriterTells};
 ghost use Rattle.rb_session.specs.Rules.{IsGathered, WritesBeforeWaits};
 ghost use Rattle.rb_session.specs.Turn.{point, moment_line, IsTurn, NeedsNoWait};
 ghost use Rattle.rb_session.specs.Progress.{replies_of, AsksToWait};
@@ -12,10 +12,9 @@ use crate::fetches::{drain_jobs, fetch_job, fetch_or_wait};
 use crate::held_job_ends::{fail_job, finish_job};
 use crate::held_jobs::HeldJobs;
 use crate::outlet::Outlet;
-use rb_protocol::{ErrWord, LineFault, LineReply, Request, WriteFault};
+use rb_protocol::{ErrWord, LineFault, LineReply, Recipient, Request, WriteFault};
 use rb_queue::Ask;
 use rb_retry::{Desk, Policy};
-use std::io::Write;
 
 /// Answers one line, and puts the first line of its reply in place. If that is a drain's, the elements
 /// that it took are the last that are held.
@@ -24,7 +23,7 @@ use std::io::Write;
 /// `Err` means that this failed; then the request was not served. The desk's clock is read once for each
 /// request.
 // A reply in a `Result` is copied at each `?`, and each copy waits for the writes of the one before.
-pub(crate) fn answer<W: Write, D: Desk>(
+pub(crate) fn answer<W: Recipient<D::Witness>, D: Desk>(
     outlet: &mut Outlet<'_, W>,
     desk: &mut D,
     held: &mut HeldJobs,
@@ -32,7 +31,9 @@ pub(crate) fn answer<W: Write, D: Desk>(
     reading: &Result<Request, LineFault>,
     reply: &mut LineReply,
 ) -> Result<(), WriteFault>
-    requires { AreGiven (D.mine (D.state desk.old)) held.old }
+    requires given { AreGiven (D.mine (D.state desk.old)) held.old }
+    requires due { (missed : D.State) (shown : D.Witness) → D.Misses (D.state desk.old) missed
+        → D.shows missed shown → MayHandOn W.Recipient outlet.old shown }
     ensures turn { OnOk result (IsTurn
         (desk_rules D.Desk policy.now) (point (D.state desk.old) held.old)
         reading.now (replies_of reply.new held.new) (point (D.state desk.new) held.new)) }
@@ -42,9 +43,10 @@ pub(crate) fn answer<W: Write, D: Desk>(
         ⊎ (WritesBeforeWaits outlet.old.delivery → outlet.new.gathered.items ≡ [])) }
     ensures missed { OnErr result (D.Misses (D.state desk.old) (D.state desk.new) × (held.new ≡ held.old)) }
     ensures late { OnErr result (IsGathered outlet.old.delivery) }
-    ensures kept { Keeps (sent_to W.Write outlet.old) (sent_to W.Write outlet.new) }
-    ensures told { WriterTells W.Write result outlet.old outlet.new }
-    ensures becomes { Becomes W.Write outlet.old outlet.new }
+    ensures kept { Keeps (sent_to W.Recipient outlet.old) (sent_to W.Recipient outlet.new) }
+    ensures passes { OnOk result (Passes W.Recipient outlet.old [] outlet.new) }
+    ensures told { WriterTells W.Recipient result outlet.old outlet.new }
+    ensures becomes { Becomes W.Recipient outlet.old outlet.new }
 {
     match *reading {
         Ok(Request::Take) => {

@@ -1,9 +1,9 @@
-ghost use Rattle.std.specs.Prelude.{◌≡◌, ◌⊎◌, ◌-◌, ◌<◌, min, length, [], IfOk, OnErr};
+ghost use Rattle.std.specs.Prelude.{◌≡◌, ◌⊎◌, ◌-◌, ◌<◌, min, length, [], IfOk, OnOk, OnErr};
 ghost use Rattle.std.specs.Io.KnownBytes.{Keeps};
 ghost use Rattle.rb_retry.specs.Asked.{MayWait};
 ghost use Rattle.rb_retry.specs.Jobs.{answer_with};
 ghost use Rattle.rb_session.specs.Held.{AreGiven, AreNew};
-ghost use Rattle.rb_session.specs.Outlet.{sent_to, Becomes, WriterTells};
+ghost use Rattle.rb_session.specs.Outlet.{sent_to, Becomes, MayHandOn, Passes, WriterTells};
 ghost use Rattle.rb_session.specs.Rules.{IsGathered, WritesBeforeWaits};
 ghost use Rattle.rb_session.specs.Turn.{point, fetched_by, IsCall, IsFetch};
 ghost use Rattle.rb_session.specs.Progress.{replies_of, FetchesOne, IsHolding};
@@ -11,10 +11,9 @@ ghost use Rattle.rb_session.specs.Progress.{replies_of, FetchesOne, IsHolding};
 use crate::calls::fault_line;
 use crate::held_jobs::{HeldJobs, MOST_HELD};
 use crate::outlet::Outlet;
-use rb_protocol::{ErrWord, LineReply, WriteFault};
+use rb_protocol::{ErrWord, LineReply, Recipient, WriteFault};
 use rb_queue::Ask;
 use rb_retry::{Desk, DeskFault, Job, poll, poll_for, take, try_fetch};
-use std::io::Write;
 
 /// Fetches one job by this ask, which is a poll, a take or a timed poll, if there is room for it.
 #[inline(always)]
@@ -44,7 +43,7 @@ pub(crate) fn fetch_job<D: Desk>(
 ///
 /// It is tried once. If it then has to wait, what the outlet holds back is handed on before. `Err` means that this
 /// failed; then nothing was fetched.
-pub(crate) fn fetch_or_wait<W: Write, D: Desk>(
+pub(crate) fn fetch_or_wait<W: Recipient<D::Witness>, D: Desk>(
     outlet: &mut Outlet<'_, W>,
     desk: &mut D,
     held: &mut HeldJobs,
@@ -56,6 +55,8 @@ pub(crate) fn fetch_or_wait<W: Write, D: Desk>(
     requires waits { MayWait ask.now }
     requires read { D.gives (D.state desk.old) now }
     requires given { AreGiven (D.mine (D.state desk.old)) held.old }
+    requires due { (missed : D.State) (shown : D.Witness) → D.Misses (D.state desk.old) missed
+        → D.shows missed shown → MayHandOn W.Recipient outlet.old shown }
     ensures fetched { IfOk result (λ reply. IsFetch D.Steps (point (D.state desk.old) held.old) asked ask.now
         (replies_of reply held.new) (point (D.state desk.new) held.new)) }
     ensures waits { IfOk result (λ reply. IsFetch D.Tries (point (D.state desk.old) held.old) now ask.now
@@ -63,9 +64,10 @@ pub(crate) fn fetch_or_wait<W: Write, D: Desk>(
         ⊎ (WritesBeforeWaits outlet.old.delivery → outlet.new.gathered.items ≡ [])) }
     ensures missed { OnErr result (D.Misses (D.state desk.old) (D.state desk.new) × (held.new ≡ held.old)) }
     ensures late { OnErr result (IsGathered outlet.old.delivery) }
-    ensures kept { Keeps (sent_to W.Write outlet.old) (sent_to W.Write outlet.new) }
-    ensures told { WriterTells W.Write result outlet.old outlet.new }
-    ensures becomes { Becomes W.Write outlet.old outlet.new }
+    ensures kept { Keeps (sent_to W.Recipient outlet.old) (sent_to W.Recipient outlet.new) }
+    ensures passes { OnOk result (Passes W.Recipient outlet.old [] outlet.new) }
+    ensures told { WriterTells W.Recipient result outlet.old outlet.new }
+    ensures becomes { Becomes W.Recipient outlet.old outlet.new }
 {
     if held.free() == 0 {
         return Ok(LineReply::Err(ErrWord::Held));
@@ -73,7 +75,7 @@ pub(crate) fn fetch_or_wait<W: Write, D: Desk>(
     match try_fetch(desk, now, *ask) {
         Some(fetched) => Ok(hold(held, fetched)),
         None => {
-            outlet.before_wait()?;
+            outlet.before_wait(desk.witness())?;
             Ok(fetch_job(desk, held, asked, *ask))
         }
     }

@@ -13,7 +13,7 @@ use rb_protocol::{
 };
 use std::alloc::{AllocError, Global};
 use std::io;
-use std::io::{Read, Write};
+use std::io::Read;
 
 /// The greatest number of bytes before a line feed that may still be a request: the longest line,
 /// and a carriage return.
@@ -73,7 +73,7 @@ impl LineBuffer {
     /// 0 at the end of the input.
     ///
     /// Nothing may be held back then, so that no client waits for a reply that it has not got.
-    pub(crate) fn read_from<R: Read, W: Write>(
+    pub(crate) fn read_from<R: Read, W>(
         &mut self,
         reader: &mut LimitedReader<'_, R>,
         _outlet: &Outlet<'_, W>,

@@ -6,8 +6,9 @@ ghost use Rattle.rb_session.specs.Rules.{most_held_back, IsGathered, WritesBefor
 
 use crate::delivery::Delivery;
 use crate::hands_on::HandsOn;
-use rb_protocol::{LimitedWriter, LineReply, ReplyLine, WriteFault, send_line, write_out};
-use std::io::Write;
+use rb_protocol::{
+    LimitedWriter, LineReply, Recipient, ReplyLine, WriteFault, send_line, write_out,
+};
 
 /// Where the replies of a session go: to a writer, each when its request is served or, if they are
 /// gathered, many in one write.
@@ -15,15 +16,15 @@ use std::io::Write;
 /// What was sent is what the writer has got, followed by what is held back. The session has that
 /// handed on before each read and at its end, so no client waits for a reply that is held back.
 #[derive(Drop)]
-pub(crate) struct Outlet<'a, W: Write> {
+pub(crate) struct Outlet<'a, W> {
     writer: LimitedWriter<'a, W>,
     gathered: Vec<u8>,
     delivery: Delivery,
     ghost few: { vec_len gathered ≤ most_held_back delivery },
 }
 
-impl<'a, W: Write> Outlet<'a, W> {
-    ghost use Rattle.rb_session.specs.Outlet.{sent_to, Becomes, WriterTells};
+impl<'a, W> Outlet<'a, W> {
+    ghost use Rattle.rb_session.specs.Outlet.{sent_to, Becomes, MayHandOn, MaySend, Passes, WriterTells};
 
     /// An outlet to this writer, which gathers in the room of an empty vector. It takes no more memory.
     pub(crate) fn new(
@@ -54,19 +55,24 @@ impl<'a, W: Write> Outlet<'a, W> {
     /// Sends a reply's line in one piece: gathers it or, if there is no room for it behind what is handed on
     /// then, writes it.
     ///
-    /// After an `Err` the first bytes of the line were sent, perhaps none.
-    pub(crate) fn send(&mut self, reply: &LineReply) -> Result<(), WriteFault>
-        ensures sent { Sends result (sent_to W.Write self.old) (text_of reply.now) (sent_to W.Write self.new) }
-        ensures told { WriterTells W.Write result self.old self.new }
-        ensures becomes { Becomes W.Write self.old self.new }
+    /// After an `Err` the first bytes of the line were sent, perhaps none. Here and below, the writer is shown `shown` with
+    /// what it is handed.
+    pub(crate) fn send<V>(&mut self, shown: &V, reply: &LineReply) -> Result<(), WriteFault>
+    where
+        W: Recipient<V>,
+        requires { MaySend W.Recipient self.old shown.now (text_of reply.now) }
+        ensures passes { OnOk result (Passes W.Recipient self.old (text_of reply.now) self.new) }
+        ensures sent { Sends result (sent_to W.Recipient self.old) (text_of reply.now) (sent_to W.Recipient self.new) }
+        ensures told { WriterTells W.Recipient result self.old self.new }
+        ensures becomes { Becomes W.Recipient self.old self.new }
     {
         let mut text = ReplyLine::new();
         reply.write_to(&mut text);
         let line = text.as_bytes();
         if line.len() > self.room() {
-            self.hand_on()?;
+            self.hand_on(shown)?;
             if line.len() > self.room() {
-                return send_line(&mut self.writer, line);
+                return send_line(&mut self.writer, shown, line);
             }
         }
         self.gathered.extend_from_slice(line).unwrap();
@@ -74,48 +80,59 @@ impl<'a, W: Write> Outlet<'a, W> {
     }
 
     /// The replies to a request have been sent: what is not gathered is flushed.
-    pub(crate) fn after_replies(&mut self) -> Result<(), WriteFault>
-        ensures kept { Keeps (sent_to W.Write self.old) (sent_to W.Write self.new) }
-        ensures told { WriterTells W.Write result self.old self.new }
-        ensures becomes { Becomes W.Write self.old self.new }
+    pub(crate) fn after_replies<V>(&mut self, shown: &V) -> Result<(), WriteFault>
+    where
+        W: Recipient<V>,
+        ensures kept { Keeps (sent_to W.Recipient self.old) (sent_to W.Recipient self.new) }
+        ensures passes { OnOk result (Passes W.Recipient self.old [] self.new) }
+        ensures told { WriterTells W.Recipient result self.old self.new }
+        ensures becomes { Becomes W.Recipient self.old self.new }
     {
         match self.delivery {
-            Delivery::AtOnce => self.writer.flush(),
+            Delivery::AtOnce => self.writer.flush(shown),
             Delivery::Gathered(_) => Ok(()),
         }
     }
 
     /// A request has to wait: hands on what is held back, unless that is for reads alone.
-    pub(crate) fn before_wait(&mut self) -> Result<(), WriteFault>
-        ensures kept { Keeps (sent_to W.Write self.old) (sent_to W.Write self.new) }
-        ensures told { WriterTells W.Write result self.old self.new }
+    pub(crate) fn before_wait<V>(&mut self, shown: &V) -> Result<(), WriteFault>
+    where
+        W: Recipient<V>,
+        requires { MayHandOn W.Recipient self.old shown.now }
+        ensures kept { Keeps (sent_to W.Recipient self.old) (sent_to W.Recipient self.new) }
+        ensures passes { OnOk result (Passes W.Recipient self.old [] self.new) }
+        ensures told { WriterTells W.Recipient result self.old self.new }
         ensures clear { OnOk result (WritesBeforeWaits self.old.delivery → self.new.gathered.items ≡ []) }
         ensures late { OnErr result (IsGathered self.old.delivery) }
-        ensures becomes { Becomes W.Write self.old self.new }
+        ensures becomes { Becomes W.Recipient self.old self.new }
     {
         match self.delivery {
             Delivery::Gathered(HandsOn::BeforeReads) => Ok(()),
-            _ => self.hand_on(),
+            _ => self.hand_on(shown),
         }
     }
 
     /// Hands on what is held back. What the writer did not take before a failing write stays there.
-    pub(crate) fn hand_on(&mut self) -> Result<(), WriteFault>
-        ensures kept { Keeps (sent_to W.Write self.old) (sent_to W.Write self.new) }
-        ensures told { WriterTells W.Write result self.old self.new }
+    pub(crate) fn hand_on<V>(&mut self, shown: &V) -> Result<(), WriteFault>
+    where
+        W: Recipient<V>,
+        requires { MayHandOn W.Recipient self.old shown.now }
+        ensures kept { Keeps (sent_to W.Recipient self.old) (sent_to W.Recipient self.new) }
+        ensures passes { OnOk result (Passes W.Recipient self.old [] self.new) }
+        ensures told { WriterTells W.Recipient result self.old self.new }
         ensures clear { OnOk result (self.new.gathered.items ≡ []) }
         ensures late { OnErr result (0 < vec_len self.old.gathered) }
-        ensures becomes { Becomes W.Write self.old self.new }
+        ensures becomes { Becomes W.Recipient self.old self.new }
     {
         if self.gathered.is_empty() {
             return Ok(());
         }
-        let taken = write_out(&mut self.writer, &self.gathered);
+        let taken = write_out(&mut self.writer, shown, &self.gathered);
         remove_first(&mut self.gathered, taken);
         if !self.gathered.is_empty() {
             return Err(WriteFault);
         }
-        self.writer.flush()
+        self.writer.flush(shown)
     }
 
     // How many bytes can still be gathered.

@@ -1,9 +1,10 @@
-ghost use Rattle.std.specs.Prelude.{◌≡◌, ◌≢◌, ◌≤◌, Err};
+ghost use Rattle.std.specs.Prelude.{◌≡◌, ◌≢◌, ◌≤◌, [], Err};
 ghost use Rattle.std.specs.Io.KnownBytes.{IsAtEnd};
 ghost use Rattle.rb_retry.specs.DeskRules.{desk_rules};
 ghost use Rattle.rb_session.specs.Exchange.{Exchanges};
 ghost use Rattle.rb_session.specs.Rules.{session_rules, HadGotBehind};
-ghost use Rattle.rb_session.specs.Ran.{Ran};
+ghost use Rattle.rb_session.specs.Ran.{Ran, DemandsOnlyAnswers};
+ghost use Rattle.rb_session.specs.Turn.{point};
 ghost use Rattle.rb_session.specs.Progress.{end_of};
 ghost use Rattle.rb_session.specs.Reasons.{IsReason, IsWriteReason};
 ghost use Rattle.rb_protocol.specs.Writes.{WritesOn};
@@ -15,7 +16,7 @@ use crate::outlet::Outlet;
 use crate::session_fault::SessionFault;
 use crate::session_room::SessionRoom;
 use crate::stop::Stop;
-use rb_protocol::{LimitedReader, LimitedWriter, WriteFault, WriterStatus};
+use rb_protocol::{LimitedReader, LimitedWriter, Recipient, WriteFault, WriterStatus};
 use rb_retry::{Desk, Policy};
 use std::alloc::Global;
 use std::io::{Read, Write};
@@ -62,7 +63,11 @@ pub fn run_session<R: Read, W: Write, D: Desk>(
 /// client waits for a reply that is held back. The room of 64 KiB is taken before the
 /// first read. A write that fails comes later than the replies that it loses. The session then ends
 /// as after any fault of a write.
-pub fn run_limited<'a, R: Read, W: Write, D: Desk>(
+///
+/// With each piece the writer is shown the desk's witness. So it may demand that all it has got since the session began,
+/// and the piece, begin the answers to lines that have come, and that those lines led the desk to where it is. This holds
+/// at each moment, of a session that never ends too.
+pub fn run_limited<'a, R: Read, W: Recipient<D::Witness>, D: Desk>(
     alloc: Global,
     reader: &mut LimitedReader<'_, R>,
     writer: LimitedWriter<'a, W>,
@@ -70,6 +75,9 @@ pub fn run_limited<'a, R: Read, W: Write, D: Desk>(
     policy: &Policy,
     delivery: Delivery,
 ) -> (LimitedWriter<'a, W>, Result<Ended, SessionFault>)
+    requires { DemandsOnlyAnswers
+        (session_rules (desk_rules D.Desk policy.now) delivery (HadGotBehind W.contents (W.contents writer.inner.now)))
+        (point (D.state desk.old) []) D.shows R.remaining reader.old.inner.now W.contents W.demands writer.inner.now }
     ensures ran { Exchanges
         (R.remaining reader.old.inner.now) (R.remaining reader.new.inner.now)
         (W.contents writer.entry.inner.now) (W.contents result.0.inner.now)
@@ -91,13 +99,16 @@ pub fn run_limited<'a, R: Read, W: Write, D: Desk>(
 }
 
 /// Runs a session like `run_limited`, in memory that was taken before. So it is never answered by `Memory`.
-pub fn run_in<'a, R: Read, W: Write, D: Desk>(
+pub fn run_in<'a, R: Read, W: Recipient<D::Witness>, D: Desk>(
     room: SessionRoom,
     reader: &mut LimitedReader<'_, R>,
     writer: LimitedWriter<'a, W>,
     desk: &mut D,
     policy: &Policy,
 ) -> (LimitedWriter<'a, W>, Result<Ended, SessionFault>)
+    requires { DemandsOnlyAnswers
+        (session_rules (desk_rules D.Desk policy.now) room.delivery (HadGotBehind W.contents (W.contents writer.inner.now)))
+        (point (D.state desk.old) []) D.shows R.remaining reader.old.inner.now W.contents W.demands writer.inner.now }
     ensures ran { Exchanges
         (R.remaining reader.old.inner.now) (R.remaining reader.new.inner.now)
         (W.contents writer.entry.inner.now) (W.contents result.0.inner.now)

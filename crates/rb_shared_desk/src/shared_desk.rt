@@ -116,6 +116,14 @@ impl<'a, T: Timer, C: Clock, G: Gate, R: Wait + time::Clock> Desk for SharedDesk
 
     ghost Misses = { MissesShared };
 
+    type Witness = Pass<T>;
+
+    ghost shows = { λ state pass. pass ≡ state.pass };
+
+    fn witness(&self) -> &Pass<T> {
+        self.pass
+    }
+
     fn now(&self) -> u64 {
         self.waiter.clock.now()
     }

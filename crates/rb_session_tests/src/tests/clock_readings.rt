@@ -46,6 +46,14 @@ impl<'a, T: Timer> Desk for CountingDesk<'a, T> {
 
     ghost Misses = { NeverMisses };
 
+    type Witness = Kept<T>;
+
+    ghost shows = { λ state kept. kept ≡ state.log };
+
+    fn witness(&self) -> &Kept<T> {
+        self.desk.witness()
+    }
+
     fn now(&self) -> u64 {
         self.readings.set(self.readings.get().saturating_add(1));
         self.desk.now()

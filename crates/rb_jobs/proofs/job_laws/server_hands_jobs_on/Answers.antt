@@ -6,4 +6,4 @@ use Rattle.rb_jobs.proofs.job_laws.server_hands_jobs_on.Goals as goal
 pub returns : goal.returns
 returns g c clock policy delivery table =
     server_hands_jobs_on
-    (terms_of g.D.Reader.Read g.D.Writer.Write g.D.Gate.Gate g.C.Clock clock policy delivery table)
+    (terms_of g.D.Reader.Read g.D.Writer.Recipient g.D.Gate.Gate g.C.Clock clock policy delivery table)

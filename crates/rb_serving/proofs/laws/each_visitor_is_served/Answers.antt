@@ -5,4 +5,4 @@ use Rattle.rb_serving.proofs.laws.each_visitor_is_served.Goals as goal
 
 pub returns : goal.returns
 returns g c clock policy delivery table =
-    serves_all (terms_of g.D.Reader.Read g.D.Writer.Write g.D.Gate.Gate g.C.Clock clock policy delivery table)
+    serves_all (terms_of g.D.Reader.Read g.D.Writer.Recipient g.D.Gate.Gate g.C.Clock clock policy delivery table)

@@ -19,8 +19,8 @@ serve_run-requires-clause-honest g c κs within =
     let queue = c.in-Ok-open.queue in
     let clock = same_clock c.args.opening.last_at c.args.passed c.new-clock.result c.new-clock.ensures.first c.new-clock.ensures.passed in
     subst (λ (clock : ServeClock g.row.C.Denot). Satisfies
-    (terms_of g.D.Reader.Read g.D.Writer.Write g.D.Gate.Gate (clock_impl.ghosts g.row.C g.C.Clock g.C.Clock-dict) clock
-    c.args.options.now.policy (Delivery.Gathered HandsOn.BeforeReadsAndWaits) queue.shared) g.D.Door.demands) (sym clock)
+    (terms_of g.D.Reader.Read g.D.Writer.Recipient g.D.Gate.Gate (clock_impl.ghosts g.row.C g.C.Clock g.C.Clock-dict) clock
+    c.args.options.now.policy (Delivery.Gathered HandsOn.BeforeReadsAndWaits) queue.shared) g.D.Door.awaits g.D.Door.demands) (sym clock)
     (c.requires.honest queue.shared)
 
 pub returns : goal.returns
@@ -31,7 +31,7 @@ returns g c =
       ended = inl (
         queue.shared,
         subst (λ (clock : ServeClock g.row.C.Denot). EndsRun
-            (terms_of g.D.Reader.Read g.D.Writer.Write g.D.Gate.Gate (clock_impl.ghosts g.row.C g.C.Clock g.C.Clock-dict) clock
+            (terms_of g.D.Reader.Read g.D.Writer.Recipient g.D.Gate.Gate (clock_impl.ghosts g.row.C g.C.Clock g.C.Clock-dict) clock
             c.args.options.now.policy (Delivery.Gathered HandsOn.BeforeReadsAndWaits) queue.shared)
             g.row.T.Denot g.D.Door.has_joined g.B.Recorder.has_begun g.B.Recorder.keeps g.B.Write.contents c.args.opening c.args.options.now
             c.args.door served.result.0 c.args.recorder served.result.1 g.W.Write.contents c.args.writer.now served.new.writer served.result.2

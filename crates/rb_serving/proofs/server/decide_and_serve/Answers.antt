@@ -7,7 +7,7 @@ use Rattle.rb_serving.proofs.server.decide_and_serve.Goals as goal
 
 pub returns-in-Ok-clause-served : goal.returns-in-Ok-clause-served
 returns-in-Ok-clause-served g c opening fresh =
-    let terms = terms_of g.D.Reader.Read g.D.Writer.Write g.D.Gate.Gate g.C.Clock c.args.clock.now
+    let terms = terms_of g.D.Reader.Read g.D.Writer.Recipient g.D.Gate.Gate g.C.Clock c.args.clock.now
     c.args.options.now.policy c.args.delivery c.args.queue.shared in
     let workers = of_ok _ _ _ c.in-Ok.is c.serve_all-door.ensures.folds in (
       server_run terms opening c.args.options.now c.report_of.result c.args.queue.pass c.in-Ok.pass

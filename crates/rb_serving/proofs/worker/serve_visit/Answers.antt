@@ -7,12 +7,18 @@ use Rattle.rb_protocol.specs.declared.streams.limited_writer.LimitedWriter.{Limi
 use Rattle.rb_protocol.specs.declared.streams.writer_state.WriterState.{WriterState}
 use Rattle.rb_protocol.specs.declared.streams.writer_state.WriterState.TheVariants.{Open}
 use Rattle.rb_protocol.specs.declared.streams.writer_status.WriterStatus.{WriterStatus}
+use Rattle.rb_retry.specs.DeskRules.{DeskRules}
+use Rattle.rb_session.specs.Exchange.{Exchanges}
+use Rattle.rb_session.specs.Ran.{Ran}
+use Rattle.rb_session.specs.Rules.{session_rules, HadGotBehind}
+use Rattle.rb_session.specs.declared.delivery.Delivery.{Delivery}
 use Rattle.rb_session.specs.Reasons.{IsReason, IsWriteReason}
 use Rattle.rb_session.specs.declared.ended.Ended.{Ended}
 use Rattle.rb_session.specs.declared.session_fault.SessionFault.{SessionFault}
 use Rattle.rb_shared_desk.specs.SharedSteps.{SharedState, name_of}
 use Rattle.rb_session.specs.Served.{Served}
-use Rattle.rb_serving.specs.Visits.{IsDeskOf}
+use Rattle.rb_serving.specs.Terms.{service_terms}
+use Rattle.rb_serving.specs.Visits.{IsDeskOf, shared_rules, visit_waits}
 use Rattle.rb_lock.specs.Passes.{PassState}
 use Rattle.rb_serving.proofs.worker.serve_visit.Goals as goal
 
@@ -51,6 +57,18 @@ module _ {O : Type 0} (begun ended : LimitedWriter O) (made status : WriterStatu
       (ap (λ (s : WriterStatus O). s.state) lends ∙ unfailed)
       (subst (λ (s : WriterStatus O). IsWriteReason begun.status.now.state s result) status_is reason)
 
+-- what was sent went behind what the visit's writer had got
+ran_behind : {S O : Type 0} (desk : DeskRules S) (delivery : Delivery) (contents : O → Option (List ℕ)) (Over : Type 0)
+    (from to : S) (ended : Result Ended SessionFault) (left left' got got' new : Option (List ℕ)) → got ≡ got'
+    → Exchanges left left' got new (λ came sent. Ran (session_rules desk delivery (HadGotBehind contents got)) Over from
+    (record { came = came; sent = sent; ended = ended }) to)
+    → Exchanges left left' got' new (λ came sent. Ran (session_rules desk delivery (HadGotBehind contents got')) Over from
+    (record { came = came; sent = sent; ended = ended }) to)
+ran_behind desk delivery contents Over from to ended left left' got got' new same ran =
+    subst (λ (known : Option (List ℕ)). Exchanges left left' known new
+    (λ came sent. Ran (session_rules desk delivery (HadGotBehind contents known)) Over from
+    (record { came = came; sent = sent; ended = ended }) to)) same ran
+
 pub returns-clause-ran : goal.returns-clause-ran
 returns-clause-ran g c =
     let limited = c.new-limited.ensures in
@@ -65,7 +83,9 @@ returns-clause-ran g c =
     let status = c.status-2-1.given.0 in
     let same : session.result.0.inner.now ≡ writer = sym (search (rules, name)) in
     let same_status : session.result.0.status.now ≡ status = sym (search (rules, status_name)) in
-    let ran = rw (ap g.D.Writer.Write.contents outlet.same) at session.ensures.ran in
+    let ran = ran_behind (shared_rules (visit_waits (service_terms g.D.Reader.Read g.D.Writer.Recipient g.D.Gate.Gate g.C.Clock
+    c.args.service.now)) c.args.service.now.policy.now) c.args.service.now.delivery g.D.Writer.Recipient.contents _ _ _
+    session.result.1 _ _ _ _ _ (ap g.D.Writer.Recipient.contents outlet.same) session.ensures.ran in
     let visit = c.args.visit in
     let served : Served = record { came = ran.came; sent = ran.sent; ended = session.result.1 } in (
       served,
@@ -79,8 +99,8 @@ returns-clause-ran g c =
           table = c.requires.pass;
           consumed = subst (λ (first : Option (List ℕ)). Consumes first (g.D.Reader.Read.remaining session.new.reader.inner.now) ran.came)
               (ap g.D.Reader.Read.remaining limited.same) ran.consumed;
-          appended = subst (λ (last : Option (List ℕ)). Appends (g.D.Writer.Write.contents visit.writer) last ran.sent)
-              (ap g.D.Writer.Write.contents same) ran.appended;
+          appended = subst (λ (last : Option (List ℕ)). Appends (g.D.Writer.Recipient.contents visit.writer) last ran.sent)
+              (ap g.D.Writer.Recipient.contents same) ran.appended;
           from = _;
           begun = is_desk c.args.service.now.clock.now visit.gate _ c.args.pass.now _ c.new-desk.ensures.state;
           to = _;
@@ -112,19 +132,21 @@ leave-requires g c =
     let status = c.status-2-1.given.0 in
     let same : session.result.0.inner.now ≡ writer = sym (search (rules, name)) in
     let same_status : session.result.0.status.now ≡ status = sym (search (rules, status_name)) in
-    let ran = rw (ap g.D.Writer.Write.contents outlet.same) at session.ensures.ran in
+    let ran = ran_behind (shared_rules (visit_waits (service_terms g.D.Reader.Read g.D.Writer.Recipient g.D.Gate.Gate g.C.Clock
+    c.args.service.now)) c.args.service.now.policy.now) c.args.service.now.delivery g.D.Writer.Recipient.contents _ _ _
+    session.result.1 _ _ _ _ _ (ap g.D.Writer.Recipient.contents outlet.same) session.ensures.ran in
     let visit = c.args.visit in
     let served : Served = record { came = ran.came; sent = ran.sent; ended = session.result.1 } in record {
       served = (
         visit,
         c.args.pass.now,
         c.requires.awaited,
-        c.requires.honest visit session.new.reader status writer c.args.pass.now served _ (record {
+        c.requires.honest.afterwards visit session.new.reader status writer c.args.pass.now served _ (record {
           table = c.requires.pass;
           consumed = subst (λ (first : Option (List ℕ)). Consumes first (g.D.Reader.Read.remaining session.new.reader.inner.now) ran.came)
               (ap g.D.Reader.Read.remaining limited.same) ran.consumed;
-          appended = subst (λ (last : Option (List ℕ)). Appends (g.D.Writer.Write.contents visit.writer) last ran.sent)
-              (ap g.D.Writer.Write.contents same) ran.appended;
+          appended = subst (λ (last : Option (List ℕ)). Appends (g.D.Writer.Recipient.contents visit.writer) last ran.sent)
+              (ap g.D.Writer.Recipient.contents same) ran.appended;
           from = _;
           begun = is_desk c.args.service.now.clock.now visit.gate _ c.args.pass.now _ c.new-desk.ensures.state;
           to = _;
@@ -141,3 +163,11 @@ leave-requires g c =
         }),
       );
     }
+
+-- while it runs, the visit's writer gets what it demands
+pub run_limited-ended-requires : goal.run_limited-ended-requires
+run_limited-ended-requires g c =
+    let visit = c.args.visit in
+    let from = is_desk c.args.service.now.clock.now visit.gate _ c.args.pass.now _ c.new-desk.ensures.state in
+    let fair = c.requires.honest.meanwhile c.args.door.now visit c.args.pass.now _ c.requires.awaited c.requires.pass from in
+    rw (sym c.new-limited.ensures.same, sym c.new-outlet.ensures.same) at fair

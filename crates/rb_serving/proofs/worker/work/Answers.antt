@@ -29,7 +29,7 @@ loop-preserved g c = record {
   ];
   visits =
       let terms =
-      service_terms g.D.Reader.Read g.D.Writer.Write g.D.Gate.Gate g.C.Clock c.args.service.now in
+      service_terms g.D.Reader.Read g.D.Writer.Recipient g.D.Gate.Gate g.C.Clock c.args.service.now in
       let before = c.loop.invariant.visits in elim c.match-this.branch [
         | in-Some-Err w ↦ rw (w.pass-is, w.door-is)
             (works_more terms g.D.Door.has_seen c.loop.door c.next-in-loop.new.self c.args.pass c.loop.pass c.loop.pass

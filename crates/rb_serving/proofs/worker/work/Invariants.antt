@@ -8,6 +8,6 @@ abbrev pub invariant-loop : goal.invariant-loop
 invariant-loop g l = record {
   worked : IsWorked l.initial.pass l.pass;
   ready : g.D.Door.is_ready l.door l.pass;
-  visits : HasServed (service_terms g.D.Reader.Read g.D.Writer.Write g.D.Gate.Gate g.C.Clock l.service)
+  visits : HasServed (service_terms g.D.Reader.Read g.D.Writer.Recipient g.D.Gate.Gate g.C.Clock l.service)
       g.D.Door.has_seen l.door l.initial.pass l.pass l.counts;
 }

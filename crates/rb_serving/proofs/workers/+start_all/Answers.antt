@@ -11,13 +11,13 @@ use Rattle.rb_serving.proofs.workers.+start_all.Goals as goal
 
 pub returns-then-count-eq0-clause-folds : goal.returns-then-count-eq0-clause-folds
 returns-then-count-eq0-clause-folds g t c =
-    gathers_none (service_terms g.D.Reader.Read g.D.Writer.Write g.D.Gate.Gate g.C.Clock c.args.service.now)
+    gathers_none (service_terms g.D.Reader.Read g.D.Writer.Recipient g.D.Gate.Gate g.C.Clock c.args.service.now)
     g.D.Door.has_joined c.args.count c.args.door c.args.pass c.default.result
     (grind (arith, nat_tests, c.if-count-eq0.true)) (search rules)
 
 pub returns-clause-folds : goal.returns-clause-folds
 returns-clause-folds g t c =
-    let terms = service_terms g.D.Reader.Read g.D.Writer.Write g.D.Gate.Gate g.C.Clock in
+    let terms = service_terms g.D.Reader.Read g.D.Writer.Recipient g.D.Gate.Gate g.C.Clock in
     let of = terms c.args.service.now in
     let some : 0 < c.args.count = grind (arith, nat_tests, c.if-count-eq0.false) in
     let done = c.join-done.result in

@@ -16,7 +16,7 @@ use Rattle.rb_retry.specs.Asked.{offer_answer, IsReplyTo, Makes}
 use Rattle.rb_retry.specs.Made.{Made}
 use Rattle.rb_retry.specs.declared.desk_fault.DeskFault.{DeskFault}
 use Rattle.rb_retry.specs.declared.desk_fault.DeskFault.TheVariants as faults
-use Rattle.rb_session.specs.Turn.{point, IsCall, IsFirstDraft, fault_line, fetched_by, lines_for}
+use Rattle.rb_session.specs.Turn.{point, IsCall, IsFirstDraft, fetched_by, lines_for}
 use Rattle.rb_session.specs.Progress.{OffersAt, answer_line, replies_of}
 use Rattle.rb_session.proofs.answer.answer_at_once.Goals as goal
 

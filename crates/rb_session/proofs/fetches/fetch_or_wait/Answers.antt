@@ -76,10 +76,10 @@ fetch_job-requires-clause-given g c =
     c.in-None.ensures.tried)) c.requires.given
 
 pub returns-then-free-eq0-clause-becomes : goal.returns-then-free-eq0-clause-becomes
-returns-then-free-eq0-clause-becomes g c = stays g.W.Write c.args.outlet.now
+returns-then-free-eq0-clause-becomes g c = stays g.W.Recipient c.args.outlet.now
 
 pub returns-in-Some-clause-becomes : goal.returns-in-Some-clause-becomes
-returns-in-Some-clause-becomes g c = stays g.W.Write c.args.outlet.now
+returns-in-Some-clause-becomes g c = stays g.W.Recipient c.args.outlet.now
 
 pub returns-in_err-before_wait-in-None-clause-becomes : goal.returns-in_err-before_wait-in-None-clause-becomes
 returns-in_err-before_wait-in-None-clause-becomes g c = c.before_wait.ensures.becomes

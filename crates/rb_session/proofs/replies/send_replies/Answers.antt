@@ -10,11 +10,12 @@ use Rattle.rb_protocol.specs.declared.line_reply.LineReply.{LineReply}
 use Rattle.rb_protocol.specs.declared.line_reply.LineReply.TheVariants as lines
 use Rattle.rb_protocol.proofs.Sending.{sends_all, sends_then, sends_part}
 use Rattle.rb_session.specs.JobMap.{present}
-use Rattle.rb_session.specs.Outlet.{sent_to}
+use Rattle.rb_session.specs.Outlet.{sent_to, Passes, MaySend}
 use Rattle.rb_session.specs.Progress.{replies_of}
 use Rattle.rb_session.specs.Session.{texts_of}
 use Rattle.rb_session.proofs.Gatherings.{goes_on, tells_then}
 use Rattle.rb_session.proofs.JobMaps.{present_some, present-append}
+use Rattle.rb_session.proofs.Passed.{passes_then, passes_on, may_send_first, may_send_then}
 use Rattle.rb_session.proofs.ReplyTexts.{texts_of-append}
 use Rattle.rb_session.proofs.replies.send_replies.Goals as goal
 use Rattle.rb_session.proofs.replies.send_replies.Goals.{in-Drained+else-loop-job-test, in_default, in-Some+in_ok-send-2, in_default-job}
@@ -90,6 +91,49 @@ module _ (items : List (Option Element)) (place : ℕ) (item : Option Element) (
         ∙ append_assoc (items_text (take place items)) (text_of (lines.Item element))
         (items_text (drop (place + 1) items))
 
+pub send-requires : goal.send-requires
+send-requires g c =
+    let rest = rest_of c.args.reply.now c.args.held.now in
+    may_send_first g.W.Recipient c.args.outlet.now c.args.shown.now (text_of c.args.reply.now) rest.0
+    (subst (MaySend g.W.Recipient c.args.outlet.now c.args.shown.now) rest.1 c.requires)
+
+pub send-requires-in-Some : goal.send-requires-in-Some
+send-requires-in-Some g c =
+    let items = c.last-job-items.result.now in
+    let first = text_of c.args.reply.now in
+    let at = c.loop-job.job-index in
+    let item = text_of (lines.Item c.in-Some.job) in
+    let rest = items_text (drop (at + 1) items) in
+    let split = drained c.args.reply.now c.args.held.now items c.in-Drained.count c.in-Drained.is c.last-job-items.ensures
+    ∙ ap (λ (t : List ℕ). first ++ t) (text_split items at c.job-item.result c.loop-job-test.true c.job-item.is
+    c.in-Some.job c.in-Some.is)
+    ∙ sym (append_assoc first (items_text (take at items)) (item ++ rest)) in
+    subst (λ (e : Element). MaySend g.W.Recipient c.loop-job.outlet c.args.shown.now (text_of (lines.Item e)))
+    (sym c.element.ensures)
+    (may_send_first g.W.Recipient c.loop-job.outlet c.args.shown.now item rest
+    (may_send_then g.W.Recipient c.args.outlet.now c.loop-job.outlet c.args.shown.now
+    (first ++ items_text (take at items)) (item ++ rest) c.loop-job.invariant.passed
+    (subst (MaySend g.W.Recipient c.args.outlet.now c.args.shown.now) split c.requires)))
+
+pub returns-clause-passes : goal.returns-clause-passes
+returns-clause-passes g c = elim c.match-reply.branch [
+  | in-Drained+else-loop-job-test w ↦
+      let items = w.last-job-items.result.now in
+      let first = text_of c.args.reply.now in
+      let all : take w.loop-job.job-index items ≡ items =
+      take_all w.loop-job.job-index items (omega (arith, w.loop-job-test.false)) in
+      let passed = subst (λ (es : List (Option Element)). Passes g.W.Recipient c.args.outlet.now (first ++ items_text es)
+      w.loop-job.outlet) all w.loop-job.invariant.passed in
+      rw (drained c.args.reply.now c.args.held.now items w.in-Drained.count w.in-Drained.is w.last-job-items.ensures)
+      (passes_on g.W.Recipient c.after_replies.result _ _ _ _ (rw w.outlet-is passed) c.after_replies.ensures.passes)
+  | in_default w ↦
+      let rest = rest_of c.args.reply.now c.args.held.now in
+      let alone = rest.1 ∙ ap (λ (t : List ℕ). text_of c.args.reply.now ++ t) (rest.2 w.in_default.not-Drained)
+      ∙ append-nil (text_of c.args.reply.now) in
+      rw alone (passes_on g.W.Recipient c.after_replies.result _ _ _ _ (rw w.outlet-is c.in_ok-send.ensures.passes)
+      c.after_replies.ensures.passes)
+]
+
 pub returns-in_err-send-clause-sent : goal.returns-in_err-send-clause-sent
 returns-in_err-send-clause-sent g c =
     let rest = rest_of c.args.reply.now c.args.held.now in
@@ -102,7 +146,7 @@ returns-in_err-send-2-clause-sent g c =
     let first = text_of c.args.reply.now in
     let at = c.loop-job.job-index in
     let failed = subst (λ (e : Element). (some : List ℕ) × (unsent : List ℕ) × (text_of (lines.Item e) ≡ some ++ unsent)
-    × Appends (sent_to g.W.Write c.loop-job.outlet) (sent_to g.W.Write c.send-in-Some.new.self) some)
+    × Appends (sent_to g.W.Recipient c.loop-job.outlet) (sent_to g.W.Recipient c.send-in-Some.new.self) some)
     c.element.ensures c.in_err-send-2.ensures.sent in
     rw (drained c.args.reply.now c.args.held.now items c.in-Drained.count c.in-Drained.is c.last-job-items.ensures
     ∙ ap (λ (t : List ℕ). first ++ t) (text_split items at c.job-item.result c.loop-job-test.true c.job-item.is
@@ -115,7 +159,7 @@ returns-in_err-send-2-clause-sent g c =
 
 pub returns-in_err-send-2-clause-becomes : goal.returns-in_err-send-2-clause-becomes
 returns-in_err-send-2-clause-becomes g c =
-    goes_on g.W.Write _ _ _ c.loop-job.invariant.becomes c.send-in-Some.ensures.becomes
+    goes_on g.W.Recipient _ _ _ c.loop-job.invariant.becomes c.send-in-Some.ensures.becomes
 
 pub loop-job-preserved : goal.loop-job-preserved
 loop-job-preserved g c =
@@ -123,8 +167,8 @@ loop-job-preserved g c =
     let first = text_of c.args.reply.now in
     let at = c.loop-job.job-index in elim c.match-job.branch [
       | in-Some+in_ok-send-2 w ↦
-          let more = subst (λ (e : Element). Appends (sent_to g.W.Write c.loop-job.outlet)
-          (sent_to g.W.Write w.send-in-Some.new.self) (text_of (lines.Item e))) w.element.ensures
+          let more = subst (λ (e : Element). Appends (sent_to g.W.Recipient c.loop-job.outlet)
+          (sent_to g.W.Recipient w.send-in-Some.new.self) (text_of (lines.Item e))) w.element.ensures
           w.in_ok-send-2.ensures.sent in record {
             sent = rw w.outlet-is
                 (subst (Appends _ _)
@@ -132,14 +176,26 @@ loop-job-preserved g c =
                 ∙ ap (λ (t : List ℕ). first ++ t) (sym (text_longer items at c.job-item.result c.loop-job-test.true
                 c.job-item.is w.in-Some.job w.in-Some.is)))
                 (Appends-trans _ _ _ _ _ c.loop-job.invariant.sent more));
+            passed = rw w.outlet-is
+                (subst (λ (t : List ℕ). Passes g.W.Recipient c.args.outlet.now t w.send-in-Some.new.self)
+                (append_assoc first (items_text (take at items)) (text_of (lines.Item w.in-Some.job))
+                ∙ ap (λ (t : List ℕ). first ++ t) (sym (text_longer items at c.job-item.result c.loop-job-test.true
+                c.job-item.is w.in-Some.job w.in-Some.is)))
+                (passes_then g.W.Recipient _ _ _ _ _ c.loop-job.invariant.passed
+                (subst (λ (e : Element). Passes g.W.Recipient c.loop-job.outlet (text_of (lines.Item e))
+                w.send-in-Some.new.self) w.element.ensures w.in_ok-send-2.ensures.passes)));
             well = rw w.outlet-is (λ failed. c.loop-job.invariant.well (w.in_ok-send-2.ensures.told failed));
             becomes = rw w.outlet-is
-                (goes_on g.W.Write _ _ _ c.loop-job.invariant.becomes w.send-in-Some.ensures.becomes);
+                (goes_on g.W.Recipient _ _ _ c.loop-job.invariant.becomes w.send-in-Some.ensures.becomes);
           }
       | in_default-job w ↦ record {
         sent = rw w.outlet-is
             (subst (Appends _ _) (ap (λ (t : List ℕ). first ++ t) (sym (text_same items at c.job-item.result
             c.loop-job-test.true c.job-item.is w.in_default-job.is))) c.loop-job.invariant.sent);
+        passed = rw w.outlet-is
+            (subst (λ (t : List ℕ). Passes g.W.Recipient c.args.outlet.now t c.loop-job.outlet)
+            (ap (λ (t : List ℕ). first ++ t) (sym (text_same items at c.job-item.result c.loop-job-test.true
+            c.job-item.is w.in_default-job.is))) c.loop-job.invariant.passed);
         well = rw w.outlet-is c.loop-job.invariant.well;
         becomes = rw w.outlet-is c.loop-job.invariant.becomes;
       }
@@ -152,8 +208,8 @@ returns-clause-sent g c = elim c.match-reply.branch [
       let first = text_of c.args.reply.now in
       let all : take w.loop-job.job-index items ≡ items =
       take_all w.loop-job.job-index items (omega (arith, w.loop-job-test.false)) in
-      let sent = subst (λ (es : List (Option Element)). Appends (sent_to g.W.Write c.args.outlet.now)
-      (sent_to g.W.Write w.loop-job.outlet) (first ++ items_text es)) all w.loop-job.invariant.sent in
+      let sent = subst (λ (es : List (Option Element)). Appends (sent_to g.W.Recipient c.args.outlet.now)
+      (sent_to g.W.Recipient w.loop-job.outlet) (first ++ items_text es)) all w.loop-job.invariant.sent in
       rw (drained c.args.reply.now c.args.held.now items w.in-Drained.count w.in-Drained.is w.last-job-items.ensures)
       (sends_all c.after_replies.result _ _ _ _ (rw w.outlet-is sent) c.after_replies.ensures.kept)
   | in_default w ↦
@@ -167,9 +223,9 @@ returns-clause-sent g c = elim c.match-reply.branch [
 pub returns-clause-becomes : goal.returns-clause-becomes
 returns-clause-becomes g c = elim c.match-reply.branch [
   | in-Drained+else-loop-job-test w ↦
-      goes_on g.W.Write _ _ _ (rw w.outlet-is w.loop-job.invariant.becomes) c.after_replies.ensures.becomes
+      goes_on g.W.Recipient _ _ _ (rw w.outlet-is w.loop-job.invariant.becomes) c.after_replies.ensures.becomes
   | in_default w ↦
-      goes_on g.W.Write _ _ _ (rw w.outlet-is c.send.ensures.becomes) c.after_replies.ensures.becomes
+      goes_on g.W.Recipient _ _ _ (rw w.outlet-is c.send.ensures.becomes) c.after_replies.ensures.becomes
 ]
 
 pub returns-clause-told : goal.returns-clause-told

@@ -10,7 +10,8 @@ use Rattle.rb_retry.specs.DeskRules.{DeskRules, desk_rules}
 use Rattle.rb_session.specs.Closing.{Closes}
 use Rattle.rb_session.specs.Exchange.{Exchanges}
 use Rattle.rb_session.specs.Growth.{KeepsFront}
-use Rattle.rb_session.specs.Ran.{RanUntil}
+use Rattle.rb_session.specs.Outlet.{sent_to}
+use Rattle.rb_session.specs.Ran.{RanUntil, DemandsOnlyAnswers}
 use Rattle.rb_session.specs.Reasons.{IsReason}
 use Rattle.rb_session.specs.Rules.{SessionRules, session_rules, HadGotBehind, most_held_back}
 use Rattle.rb_session.specs.Turn.{Point, point}
@@ -92,10 +93,10 @@ stops_by desk contents Over from to came sent stop one other same got got' same_
 -- the session from the caller's reader to the caller's writer
 whole : (g : Over) (c : After-end_of g)
     → Exchanges (g.R.Read.remaining c.args.reader.now.inner.now)
-    (g.R.Read.remaining c.serve-stopped.new.reader.inner.now) (g.W.Write.contents c.args.writer.inner.now)
-    (g.W.Write.contents c.serve-stopped.new.outlet.writer.inner.now) (λ came sent. RanUntil
+    (g.R.Read.remaining c.serve-stopped.new.reader.inner.now) (g.W.Recipient.contents c.args.writer.inner.now)
+    (g.W.Recipient.contents c.serve-stopped.new.outlet.writer.inner.now) (λ came sent. RanUntil
     (session_rules (desk_rules g.D.Desk c.args.policy.now) c.args.room.delivery
-    (HadGotBehind g.W.Write.contents (g.W.Write.contents c.args.writer.inner.now)))
+    (HadGotBehind g.W.Recipient.contents (g.W.Recipient.contents c.args.writer.inner.now)))
     (IsAtEnd (g.R.Read.remaining c.serve-stopped.new.reader.inner.now)) (g.D.Desk.state c.args.desk.now)
     (record { came = came; sent = sent; ended = c.end_of.result }) c.end_of.result
     (g.D.Desk.state c.fail_all-lost.new.desk))
@@ -104,13 +105,13 @@ whole g c =
     let stop = c.serve-stopped in
     let last = stop.new.outlet in
     let did = stop.ensures.stops in
-    let old = g.W.Write.contents c.args.writer.inner.now in
-    let new = g.W.Write.contents last.writer.inner.now in
+    let old = g.W.Recipient.contents c.args.writer.inner.now in
+    let new = g.W.Recipient.contents last.writer.inner.now in
     let over = IsAtEnd (g.R.Read.remaining stop.new.reader.inner.now) in
     let from = g.D.Desk.state c.args.desk.now in
     let desk = desk_rules g.D.Desk c.args.policy.now in
-    let own_rules = session_rules desk c.args.room.delivery (HadGotBehind g.W.Write.contents old) in
-    let fresh = ap (λ (writer : LimitedWriter g.row.W.Denot). g.W.Write.contents writer.inner.now) made.same in
+    let own_rules = session_rules desk c.args.room.delivery (HadGotBehind g.W.Recipient.contents old) in
+    let fresh = ap (λ (writer : LimitedWriter g.row.W.Denot). g.W.Recipient.contents writer.inner.now) made.same in
     let got = known_at_first _ old c.new-outlet.result.gathered.items made.empty fresh in
     let grows = subst (λ (first : Option (List ℕ)). KeepsFront first new) fresh stop.ensures.becomes.grows in
     let sent = subst (λ (first : Option (List ℕ)).
@@ -119,7 +120,7 @@ whole g c =
     let few = subst (λ (delivery : Delivery). length last.gathered.items ≤ most_held_back delivery)
     (stop.ensures.becomes.delivery ∙ made.delivery) (omega (arith, last.few, last.gathered.ok.0)) in
     let stopped =
-    stops_by desk g.W.Write.contents over from (point (g.D.Desk.state stop.new.desk) stop.new.self.held) did.came did.sent
+    stops_by desk g.W.Recipient.contents over from (point (g.D.Desk.state stop.new.desk) stop.new.self.held) did.came did.sent
     stop.result c.new-outlet.result.delivery c.args.room.delivery made.delivery _ old got _ c.args.room.unheld
     did.holds in
     let to = g.D.Desk.state c.fail_all-lost.new.desk in
@@ -142,7 +143,7 @@ pub returns-clause-name : goal.returns-clause-name
 returns-clause-name g c =
     let ran = whole g (goal.at.returns-clause-name g c).After-end_of in
     stays (session_rules (desk_rules g.D.Desk c.args.policy.now) c.args.room.delivery
-    (HadGotBehind g.W.Write.contents (g.W.Write.contents c.args.writer.inner.now)))
+    (HadGotBehind g.W.Recipient.contents (g.W.Recipient.contents c.args.writer.inner.now)))
     g.D.Desk.name g.met.D.Desk.keeps_name g.met.D.Desk.sets_no_name g.met.D.Desk.misses_no_name
     (IsAtEnd (g.R.Read.remaining c.serve-stopped.new.reader.inner.now)) (g.D.Desk.state c.args.desk.now)
     (g.D.Desk.state c.fail_all-lost.new.desk)
@@ -153,3 +154,32 @@ returns-clause-reason g c =
     subst (λ (r : Result Ended SessionFault). IsReason c.args.reader.now.state c.serve-stopped.new.reader r)
     (sym c.end_of.ensures)
     (reason_to_end c.args.reader.now.state c.serve-stopped.new.reader c.serve-stopped.result c.fail_all-lost.result c.serve-stopped.ensures.reason)
+
+-- the outlet is new, so what it may send is what its writer may get
+pub serve-stopped-requires-clause-fair : goal.serve-stopped-requires-clause-fair
+serve-stopped-requires-clause-fair g c =
+    let made = c.new-outlet.ensures in
+    let outlet = c.new-outlet.result in
+    let desk = desk_rules g.D.Desk c.args.policy.now in
+    let from = g.D.Desk.state c.args.desk.now in
+    let reader = c.args.reader.now.inner.now in
+    let writer = c.args.writer.inner.now in
+    let old = g.W.Recipient.contents writer in
+    let fresh = ap (λ (writer : LimitedWriter g.row.W.Denot). writer.inner.now) made.same in
+    let got = known_at_first _ old outlet.gathered.items made.empty (ap g.W.Recipient.contents fresh) in
+    subst (λ (delivery : Delivery). DemandsOnlyAnswers (session_rules desk delivery
+    (HadGotBehind g.W.Recipient.contents (sent_to g.W.Recipient outlet))) (point from c.args.room.session.held)
+    g.D.Desk.shows g.R.Read.remaining reader g.W.Recipient.contents g.W.Recipient.demands outlet.writer.inner.now)
+    (sym made.delivery)
+    (subst (λ (known : Option (List ℕ)). DemandsOnlyAnswers (session_rules desk c.args.room.delivery
+    (HadGotBehind g.W.Recipient.contents known)) (point from c.args.room.session.held)
+    g.D.Desk.shows g.R.Read.remaining reader g.W.Recipient.contents g.W.Recipient.demands outlet.writer.inner.now)
+    (sym got)
+    (subst (λ (held : List Element). DemandsOnlyAnswers (session_rules desk c.args.room.delivery
+    (HadGotBehind g.W.Recipient.contents old)) (point from held)
+    g.D.Desk.shows g.R.Read.remaining reader g.W.Recipient.contents g.W.Recipient.demands outlet.writer.inner.now)
+    (sym c.args.room.unheld)
+    (subst (λ (w : g.row.W.Denot). DemandsOnlyAnswers (session_rules desk c.args.room.delivery
+    (HadGotBehind g.W.Recipient.contents old)) (point from [])
+    g.D.Desk.shows g.R.Read.remaining reader g.W.Recipient.contents g.W.Recipient.demands w)
+    (sym fresh) c.requires)))

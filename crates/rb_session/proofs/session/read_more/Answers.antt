@@ -13,6 +13,8 @@ use Rattle.rb_session.specs.Buffer.{IsUnserved, TakesMore}
 use Rattle.rb_session.specs.Session.{rest_text}
 use Rattle.rb_session.proofs.Gatherings.{goes_on}
 use Rattle.rb_session.proofs.Outlets.{gathers, reads_failed}
+use Rattle.rb_session.specs.Outlet.{MaySend, Passes}
+use Rattle.rb_session.proofs.Passed.{where_failed, passes_then, may_send_then}
 use Rattle.rb_session.proofs.session.read_more.Given.{Over}
 use Rattle.rb_session.proofs.session.read_more.Goals as goal
 use Rattle.rb_session.proofs.session.read_more.Goals.{After-read_from, In-Ok-eq0}
@@ -71,8 +73,11 @@ returns-in_err-hand_on-clause-came g c bytes unserved none = record {
   sent = [];
   consumed = Consumes-nil _;
   appended = Appends-kept _ _ _ [] (Appends-nil _) c.hand_on.ensures.kept;
-  holds = reads_failed c.args.outlet.now.delivery _ bytes [] [] c.from_residual.result _ c.from_residual.ensures.0
-      (refl, inl (gathers c.args.outlet.now.delivery _ c.in_err-hand_on.ensures.late c.args.outlet.now.few, refl));
+  holds = (
+    reads_failed c.args.outlet.now.delivery _ bytes [] [] c.from_residual.result _ c.from_residual.ensures.0
+        (refl, inl (gathers c.args.outlet.now.delivery _ c.in_err-hand_on.ensures.late c.args.outlet.now.few, refl)),
+    where_failed c.from_residual.result _ c.from_residual.ensures.0,
+  );
 }
 
 pub returns-in_err-send-in-Ok-eq0-clause-came : goal.returns-in_err-send-in-Ok-eq0-clause-came
@@ -85,14 +90,17 @@ returns-in_err-send-in-Ok-eq0-clause-came g c bytes unserved none =
       sent = part.0;
       consumed = is_over.0;
       appended = Appends-trans _ _ _ [] part.0 (Appends-kept _ _ _ [] (Appends-nil _) c.hand_on.ensures.kept) part.3;
-      holds = reads_failed c.args.outlet.now.delivery _ bytes [] part.0 c.from_residual-in_err-send-in-Ok-eq0.result _
-          c.from_residual-in_err-send-in-Ok-eq0.ensures.0
-          (refl, inr (is_over.1, some, part.1, sym (line_for bytes some) ∙ part.2));
+      holds = (
+        reads_failed c.args.outlet.now.delivery _ bytes [] part.0 c.from_residual-in_err-send-in-Ok-eq0.result _
+            c.from_residual-in_err-send-in-Ok-eq0.ensures.0
+            (refl, inr (is_over.1, some, part.1, sym (line_for bytes some) ∙ part.2)),
+        where_failed c.from_residual-in_err-send-in-Ok-eq0.result _ c.from_residual-in_err-send-in-Ok-eq0.ensures.0,
+      );
     }
 
 pub returns-in_err-send-in-Ok-eq0-clause-becomes : goal.returns-in_err-send-in-Ok-eq0-clause-becomes
 returns-in_err-send-in-Ok-eq0-clause-becomes g c =
-    goes_on g.W.Write _ _ _ c.hand_on.ensures.becomes c.send.ensures.becomes
+    goes_on g.W.Recipient _ _ _ c.hand_on.ensures.becomes c.send.ensures.becomes
 
 pub returns-in_err-after_replies-in-Ok-eq0-clause-came : goal.returns-in_err-after_replies-in-Ok-eq0-clause-came
 returns-in_err-after_replies-in-Ok-eq0-clause-came g c bytes unserved none =
@@ -106,20 +114,24 @@ returns-in_err-after_replies-in-Ok-eq0-clause-came g c bytes unserved none =
       appended = Appends-kept _ _ _ text
           (Appends-trans _ _ _ [] text (Appends-kept _ _ _ [] (Appends-nil _) c.hand_on.ensures.kept)
           c.in_ok-send-in-Ok-eq0.ensures.sent) c.after_replies.ensures.kept;
-      holds = reads_failed c.args.outlet.now.delivery _ bytes [] text
-          c.from_residual-in_err-after_replies-in-Ok-eq0.result _
-          c.from_residual-in_err-after_replies-in-Ok-eq0.ensures.0
-          (refl, inr (is_over.1, some, [], sym (line_for bytes some) ∙ sym (append-nil text)));
+      holds = (
+        reads_failed c.args.outlet.now.delivery _ bytes [] text
+            c.from_residual-in_err-after_replies-in-Ok-eq0.result _
+            c.from_residual-in_err-after_replies-in-Ok-eq0.ensures.0
+            (refl, inr (is_over.1, some, [], sym (line_for bytes some) ∙ sym (append-nil text))),
+        where_failed c.from_residual-in_err-after_replies-in-Ok-eq0.result _
+            c.from_residual-in_err-after_replies-in-Ok-eq0.ensures.0,
+      );
     }
 
 pub returns-in_err-after_replies-in-Ok-eq0-clause-becomes : goal.returns-in_err-after_replies-in-Ok-eq0-clause-becomes
 returns-in_err-after_replies-in-Ok-eq0-clause-becomes g c =
-    goes_on g.W.Write _ _ _ (goes_on g.W.Write _ _ _ c.hand_on.ensures.becomes c.send.ensures.becomes)
+    goes_on g.W.Recipient _ _ _ (goes_on g.W.Recipient _ _ _ c.hand_on.ensures.becomes c.send.ensures.becomes)
     c.after_replies.ensures.becomes
 
 pub returns-in_ok-after_replies-in-Ok-eq0-clause-becomes : goal.returns-in_ok-after_replies-in-Ok-eq0-clause-becomes
 returns-in_ok-after_replies-in-Ok-eq0-clause-becomes g c =
-    goes_on g.W.Write _ _ _ (goes_on g.W.Write _ _ _ c.hand_on.ensures.becomes c.send.ensures.becomes)
+    goes_on g.W.Recipient _ _ _ (goes_on g.W.Recipient _ _ _ c.hand_on.ensures.becomes c.send.ensures.becomes)
     c.after_replies.ensures.becomes
 
 pub returns-in_ok-after_replies-in-Ok-eq0-clause-came : goal.returns-in_ok-after_replies-in-Ok-eq0-clause-came
@@ -134,7 +146,13 @@ returns-in_ok-after_replies-in-Ok-eq0-clause-came g c bytes unserved none =
       appended = Appends-kept _ _ _ text
           (Appends-trans _ _ _ [] text (Appends-kept _ _ _ [] (Appends-nil _) c.hand_on.ensures.kept)
           c.in_ok-send-in-Ok-eq0.ensures.sent) c.after_replies.ensures.kept;
-      holds = (is_over.1, refl, line_for bytes some);
+      holds = (
+        (is_over.1, refl, line_for bytes some),
+        subst (λ (t : List ℕ). Passes g.W.Recipient c.args.outlet.now t c.after_replies.new.self) (append-nil text)
+            (passes_then g.W.Recipient _ _ _ text [] (passes_then g.W.Recipient _ _ _ [] text
+            c.in_ok-hand_on.ensures.passes c.in_ok-send-in-Ok-eq0.ensures.passes)
+            c.in_ok-after_replies-in-Ok-eq0.ensures.passes),
+      );
     }
 
 pub returns-else-has_rest-clause-came : goal.returns-else-has_rest-clause-came
@@ -145,10 +163,25 @@ returns-else-has_rest-clause-came g c bytes unserved none =
       consumed = is_over.0;
       appended = Appends-kept _ _ _ [] (Appends-nil _) c.hand_on.ensures.kept;
       holds = (
-        is_over.1,
-        refl,
-        none_left bytes c.has_rest.result c.if-has_rest.false (c.has_rest.ensures bytes is_over.2),
+        (
+          is_over.1,
+          refl,
+          none_left bytes c.has_rest.result c.if-has_rest.false (c.has_rest.ensures bytes is_over.2),
+        ),
+        c.in_ok-hand_on.ensures.passes,
       );
+    }
+
+-- the read brought bytes
+pub returns-in-Ok-clause-came : goal.returns-in-Ok-clause-came
+returns-in-Ok-clause-came g c bytes unserved none =
+    let took = read_took g (goal.at.returns-in-Ok-clause-came g c).After-read_from bytes unserved none _ c.in-Ok.is in
+    record {
+      came = took.0;
+      sent = [];
+      consumed = took.1;
+      appended = Appends-kept _ _ _ [] (Appends-nil _) c.hand_on.ensures.kept;
+      holds = ((refl, took.2), c.in_ok-hand_on.ensures.passes);
     }
 
 -- the read was interrupted
@@ -160,5 +193,20 @@ returns-in-Err-clause-came g c bytes unserved none =
       sent = [];
       consumed = Consumes-kept _ _ _ [] (Consumes-nil _) took.0;
       appended = Appends-kept _ _ _ [] (Appends-nil _) c.hand_on.ensures.kept;
-      holds = (refl, subst (IsUnserved c.read_from.new.self) (sym (append-nil bytes)) took.1);
+      holds = (
+        (refl, subst (IsUnserved c.read_from.new.self) (sym (append-nil bytes)) took.1),
+        c.in_ok-hand_on.ensures.passes,
+      );
     }
+
+-- at the end of the input the last bytes are due an answer
+pub send-requires : goal.send-requires
+send-requires g c =
+    let at = (goal.at.send-requires g c).In-Ok-eq0 in
+    let (bytes, unserved, none, due) = c.requires.due_at_end in
+    let is_over = over g at bytes unserved none in
+    let some = some_left g at bytes unserved none c.has_rest.result c.has_rest.ensures c.if-has_rest.true in
+    may_send_then g.W.Recipient c.args.outlet.now c.hand_on.new.self c.args.shown.now [] (text_of (lines.Err words.Line))
+    c.in_ok-hand_on.ensures.passes
+    (subst (MaySend g.W.Recipient c.args.outlet.now c.args.shown.now) (sym (line_for bytes some))
+    (due c.read_from.new.reader.inner.now is_over.0 is_over.1))

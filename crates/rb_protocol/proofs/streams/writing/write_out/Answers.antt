@@ -1,9 +1,10 @@
 -- What each write took goes behind what the writer had got of the bytes before.
-use Rattle.std.proofs.Common.{◌-◌, ◌≡◌, ◌⊎◌, ℕ, inl, inr, ◌∙◌, arith, length, length-take, length-drop, drop, Result, Ok, Err}
+use Rattle.std.proofs.Common.{◌-◌, [], ◌≡◌, ◌⊎◌, ℕ, inl, inr, arith, length, length-take, length-drop, drop, Result, Ok, Err}
 use Rattle.std.specs.Prelude.{IsErrAnd}
 use Rattle.std.specs.declared.io.Error.{Error}
 use Rattle.rb_protocol.specs.declared.streams.writer_state.WriterState.{WriterState}
 use Rattle.rb_protocol.specs.declared.streams.writer_state.WriterState.TheVariants.{Failed}
+use Rattle.rb_protocol.proofs.Accepted.{parts_of}
 use Rattle.rb_protocol.proofs.WrittenBytes.{appends_more, writes_then}
 use Rattle.rb_protocol.proofs.streams.writing.write_out.Goals as goal
 
@@ -14,6 +15,12 @@ had_failed state count result IsBad is some (inl failed) = failed
 had_failed state count (Ok none) IsBad is some (inr (inl nothing)) = absurd (some (cc))
 had_failed state count (Ok none) IsBad is some (inr (inr never)) = absurd never
 had_failed state count (Err error) IsBad is some (inr either) = absurd (cc)
+
+-- what is left goes behind what was taken
+pub write-requires-clause-demanded : goal.write-requires-clause-demanded
+write-requires-clause-demanded g c =
+    c.requires _ _ [] c.loop-taken.writer.inner.now (parts_of c.args.bytes.now c.loop-taken.taken)
+    c.loop-taken.invariant.got.written
 
 pub loop-taken-preserved-in-Ok : goal.loop-taken-preserved-in-Ok
 loop-taken-preserved-in-Ok g c =

@@ -5,7 +5,7 @@ use Rattle.rb_protocol.proofs.streams.writing.write_out.Given as goal
 
 abbrev pub invariant-loop-taken : goal.invariant-loop-taken
 invariant-loop-taken g l = record {
-  got : HasTaken (g.W.Write.contents l.fn.writer.inner.now) (g.W.Write.contents l.writer.inner.now) l.bytes l.taken;
+  got : HasTaken (g.W.Recipient.contents l.fn.writer.inner.now) (g.W.Recipient.contents l.writer.inner.now) l.bytes l.taken;
   well : FailsNoMore l.fn.writer.status.now.state l.writer.status.now;
   on : WritesOn l.fn.writer l.writer;
 }
