@@ -11,12 +11,12 @@ use Rattle.rb_serving.specs.declared.visit.Visit.{Visit}
 use Rattle.rb_serving.specs.DoorSteps.{DoorStep, LetIn, TurnedAway, NoMore, Left}
 use Rattle.rb_serving.specs.TcpReasons.{IsNoMore}
 
-module _ {L : Type 0} (words : Listener.Ghosts L) where
-  -- A visit of a client: its reader, its writer and what its gate looks at are those of one connection that the
-  -- listener brought. Its waits end after the door's turns, or with the server.
-  pub record IsClient (door : TcpDoor L) (visit : Visit TcpReader TcpWriter TcpGate) : Type 0 where
-    pub connection : Connection
-    pub brought : words.brings door.listener connection
+module _ {L W : Type 0} (words : Listener.Ghosts L W) where
+  -- A visit of a client: its reader, its writer and what its gate looks at are those of one connection, as the listener
+  -- brought it with the door's greeting. Its waits end after the door's turns, or with the server.
+  pub record IsClient (door : TcpDoor L) (visit : Visit TcpReader (TcpWriter W) TcpGate) : Type 0 where
+    pub connection : Connection W
+    pub brought : words.brings door.listener door.manners.greeting.now connection
     pub reader : visit.reader.stream ≡ connection.reader
     pub writer : visit.writer.stream ≡ connection.writer
     pub watched : visit.gate.watched ≡ connection.watched
@@ -33,13 +33,13 @@ module _ {L : Type 0} (words : Listener.Ghosts L) where
       × IsNoMore door.sessions door.manners.ending asked why
 
   -- What is let in is a client of the listener, and one is turned away only where the listener failed. Each takes one of
-  -- the door's sessions. The stream that a client's replies went to is closed.
-  abbrev pub ShowsStep : TcpDoor L → DoorStep TcpReader TcpWriter TcpGate → Type 0
+  -- the door's sessions. What a client's replies went to is closed, as it came back.
+  abbrev pub ShowsStep : TcpDoor L → DoorStep TcpReader (TcpWriter W) TcpGate → Type 0
   ShowsStep door (LetIn visit) = IsAsked door × IsClient door visit
   ShowsStep door TurnedAway = IsAsked door × words.fails door.listener
   ShowsStep door NoMore = IsOver door
   ShowsStep door (Left reader status writer) = words.closes door.listener writer.stream
 
   -- at an entrance of some door
-  abbrev pub ShowsStepSomewhere : DoorStep TcpReader TcpWriter TcpGate → Type 0
+  abbrev pub ShowsStepSomewhere : DoorStep TcpReader (TcpWriter W) TcpGate → Type 0
   ShowsStepSomewhere step = (door : TcpDoor L) × ShowsStep door step

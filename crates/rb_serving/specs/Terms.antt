@@ -12,9 +12,9 @@ use Rattle.rb_session.specs.declared.delivery.Delivery.{Delivery}
 use Rattle.rb_serving.specs.declared.service.Service.{Service}
 
 -- What a visit's reader and writer tell of their bytes, what its writer demands of a piece and of the pass that it is shown
--- then, and what its gate may answer and has seen. All sessions have in common the
--- clock that they read, what it may read, and what for which try of a wait, when a failed job is offered again, when replies are written, and the queue
--- that they call.
+-- then, and what its gate may answer and has seen. All sessions have in common the clock that they read, what it may read,
+-- and what for which try of a wait, when a failed job is offered again, when replies are written, and the queue that they
+-- call.
 pub record Terms (I O G C : Type 0) : Type 1 where
   pub remaining : I → Option (List ℕ)
   pub contents : O → Option (List ℕ)

@@ -31,7 +31,7 @@ pub struct DoorFault;
 /// An entrance is for the visits of one pass: it lets the next one in only for that pass as it was when the last one
 /// left, and takes back only what a session left that led the pass from there to where it is. So the pass makes no
 /// other calls in between, and no call answers two visitors. While a session runs, its writer is shown the pass with each
-/// piece, so nobody gets an answer that no call has.
+/// piece, and may demand that the lines that it answers led the pass there.
 pub trait Door {
     /// What a visitor's requests are read from.
     type Reader: Read + Drop + Send;

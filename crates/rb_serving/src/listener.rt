@@ -1,12 +1,11 @@
-ghost use Rattle.std.specs.Prelude.{ℕ, IfOk, IfSome, OnErr};
-ghost use Rattle.std.specs.declared.net.tcp.TcpStream.{TcpStream};
+ghost use Rattle.std.specs.Prelude.{ℕ, List, IfOk, IfSome, OnErr};
 ghost use Rattle.rb_serving.specs.declared.connection.Connection.{Connection};
 
 use crate::connection::{Connection, ConnectionNeeds};
 use crate::patience::is_timeout;
 use std::alloc::Global;
 use std::fmt::{self, Debug, Formatter};
-use std::io;
+use std::io::{self, Write};
 use std::net::{Shutdown, TcpListener, TcpStream};
 use std::os::fd::OwnedFd;
 use std::sync::atomic::{AtomicU64, Ordering};
@@ -14,32 +13,41 @@ use std::time::Duration;
 
 /// Where a door's clients come from.
 ///
-/// `counts` tells how often a client was asked for, `brings` of the connection of one that came, `fails` that one could
-/// not be had, and `closes` that a stream was closed. Code over any listener learns them from these methods alone: so it
-/// can neither put the ends of two connections together, nor say before it failed that somebody could not be had, nor
-/// that a connection was closed that is open.
+/// `counts` tells how often a client was asked for, `brings` of the greeting and the connection of one that came, `fails`
+/// that one could not be had, and `closes` that a writer was closed. Code over any listener learns them from these methods
+/// alone: so it can neither put the ends of two connections together, nor say before it failed that somebody could not be
+/// had, nor that a connection was closed that is open. Of what a writer becomes by a write of its own it learns nothing,
+/// so it hands on each as it was.
 pub trait Listener {
+    /// What a client's replies are written to.
+    type Writer: Write + Drop;
+
     ghost counts: { Self → ℕ → Type 0 };
 
-    ghost brings: { Self → Connection → Type 0 };
+    ghost brings: { Self → List ℕ → Connection Self.Writer → Type 0 };
 
     ghost fails: { Self → Type 0 };
 
-    ghost closes: { Self → TcpStream → Type 0 };
+    ghost closes: { Self → Self.Writer → Type 0 };
 
     /// How often a client was asked for before.
     fn ask(&self) -> u64
         ensures { counts self.now result };
 
-    /// Waits for a client, and has its connection made ready; `None` if nobody came for as long as may be waited.
-    fn bring(&self, alloc: Global, needs: ConnectionNeeds) -> io::Result<Option<Connection>>
-        ensures brings { IfOk result (λ came. IfSome came (brings self.now)) }
+    /// Waits for a client, has its connection made ready, and greets it; `None` if nobody came for as long as may be
+    /// waited.
+    fn bring(
+        &self,
+        alloc: Global,
+        needs: ConnectionNeeds<'_>,
+    ) -> io::Result<Option<Connection<Self::Writer>>>
+        ensures brings { IfOk result (λ came. IfSome came (brings self.now needs.entry.greeting.now)) }
         ensures fails { OnErr result (fails self.now) };
 
-    /// Closes a stream. The client may first be told that it gets nothing more, so that it reads an end behind all
+    /// Closes a writer. The client may first be told that it gets nothing more, so that it reads an end behind all
     /// replies even if it has sent more than was read.
-    fn close(&self, stream: TcpStream, tells_end: bool)
-        ensures { closes self.now stream };
+    fn close(&self, writer: Self::Writer, tells_end: bool)
+        ensures { closes self.now writer };
 }
 
 /// A TCP listener that counts how often a client was asked for.
@@ -73,19 +81,25 @@ pub fn limit_accepts(listener: &TcpListener, most: Option<Duration>) -> io::Resu
 }
 
 impl Listener for CountedListener {
+    type Writer = TcpStream;
+
     ghost counts = { λ listener asked. Unit {0} };
 
-    ghost brings = { λ listener connection. Unit {0} };
+    ghost brings = { λ listener greeting connection. Unit {0} };
 
     ghost fails = { λ listener. Unit {0} };
 
-    ghost closes = { λ listener stream. Unit {0} };
+    ghost closes = { λ listener writer. Unit {0} };
 
     fn ask(&self) -> u64 {
         self.asked.fetch_add(1, Ordering::SeqCst)
     }
 
-    fn bring(&self, alloc: Global, needs: ConnectionNeeds) -> io::Result<Option<Connection>> {
+    fn bring(
+        &self,
+        alloc: Global,
+        needs: ConnectionNeeds<'_>,
+    ) -> io::Result<Option<Connection<TcpStream>>> {
         match self.listener.accept() {
             Ok((stream, _)) => Ok(Some(needs.connect(alloc, stream)?)),
             Err(fault) if needs.returns && is_timeout(&fault) => Ok(None),
@@ -93,9 +107,9 @@ impl Listener for CountedListener {
         }
     }
 
-    fn close(&self, stream: TcpStream, tells_end: bool) {
+    fn close(&self, writer: TcpStream, tells_end: bool) {
         if tells_end {
-            let _ = stream.shutdown(Shutdown::Write);
+            let _ = writer.shutdown(Shutdown::Write);
         }
     }
 }

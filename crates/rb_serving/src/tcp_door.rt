@@ -1,5 +1,4 @@
 ghost use Rattle.std.specs.Prelude.{◌≡◌, ◌<◌, Ok, Err, OnErr, OnOk, IfErr, IfOk};
-ghost use Rattle.std.specs.Io.KnownBytes.{Appends};
 ghost use Rattle.rb_ending.specs.declared.broker_fault.BrokerFault.TheVariants.{Listen};
 ghost use Rattle.rb_serving.specs.TcpReasons.{IsNoMore, ShowsDrain};
 ghost use Rattle.rb_serving.specs.TcpSteps.{IsClient, IsAsked};
@@ -18,7 +17,6 @@ use rb_blocking::MachineClock;
 use rb_ending::BrokerFault;
 use std::alloc::Global;
 use std::fmt::{self, Debug, Formatter};
-use std::io::Write;
 use std::net::TcpListener;
 use std::sync::{OnceToken, Wait};
 use std::time::Duration;
@@ -32,7 +30,7 @@ const PAUSE: u64 = 10;
 /// A client that can't be let in counts as one of them. As the system may have no descriptor left for a while, the
 /// worker first waits 10 ms, so that the sessions are not used up at once.
 #[derive(Drop)]
-pub struct TcpDoor<'a, L: Listener> {
+pub struct TcpDoor<'a, L> {
     alloc: Global,
     pub(crate) listener: L,
     sessions: u64,
@@ -44,7 +42,7 @@ pub struct TcpDoor<'a, L: Listener> {
 }
 
 /// A visit of a client over TCP.
-pub type TcpVisit<'a> = Visit<TcpReader<'a>, TcpWriter<'a>, TcpGate<'a>>;
+pub type TcpVisit<'a, W> = Visit<TcpReader<'a>, TcpWriter<'a, W>, TcpGate<'a>>;
 
 /// Why a TCP door has no more visits.
 #[derive(Debug, Drop)]
@@ -88,7 +86,10 @@ impl<'a> TcpDoor<'a, CountedListener> {
 
 impl<'a, L: Listener> TcpDoor<'a, L> {
     // Waits for a client and lets it in, until the server is to drain.
-    fn accept<R: Wait>(&self, rt: &R) -> Result<io::Result<TcpVisit<'a>>, OnceToken<'a, InputRead>>
+    fn accept<R: Wait>(
+        &self,
+        rt: &R,
+    ) -> Result<io::Result<TcpVisit<'a, L::Writer>>, OnceToken<'a, InputRead>>
         ensures drains { IfErr result (λ token. ShowsDrain self.now.manners.ending token.of) }
         ensures let_in { IfOk result (λ visit. IfOk visit (IsClient L.Listener self.now)) }
         ensures turned_away { IfOk result (λ visit. OnErr visit (L.fails self.now.listener)) }
@@ -108,13 +109,17 @@ impl<'a, L: Listener> TcpDoor<'a, L> {
     }
 
     // What the connection of a client is to have.
-    fn needs(&self) -> ConnectionNeeds {
+    fn needs(&self) -> ConnectionNeeds<'a>
+        ensures { result.greeting ≡ self.now.manners.greeting }
+    {
         let TcpManners {
+            greeting,
             attentive,
             ending,
             ..
         } = self.manners;
         ConnectionNeeds {
+            greeting,
             look: self.patience().map(|patience| patience.look()),
             returns: ending.is_some(),
             watched: attentive,
@@ -122,13 +127,11 @@ impl<'a, L: Listener> TcpDoor<'a, L> {
         }
     }
 
-    // Lets a client in. One that can't be greeted is served all the same: its session notices.
-    fn let_in(&self, connection: Connection) -> TcpVisit<'a>
-        requires brought { L.brings self.now.listener connection }
+    // Lets a client in, which was greeted.
+    fn let_in(&self, connection: Connection<L::Writer>) -> TcpVisit<'a, L::Writer>
+        requires brought { L.brings self.now.listener self.now.manners.greeting.now connection }
         ensures { IsClient L.Listener self.now result }
     {
-        let mut greeted = &connection.writer;
-        let _ = greet(&mut greeted, self.manners.greeting);
         let patience = self.patience();
         Visit {
             reader: TcpReader {
@@ -168,7 +171,7 @@ impl<'a, L: Listener> TcpDoor<'a, L> {
         &self,
         rt: &R,
         asked: u64,
-    ) -> Result<Result<TcpVisit<'a>, DoorFault>, NoMore<'a>>
+    ) -> Result<Result<TcpVisit<'a, L::Writer>, DoorFault>, NoMore<'a>>
         ensures no_more { IfErr result (IsNoMore self.now.sessions self.now.manners.ending asked) }
         ensures left { OnOk result (asked < self.now.sessions) }
         ensures let_in { IfOk result (λ visit. IfOk visit (IsClient L.Listener self.now)) }
@@ -200,14 +203,7 @@ fn answer_of<'a, V: Drop>(accepted: io::Result<V>) -> Result<Result<V, DoorFault
     }
 }
 
-// Sends the greeting.
-fn greet<W: Write>(writer: &mut W, greeting: &[u8]) -> io::Result<()>
-    ensures { OnOk result (Appends (W.contents writer.old) (W.contents writer.new) greeting.now) }
-{
-    writer.write_all(greeting)
-}
-
-impl<'a, L: Listener> Debug for TcpDoor<'a, L> {
+impl<'a, L> Debug for TcpDoor<'a, L> {
     fn fmt<W: fmt::Write>(&self, f: &mut Formatter<W>) -> fmt::Result {
         f.debug_struct("TcpDoor")
             .field("sessions", &self.sessions)

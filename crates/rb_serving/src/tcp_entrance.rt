@@ -16,13 +16,13 @@ use std::time;
 
 /// An entrance of a `TcpDoor`. All of them let in the clients of its one listener, and count the same sessions.
 #[derive(Drop)]
-pub struct TcpEntrance<'a, L: Listener> {
+pub struct TcpEntrance<'a, L> {
     door: &'a TcpDoor<'a, L>,
     // Why it has no more visits, once it has none.
     no_more: Option<NoMore<'a>>,
 }
 
-impl<'a, L: Listener> TcpDoor<'a, L> {
+impl<'a, L> TcpDoor<'a, L> {
     /// An entrance at which nothing happened yet.
     pub fn entrance(&'a self) -> TcpEntrance<'a, L>
         ensures { result.door.now ≡ self.now }
@@ -34,10 +34,13 @@ impl<'a, L: Listener> TcpDoor<'a, L> {
     }
 }
 
-impl<'a, L: Listener> Door for TcpEntrance<'a, L> {
+impl<'a, L: Listener> Door for TcpEntrance<'a, L>
+where
+    L::Writer: Send,
+{
     type Reader = TcpReader<'a>;
 
-    type Writer = TcpWriter<'a>;
+    type Writer = TcpWriter<'a, L::Writer>;
 
     type Gate = TcpGate<'a>;
 
@@ -57,7 +60,7 @@ impl<'a, L: Listener> Door for TcpEntrance<'a, L> {
         &mut self,
         rt: &R,
         _pass: &Pass<T>,
-    ) -> Option<Result<TcpVisit<'a>, DoorFault>> {
+    ) -> Option<Result<TcpVisit<'a, L::Writer>, DoorFault>> {
         let asked = self.door.listener.ask();
         match self.door.answer(rt, asked) {
             Ok(answer) => Some(answer),
@@ -71,8 +74,8 @@ impl<'a, L: Listener> Door for TcpEntrance<'a, L> {
     fn leave<T: Timer>(
         &mut self,
         _reader: &LimitedReader<'_, TcpReader<'a>>,
-        _status: &WriterStatus<TcpWriter<'a>>,
-        writer: TcpWriter<'a>,
+        _status: &WriterStatus<TcpWriter<'a, L::Writer>>,
+        writer: TcpWriter<'a, L::Writer>,
         _pass: &Pass<T>,
     ) {
         let TcpWriter { stream, patience } = writer;

@@ -1,23 +1,25 @@
-ghost use Rattle.std.specs.Prelude.{None};
 ghost use Rattle.std.specs.Io.{WritesAtMost};
+ghost use Rattle.std.specs.Io.KnownBytes.{WriteAppends};
 
 use crate::patience::{Patience, is_timeout};
 use rb_blocking::Clock;
 use rb_protocol::Recipient;
 use std::fmt::{self, Debug, Formatter};
 use std::io::{self, ErrorKind, Write};
-use std::net::TcpStream;
 
 /// What a session over TCP writes to. If told so, it gives up a client that takes nothing for too long.
+///
+/// It is over any stream, since std's says nothing of the bytes that were written to it.
 #[derive(Drop)]
-pub struct TcpWriter<'a> {
-    pub(crate) stream: TcpStream,
+pub struct TcpWriter<'a, W> {
+    pub(crate) stream: W,
     pub(crate) patience: Option<Patience<'a>>,
 }
 
-impl<'a> TcpWriter<'a> {
+impl<'a, W: Write> TcpWriter<'a, W> {
     fn write_patiently(&mut self, buf: &[u8], patience: Patience<'a>) -> io::Result<usize>
-        ensures { WritesAtMost result buf.now }
+        ensures bound { WritesAtMost result buf.now }
+        ensures bytes { WriteAppends (W.contents self.old.stream) (W.contents self.new.stream) result buf.now }
     {
         let begun = patience.clock.now();
         for _ in 0..u64::MAX {
@@ -33,8 +35,8 @@ impl<'a> TcpWriter<'a> {
     }
 }
 
-impl<'a, V> Recipient<V> for TcpWriter<'a> {
-    ghost contents = { λ writer. None };
+impl<'a, V, W: Write> Recipient<V> for TcpWriter<'a, W> {
+    ghost contents = { λ writer. W.contents writer.stream };
 
     ghost demands = { λ writer shown piece. Unit {0} };
 
@@ -50,8 +52,8 @@ impl<'a, V> Recipient<V> for TcpWriter<'a> {
     }
 }
 
-impl<'a> Debug for TcpWriter<'a> {
-    fn fmt<W: fmt::Write>(&self, f: &mut Formatter<W>) -> fmt::Result {
+impl<'a, W> Debug for TcpWriter<'a, W> {
+    fn fmt<F: fmt::Write>(&self, f: &mut Formatter<F>) -> fmt::Result {
         f.debug_struct("TcpWriter").finish_non_exhaustive()
     }
 }
