@@ -11,11 +11,11 @@ use Rattle.rb_serving.specs.declared.visit.Visit.{Visit}
 use Rattle.rb_serving.specs.DoorSteps.{DoorStep, LetIn, TurnedAway, NoMore, Left}
 use Rattle.rb_serving.specs.TcpReasons.{IsNoMore}
 
-module _ {L W : Type 0} (words : Listener.Ghosts L W) where
+module _ {L R W : Type 0} (words : Listener.Ghosts L R W) where
   -- A visit of a client: its reader, its writer and what its gate looks at are those of one connection, as the listener
   -- brought it with the door's greeting. Its waits end after the door's turns, or with the server.
-  pub record IsClient (door : TcpDoor L) (visit : Visit TcpReader (TcpWriter W) TcpGate) : Type 0 where
-    pub connection : Connection W
+  pub record IsClient (door : TcpDoor L) (visit : Visit (TcpReader R) (TcpWriter W) (TcpGate R)) : Type 0 where
+    pub connection : Connection R W
     pub brought : words.brings door.listener door.manners.greeting.now connection
     pub reader : visit.reader.stream ≡ connection.reader
     pub writer : visit.writer.stream ≡ connection.writer
@@ -34,12 +34,12 @@ module _ {L W : Type 0} (words : Listener.Ghosts L W) where
 
   -- What is let in is a client of the listener, and one is turned away only where the listener failed. Each takes one of
   -- the door's sessions. What a client's replies went to is closed, as it came back.
-  abbrev pub ShowsStep : TcpDoor L → DoorStep TcpReader (TcpWriter W) TcpGate → Type 0
+  abbrev pub ShowsStep : TcpDoor L → DoorStep (TcpReader R) (TcpWriter W) (TcpGate R) → Type 0
   ShowsStep door (LetIn visit) = IsAsked door × IsClient door visit
   ShowsStep door TurnedAway = IsAsked door × words.fails door.listener
   ShowsStep door NoMore = IsOver door
   ShowsStep door (Left reader status writer) = words.closes door.listener writer.stream
 
   -- at an entrance of some door
-  abbrev pub ShowsStepSomewhere : DoorStep TcpReader (TcpWriter W) TcpGate → Type 0
+  abbrev pub ShowsStepSomewhere : DoorStep (TcpReader R) (TcpWriter W) (TcpGate R) → Type 0
   ShowsStepSomewhere step = (door : TcpDoor L) × ShowsStep door step

@@ -10,11 +10,11 @@ use std::time::Duration;
 
 /// The ends of one client's connection: what is read from it, and what is written to it.
 #[derive(Drop)]
-pub struct Connection<W> {
-    pub(crate) reader: TcpStream,
+pub struct Connection<R, W> {
+    pub(crate) reader: R,
     pub(crate) writer: W,
     // The connection once more, for a gate that looks at it.
-    pub(crate) watched: Option<TcpStream>,
+    pub(crate) watched: Option<R>,
     // What a gate hears of its session, and a reader sees, if they do.
     pub(crate) heard: Option<Arc<Standing, Global>>,
     pub(crate) seen: Option<Arc<Standing, Global>>,
@@ -42,7 +42,7 @@ impl<'a> ConnectionNeeds<'a> {
         &self,
         alloc: Global,
         stream: TcpStream,
-    ) -> io::Result<Connection<TcpStream>> {
+    ) -> io::Result<Connection<TcpStream, TcpStream>> {
         let _ = stream.set_nodelay(true);
         stream.set_read_timeout(self.look)?;
         if self.look.is_some() {

@@ -2,6 +2,7 @@ ghost use Rattle.std.specs.Prelude.{ℕ, List, IfOk, IfSome, OnErr};
 ghost use Rattle.rb_serving.specs.declared.connection.Connection.{Connection};
 
 use crate::connection::{Connection, ConnectionNeeds};
+use crate::incoming::Incoming;
 use crate::patience::is_timeout;
 use std::alloc::Global;
 use std::fmt::{self, Debug, Formatter};
@@ -19,12 +20,15 @@ use std::time::Duration;
 /// had, nor that a connection was closed that is open. Of what a writer becomes by a write of its own it learns nothing,
 /// so it hands on each as it was.
 pub trait Listener {
+    /// What a client's requests are read from.
+    type Reader: Incoming + Drop;
+
     /// What a client's replies are written to.
     type Writer: Write + Drop;
 
     ghost counts: { Self → ℕ → Type 0 };
 
-    ghost brings: { Self → List ℕ → Connection Self.Writer → Type 0 };
+    ghost brings: { Self → List ℕ → Connection Self.Reader Self.Writer → Type 0 };
 
     ghost fails: { Self → Type 0 };
 
@@ -40,7 +44,7 @@ pub trait Listener {
         &self,
         alloc: Global,
         needs: ConnectionNeeds<'_>,
-    ) -> io::Result<Option<Connection<Self::Writer>>>
+    ) -> io::Result<Option<Connection<Self::Reader, Self::Writer>>>
         ensures brings { IfOk result (λ came. IfSome came (brings self.now needs.entry.greeting.now)) }
         ensures fails { OnErr result (fails self.now) };
 
@@ -81,6 +85,8 @@ pub fn limit_accepts(listener: &TcpListener, most: Option<Duration>) -> io::Resu
 }
 
 impl Listener for CountedListener {
+    type Reader = TcpStream;
+
     type Writer = TcpStream;
 
     ghost counts = { λ listener asked. Unit {0} };
@@ -99,7 +105,7 @@ impl Listener for CountedListener {
         &self,
         alloc: Global,
         needs: ConnectionNeeds<'_>,
-    ) -> io::Result<Option<Connection<TcpStream>>> {
+    ) -> io::Result<Option<Connection<TcpStream, TcpStream>>> {
         match self.listener.accept() {
             Ok((stream, _)) => Ok(Some(needs.connect(alloc, stream)?)),
             Err(fault) if needs.returns && is_timeout(&fault) => Ok(None),

@@ -42,7 +42,7 @@ pub struct TcpDoor<'a, L> {
 }
 
 /// A visit of a client over TCP.
-pub type TcpVisit<'a, W> = Visit<TcpReader<'a>, TcpWriter<'a, W>, TcpGate<'a>>;
+pub type TcpVisit<'a, R, W> = Visit<TcpReader<'a, R>, TcpWriter<'a, W>, TcpGate<'a, R>>;
 
 /// Why a TCP door has no more visits.
 #[derive(Debug, Drop)]
@@ -89,7 +89,7 @@ impl<'a, L: Listener> TcpDoor<'a, L> {
     fn accept<R: Wait>(
         &self,
         rt: &R,
-    ) -> Result<io::Result<TcpVisit<'a, L::Writer>>, OnceToken<'a, InputRead>>
+    ) -> Result<io::Result<TcpVisit<'a, L::Reader, L::Writer>>, OnceToken<'a, InputRead>>
         ensures drains { IfErr result (λ token. ShowsDrain self.now.manners.ending token.of) }
         ensures let_in { IfOk result (λ visit. IfOk visit (IsClient L.Listener self.now)) }
         ensures turned_away { IfOk result (λ visit. OnErr visit (L.fails self.now.listener)) }
@@ -127,8 +127,11 @@ impl<'a, L: Listener> TcpDoor<'a, L> {
         }
     }
 
-    // Lets a client in, which was greeted.
-    fn let_in(&self, connection: Connection<L::Writer>) -> TcpVisit<'a, L::Writer>
+    // Lets in a client that was greeted, if it could be.
+    fn let_in(
+        &self,
+        connection: Connection<L::Reader, L::Writer>,
+    ) -> TcpVisit<'a, L::Reader, L::Writer>
         requires brought { L.brings self.now.listener self.now.manners.greeting.now connection }
         ensures { IsClient L.Listener self.now result }
     {
@@ -171,7 +174,7 @@ impl<'a, L: Listener> TcpDoor<'a, L> {
         &self,
         rt: &R,
         asked: u64,
-    ) -> Result<Result<TcpVisit<'a, L::Writer>, DoorFault>, NoMore<'a>>
+    ) -> Result<Result<TcpVisit<'a, L::Reader, L::Writer>, DoorFault>, NoMore<'a>>
         ensures no_more { IfErr result (IsNoMore self.now.sessions self.now.manners.ending asked) }
         ensures left { OnOk result (asked < self.now.sessions) }
         ensures let_in { IfOk result (λ visit. IfOk visit (IsClient L.Listener self.now)) }

@@ -36,13 +36,14 @@ impl<'a, L> TcpDoor<'a, L> {
 
 impl<'a, L: Listener> Door for TcpEntrance<'a, L>
 where
+    L::Reader: Send,
     L::Writer: Send,
 {
-    type Reader = TcpReader<'a>;
+    type Reader = TcpReader<'a, L::Reader>;
 
     type Writer = TcpWriter<'a, L::Writer>;
 
-    type Gate = TcpGate<'a>;
+    type Gate = TcpGate<'a, L::Reader>;
 
     ghost has_seen = { λ entrance log. All (ShowsStep L.Listener entrance.door.now) log };
 
@@ -60,7 +61,7 @@ where
         &mut self,
         rt: &R,
         _pass: &Pass<T>,
-    ) -> Option<Result<TcpVisit<'a, L::Writer>, DoorFault>> {
+    ) -> Option<Result<TcpVisit<'a, L::Reader, L::Writer>, DoorFault>> {
         let asked = self.door.listener.ask();
         match self.door.answer(rt, asked) {
             Ok(answer) => Some(answer),
@@ -73,7 +74,7 @@ where
 
     fn leave<T: Timer>(
         &mut self,
-        _reader: &LimitedReader<'_, TcpReader<'a>>,
+        _reader: &LimitedReader<'_, TcpReader<'a, L::Reader>>,
         _status: &WriterStatus<TcpWriter<'a, L::Writer>>,
         writer: TcpWriter<'a, L::Writer>,
         _pass: &Pass<T>,

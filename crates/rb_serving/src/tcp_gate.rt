@@ -2,24 +2,23 @@ ghost use Rattle.std.specs.Prelude.{◌<◌, ◌≤◌, ◌⊎◌, IfNone, IfSom
 ghost use Rattle.rb_serving.specs.TcpReasons.{IsWaitEnd};
 
 use crate::ending::{Ending, InputRead, shown_drain};
+use crate::incoming::Incoming;
 use crate::standing::Standing;
 use rb_blocking::{Gate, Rested};
 use rb_lock::Pass;
 use rb_timer::Timer;
 use std::alloc::Global;
 use std::fmt::{self, Debug, Formatter};
-use std::io::ErrorKind;
-use std::net::TcpStream;
 use std::sync::{Arc, OnceToken};
 
 /// A gate that ends a wait after a number of turns. If told so, it also ends one, and lets none begin, when the server
 /// is to drain; and it ends one when the client has sent something or hung up.
 #[derive(Drop)]
-pub struct TcpGate<'a> {
+pub struct TcpGate<'a, S> {
     pub(crate) limit: u64,
     pub(crate) ending: Option<&'a Ending>,
     // The connection, if the gate looks at it.
-    pub(crate) watched: Option<TcpStream>,
+    pub(crate) watched: Option<S>,
     pub(crate) standing: Option<Arc<Standing, Global>>,
 }
 
@@ -34,7 +33,7 @@ pub(crate) enum WaitEnd<'a> {
     ClientActs,
 }
 
-impl<'a> TcpGate<'a> {
+impl<'a, S: Incoming> TcpGate<'a, S> {
     // Why a wait ends after this many turns, if it does.
     fn end_of_wait(&self, turns: u64) -> Option<WaitEnd<'a>>
         ensures reason { IfSome result (IsWaitEnd self.now.limit self.now.ending (IsSome self.now.watched) turns) }
@@ -59,7 +58,7 @@ impl<'a> TcpGate<'a> {
         ensures { IsTrue result → IsSome self.now.watched }
     {
         match &self.watched {
-            Some(stream) => self.has_more() || has_come(stream),
+            Some(stream) => self.has_more() || stream.has_come(),
             None => false,
         }
     }
@@ -72,20 +71,7 @@ impl<'a> TcpGate<'a> {
     }
 }
 
-// Whether something has come over the connection, or it has ended.
-fn has_come(stream: &TcpStream) -> bool {
-    if stream.set_nonblocking(true).is_err() {
-        return false;
-    }
-    let come = stream.peek(&mut [0]);
-    let _ = stream.set_nonblocking(false);
-    match come {
-        Ok(_) => true,
-        Err(fault) => fault.kind() != ErrorKind::WouldBlock,
-    }
-}
-
-impl<'a> Gate for TcpGate<'a> {
+impl<'a, S: Incoming> Gate for TcpGate<'a, S> {
     ghost answers = { λ gate turns goes_on. MatchBool goes_on (turns < gate.limit)
         ((gate.limit ≤ turns) ⊎ (IsSome gate.ending ⊎ IsSome gate.watched)) };
 
@@ -114,7 +100,7 @@ impl<'a> Gate for TcpGate<'a> {
     }
 }
 
-impl<'a> Debug for TcpGate<'a> {
+impl<'a, S> Debug for TcpGate<'a, S> {
     fn fmt<W: fmt::Write>(&self, f: &mut Formatter<W>) -> fmt::Result {
         f.debug_struct("TcpGate")
             .field("limit", &self.limit)

@@ -1,20 +1,20 @@
 ghost use Rattle.std.specs.Io.{ReadsAtMost};
 
 use crate::ending::{Ending, InputRead, shown_drain};
+use crate::incoming::Incoming;
 use crate::patience::{Patience, is_timeout};
 use crate::standing::Standing;
 use rb_blocking::Clock;
 use std::alloc::Global;
 use std::fmt::{self, Debug, Formatter};
 use std::io::{self, Read};
-use std::net::TcpStream;
 use std::sync::{Arc, OnceToken};
 
 /// What a session over TCP reads: what its client sends. If told so, it also ends when the server is to drain or to end,
 /// or when the client has been silent for too long.
 #[derive(Drop)]
-pub struct TcpReader<'a> {
-    pub(crate) stream: TcpStream,
+pub struct TcpReader<'a, S> {
+    pub(crate) stream: S,
     pub(crate) patience: Option<Patience<'a>>,
     pub(crate) standing: Option<Arc<Standing, Global>>,
     // Whether it has read what had come when the server was to drain.
@@ -32,7 +32,7 @@ pub(crate) enum Stance<'a> {
     IsOver(OnceToken<'a, InputRead>),
 }
 
-impl<'a> TcpReader<'a> {
+impl<'a, S: Incoming> TcpReader<'a, S> {
     // A session that holds jobs goes on while the server drains. One that holds none reads what has come once more.
     fn stance(&mut self, ending: Option<&'a Ending>) -> Stance<'a> {
         let Some(ending) = ending else {
@@ -67,21 +67,6 @@ impl<'a> TcpReader<'a> {
         }
     }
 
-    // Reads what has come, or nothing.
-    fn take(&mut self, buf: &mut [u8]) -> io::Result<usize>
-        ensures { ReadsAtMost result buf.new }
-    {
-        if self.stream.set_nonblocking(true).is_err() {
-            return Ok(0);
-        }
-        let came = self.stream.read(buf);
-        let _ = self.stream.set_nonblocking(false);
-        match came {
-            Err(fault) if is_timeout(&fault) => Ok(0),
-            came => came,
-        }
-    }
-
     fn read_patiently(&mut self, buf: &mut [u8], patience: Patience<'a>) -> io::Result<usize>
         ensures { ReadsAtMost result buf.new }
     {
@@ -89,7 +74,7 @@ impl<'a> TcpReader<'a> {
         for _ in 0..u64::MAX {
             match self.stance(patience.ending) {
                 Stance::Waits => {}
-                Stance::Takes(_) => return self.take(buf),
+                Stance::Takes(_) => return self.stream.read_at_once(buf),
                 Stance::IsOver(_) => return Ok(0),
             }
             match self.stream.read(buf) {
@@ -104,7 +89,7 @@ impl<'a> TcpReader<'a> {
     }
 }
 
-impl<'a> Read for TcpReader<'a> {
+impl<'a, S: Incoming> Read for TcpReader<'a, S> {
     fn read(&mut self, buf: &mut [u8]) -> io::Result<usize> {
         match self.patience {
             Some(patience) => self.read_patiently(buf, patience),
@@ -113,7 +98,7 @@ impl<'a> Read for TcpReader<'a> {
     }
 }
 
-impl<'a> Debug for TcpReader<'a> {
+impl<'a, S> Debug for TcpReader<'a, S> {
     fn fmt<W: fmt::Write>(&self, f: &mut Formatter<W>) -> fmt::Result {
         f.debug_struct("TcpReader").finish_non_exhaustive()
     }
