@@ -1,5 +1,5 @@
 -- What happens at the entrances of a door over TCP.
-use Rattle.std.specs.Prelude.{◌≡◌, ◌<◌, ℕ}
+use Rattle.std.specs.Prelude.{◌≡◌, ◌<◌, ℕ, Option, IsSomeAnd}
 use Rattle.rb_serving.specs.declared.connection.Connection.{Connection}
 use Rattle.rb_serving.specs.declared.listener.Listener as Listener
 use Rattle.rb_serving.specs.declared.tcp_door.NoMore.{NoMore as NoMoreVisits}
@@ -27,19 +27,20 @@ module _ {L R W : Type 0} (words : Listener.Ghosts L R W) where
   abbrev pub IsAsked : TcpDoor L → Type 0
   IsAsked door = (asked : ℕ) × words.counts door.listener asked × (asked < door.sessions)
 
-  -- The listener was asked, and the door's sessions were used up, or the server is to drain.
-  abbrev pub IsOver : TcpDoor L → Type 0
-  IsOver door = (asked : ℕ) × (why : NoMoreVisits) × words.counts door.listener asked
-      × IsNoMore door.sessions door.manners.ending asked why
+  -- For this reason the door has no more visits: the listener was asked, and the door's sessions were used up, or the
+  -- server is to drain.
+  abbrev pub IsOver : TcpDoor L → NoMoreVisits → Type 0
+  IsOver door why = (asked : ℕ) × words.counts door.listener asked × IsNoMore door.sessions door.manners.ending asked why
 
   -- What is let in is a client of the listener, and one is turned away only where the listener failed. Each takes one of
-  -- the door's sessions. What a client's replies went to is closed, as it came back.
-  abbrev pub ShowsStep : TcpDoor L → DoorStep (TcpReader R) (TcpWriter W) (TcpGate R) → Type 0
-  ShowsStep door (LetIn visit) = IsAsked door × IsClient door visit
-  ShowsStep door TurnedAway = IsAsked door × words.fails door.listener
-  ShowsStep door NoMore = IsOver door
-  ShowsStep door (Left reader status writer) = words.closes door.listener writer.stream
+  -- the door's sessions. There are no more for a reason that the entrance has. What a client's replies went to is
+  -- closed, as it came back.
+  abbrev pub ShowsStep : TcpDoor L → Option NoMoreVisits → DoorStep (TcpReader R) (TcpWriter W) (TcpGate R) → Type 0
+  ShowsStep door no_more (LetIn visit) = IsAsked door × IsClient door visit
+  ShowsStep door no_more TurnedAway = IsAsked door × words.fails door.listener
+  ShowsStep door no_more NoMore = IsSomeAnd no_more (IsOver door)
+  ShowsStep door no_more (Left reader status writer) = words.closes door.listener writer.stream
 
   -- at an entrance of some door
   abbrev pub ShowsStepSomewhere : DoorStep (TcpReader R) (TcpWriter W) (TcpGate R) → Type 0
-  ShowsStepSomewhere step = (door : TcpDoor L) × ShowsStep door step
+  ShowsStepSomewhere step = (door : TcpDoor L) × (no_more : Option NoMoreVisits) × ShowsStep door no_more step

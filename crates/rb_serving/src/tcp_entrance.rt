@@ -45,7 +45,7 @@ where
 
     type Gate = TcpGate<'a, L::Reader>;
 
-    ghost has_seen = { λ entrance log. All (ShowsStep L.Listener entrance.door.now) log };
+    ghost has_seen = { λ entrance log. All (ShowsStep L.Listener entrance.door.now entrance.no_more) log };
 
     ghost demands = { λ visit reader status writer before after. Unit {0} };
 

@@ -5,4 +5,4 @@ use Rattle.rb_serving.proofs.tcp_entrance.TcpEntranceDoor.join.Goals as goal
 
 pub returns : goal.returns
 returns g c out log own joined seen =
-    All-append (ShowsStepSomewhere g.L.Listener) log own joined (λ k d less. (c.args._other.door.now, seen k d less))
+    All-append (ShowsStepSomewhere g.L.Listener) log own joined (λ k d less. (c.args._other.door.now, c.args._other.no_more, seen k d less))
