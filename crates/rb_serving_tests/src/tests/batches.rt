@@ -1,15 +1,15 @@
 // When the replies to batches of requests are handed on, over visits that lie in memory.
 
 use crate::tests::devices::{
-    GATHERED, Received, Sends, at_once, expect_audit, expect_counts, expect_number, expect_text,
-    expect_writes, planned,
+    GATHERED, Received, Sends, at_once, expect_audit, expect_counts, expect_made, expect_number,
+    expect_text, expect_writes, planned,
 };
 use crate::tests::visits::{all_given, served};
 use rb_session::Delivery;
 use std::alloc::Global;
 use std::io::Write;
+use std::process::Abort;
 use std::sync::atomic::{AtomicU64, Ordering};
-use std::test::Fail;
 
 // The first take finds its element, and the second waits for an offer. Another visitor makes the offer once it
 // sees the replies to the lines before the second.
@@ -54,19 +54,38 @@ fn no_reply_waits_for_a_timed_poll(rt: HostRuntime) {
 }
 
 // Returns the lines of 32 offers, and the replies to them.
-fn batch(alloc: Global) -> Result<(Vec<u8>, Vec<u8>), Fail> {
+fn batch(rt: &impl Abort, alloc: Global) -> (Vec<u8>, Vec<u8>) {
     let (mut lines, mut replies) = (Vec::new(alloc), Vec::new(alloc));
     for id in 0..32 {
-        lines.extend_from_slice(b"OFFER 0 a\n")?;
-        write!(replies, "OFFERED {id} 7\n")?;
+        expect_made(rt, lines.extend_from_slice(b"OFFER 0 a\n"));
+        expect_made(rt, write!(replies, "OFFERED {id} 7\n"));
     }
-    Ok((lines, replies))
+    (lines, replies)
+}
+
+// Pushes the lines of an offer and of its take, which is a timed poll if the id is odd, and the replies to them.
+fn push_taken(rt: &impl Abort, lines: &mut Vec<u8>, replies: &mut Vec<u8>, id: u64) {
+    let take = if id % 2 == 0 { "TAKE" } else { "POLLFOR 1000" };
+    expect_made(rt, write!(lines, "OFFER 0 a\n{take}\nDONE {id}\n"));
+    expect_made(
+        rt,
+        write!(replies, "OFFERED {id} 7\nITEM {id} 7 1 a\nDONE {id}\n"),
+    );
+}
+
+// Returns the lines of 32 offers, each of which is taken at once, and the replies to them.
+fn taken_at_once(rt: &impl Abort, alloc: Global) -> (Vec<u8>, Vec<u8>) {
+    let (mut lines, mut replies) = (Vec::new(alloc), Vec::new(alloc));
+    for id in 0..32 {
+        push_taken(rt, &mut lines, &mut replies, id);
+    }
+    (lines, replies)
 }
 
 #[test]
-fn a_batch_of_offers_is_one_write(rt: HostRuntime) -> Result<(), Fail> {
+fn a_batch_of_offers_is_one_write(rt: HostRuntime) {
     let alloc = rt.alloc();
-    let (lines, replies) = batch(alloc)?;
+    let (lines, replies) = batch(&rt, alloc);
     let turns = AtomicU64::new(0);
     let received = Received::none(alloc);
     let plans = [planned(at_once(&lines), &received, &turns)];
@@ -75,19 +94,13 @@ fn a_batch_of_offers_is_one_write(rt: HostRuntime) -> Result<(), Fail> {
     expect_writes(&rt, &received, 1);
     expect_counts(&rt, counts, 1, 0, 0);
     expect_number(&rt, counts.audit.offered, 32);
-    Ok(())
 }
 
 // Each take finds its element, and each timed poll either, so nothing waits.
 #[test]
-fn a_batch_of_takes_that_find_their_elements_is_one_write(rt: HostRuntime) -> Result<(), Fail> {
+fn a_batch_of_takes_that_find_their_elements_is_one_write(rt: HostRuntime) {
     let alloc = rt.alloc();
-    let (mut lines, mut replies) = (Vec::new(alloc), Vec::new(alloc));
-    for id in 0..32 {
-        let take = if id % 2 == 0 { "TAKE" } else { "POLLFOR 1000" };
-        write!(lines, "OFFER 0 a\n{take}\nDONE {id}\n")?;
-        write!(replies, "OFFERED {id} 7\nITEM {id} 7 1 a\nDONE {id}\n")?;
-    }
+    let (lines, replies) = taken_at_once(&rt, alloc);
     let turns = AtomicU64::new(0);
     let received = Received::none(alloc);
     let plans = [planned(at_once(&lines), &received, &turns)];
@@ -96,13 +109,12 @@ fn a_batch_of_takes_that_find_their_elements_is_one_write(rt: HostRuntime) -> Re
     expect_writes(&rt, &received, 1);
     expect_number(&rt, turns.load(Ordering::SeqCst), 0);
     expect_audit(&rt, counts.audit, all_given(32));
-    Ok(())
 }
 
 #[test]
-fn replies_that_are_not_gathered_are_a_write_each(rt: HostRuntime) -> Result<(), Fail> {
+fn replies_that_are_not_gathered_are_a_write_each(rt: HostRuntime) {
     let alloc = rt.alloc();
-    let (lines, replies) = batch(alloc)?;
+    let (lines, replies) = batch(&rt, alloc);
     let turns = AtomicU64::new(0);
     let received = Received::none(alloc);
     let plans = [planned(at_once(&lines), &received, &turns)];
@@ -110,5 +122,4 @@ fn replies_that_are_not_gathered_are_a_write_each(rt: HostRuntime) -> Result<(),
     expect_text(&rt, &received, &replies);
     expect_writes(&rt, &received, 32);
     expect_counts(&rt, counts, 1, 0, 0);
-    Ok(())
 }

@@ -411,6 +411,11 @@ pub fn expect_audit(rt: &impl Abort, audit: Audit, wanted: Audit) {
     assert_eq!(rt; audit, wanted);
 }
 
+/// Returns what was made. Asserts that it was.
+pub fn expect_made<T, E: Drop>(rt: &impl Abort, made: Result<T, E>) -> T {
+    made.ok().expect(rt, "what is made")
+}
+
 pub fn expect(rt: &impl Abort, holds: bool) {
     assert!(rt; holds);
 }

@@ -4,7 +4,7 @@ ghost use Rattle.std.specs.Prelude.{◌≤◌};
 
 use crate::tests::devices::{
     Counts, DELIVERIES, Received, at_once, counts_of, expect, expect_bytes, expect_counts,
-    expect_number, hundred_calls, planned, served_so,
+    expect_made, expect_number, hundred_calls, planned, served_so,
 };
 use rb_delayed::Payload;
 use rb_ending::BrokerFault;
@@ -19,7 +19,6 @@ use std::alloc::{AllocError, Global};
 use std::process::Abort;
 use std::sync::Wait;
 use std::sync::atomic::AtomicU64;
-use std::test::Fail;
 use std::thread::Threads;
 use std::time;
 
@@ -126,10 +125,10 @@ fn served_lines<R: Threads + Wait + time::Clock + Abort + Sync>(
     alloc: Global,
     delivery: Delivery,
     crowd: Crowd,
-) -> Result<Served, Fail> {
-    let first = page(alloc)?;
-    let second = page(alloc)?;
-    Ok(served_into(rt, alloc, delivery, crowd, first, second))
+) -> Served {
+    let first = expect_made(rt, page(alloc));
+    let second = expect_made(rt, page(alloc));
+    served_into(rt, alloc, delivery, crowd, first, second)
 }
 
 fn served_into<R: Threads + Wait + time::Clock + Abort + Sync>(
@@ -225,15 +224,13 @@ fn report_at_last<R: Threads + Wait + time::Clock + Abort + Sync>(
     alloc: Global,
     delivery: Delivery,
     crowd: Crowd,
-) -> Result<(ServeReport<ListTimer>, u32), Fail> {
+) -> (ServeReport<ListTimer>, u32) {
     let visitors = crowd.visitors;
-    if let Some(report) = whole_report(rt, served_lines(rt, alloc, delivery, crowd)?, visitors) {
-        return Ok((report, 0));
+    if let Some(report) = whole_report(rt, served_lines(rt, alloc, delivery, crowd), visitors) {
+        return (report, 0);
     }
-    match whole_report(rt, served_lines(rt, alloc, delivery, crowd)?, visitors) {
-        Some(report) => Ok((report, 1)),
-        None => Err(Fail::from("it was refused twice")),
-    }
+    let report = whole_report(rt, served_lines(rt, alloc, delivery, crowd), visitors);
+    (report.expect(rt, "a report the second time"), 1)
 }
 
 const PRINTED: &[u8] =
@@ -250,11 +247,11 @@ struct End {
     history: Option<Vec<u8>>,
 }
 
-fn ended(alloc: Global, report: &ServeReport<ListTimer>) -> Result<End, AllocError> {
-    let printed = page(alloc)?;
-    let history = page(alloc)?;
-    let text = text_room(alloc)?;
-    Ok(ended_into(alloc, text, report, printed, Some(history)))
+fn ended(rt: &impl Abort, alloc: Global, report: &ServeReport<ListTimer>) -> End {
+    let printed = expect_made(rt, page(alloc));
+    let history = expect_made(rt, page(alloc));
+    let text = expect_made(rt, text_room(alloc));
+    ended_into(alloc, text, report, printed, Some(history))
 }
 
 fn ended_into(
@@ -289,16 +286,12 @@ fn is_whole(rt: &impl Abort, end: &End) -> bool {
 
 // Returns the number of refusals that the end of a server met. If it met one, ends the server once
 // more and asserts that nothing is missing.
-fn refused_ends(
-    rt: &impl Abort,
-    alloc: Global,
-    report: &ServeReport<ListTimer>,
-) -> Result<u32, Fail> {
-    if is_whole(rt, &ended(alloc, report)?) {
-        return Ok(0);
+fn refused_ends(rt: &impl Abort, alloc: Global, report: &ServeReport<ListTimer>) -> u32 {
+    if is_whole(rt, &ended(rt, alloc, report)) {
+        return 0;
     }
-    expect(rt, is_whole(rt, &ended(alloc, report)?));
-    Ok(1)
+    expect(rt, is_whole(rt, &ended(rt, alloc, report)));
+    1
 }
 
 // Returns the number of refusals that servers of each crowd meet, and the end of one of them.
@@ -306,16 +299,14 @@ fn refused_servers<R: Threads + Wait + time::Clock + Abort + Sync>(
     rt: &R,
     alloc: Global,
     delivery: Delivery,
-) -> Result<u32, Fail> {
-    let (report, one) = report_at_last(rt, alloc, delivery, ALONE)?;
-    let ends = refused_ends(rt, alloc, &report)?;
-    let (_, in_turn) = report_at_last(rt, alloc, delivery, IN_TURN)?;
-    let (_, at_once) = report_at_last(rt, alloc, delivery, AT_ONCE)?;
-    Ok(
-        one.saturating_add(ends)
-            .saturating_add(in_turn)
-            .saturating_add(at_once),
-    )
+) -> u32 {
+    let (report, one) = report_at_last(rt, alloc, delivery, ALONE);
+    let ends = refused_ends(rt, alloc, &report);
+    let (_, in_turn) = report_at_last(rt, alloc, delivery, IN_TURN);
+    let (_, at_once) = report_at_last(rt, alloc, delivery, AT_ONCE);
+    one.saturating_add(ends)
+        .saturating_add(in_turn)
+        .saturating_add(at_once)
 }
 
 fn expect_refusals(rt: &impl Abort, refusals: u32) {
@@ -323,11 +314,10 @@ fn expect_refusals(rt: &impl Abort, refusals: u32) {
 }
 
 #[test]
-fn a_refused_allocation_is_answered(rt: HostRuntime) -> Result<(), Fail> {
+fn a_refused_allocation_is_answered(rt: HostRuntime) {
     let mut refusals: u32 = 0;
     for delivery in DELIVERIES {
-        refusals = refusals.saturating_add(refused_servers(&rt, rt.alloc(), delivery)?);
+        refusals = refusals.saturating_add(refused_servers(&rt, rt.alloc(), delivery));
     }
     expect_refusals(&rt, refusals);
-    Ok(())
 }

@@ -4,19 +4,19 @@ ghost use Rattle.std.specs.Prelude.{◌≤◌};
 
 use crate::tests::devices::{
     Counts, SevenClock, counts_of, expect, expect_audit_line, expect_bytes, expect_counts,
-    expect_legal, expect_number, hundred_calls,
+    expect_legal, expect_made, expect_number, hundred_calls,
 };
 use rb_blocking::{Clock, MachineClock};
+use rb_ending::BrokerFault;
 use rb_options::ServerRunOptions;
 use rb_queue::Opening;
 use rb_serving::{CountedListener, Ending, ServedQueue, TcpDoor, TcpManners, serve_door};
 use rb_timer::ListTimer;
 use std::alloc::Global;
-use std::io::{Read, Write};
+use std::io::{self, Read, Write};
 use std::net::{Ipv4Addr, SocketAddr, SocketAddrV4, TcpListener, TcpStream};
 use std::process::Abort;
 use std::sync::Wait;
-use std::test::Fail;
 use std::thread::Threads;
 use std::time;
 
@@ -25,17 +25,17 @@ const AUDIT: &[u8] =
     b"{\"calls\":2,\"cleared\":0,\"given\":1,\"left\":0,\"offered\":1,\"opening\":0,\"removed\":0}\n";
 
 // Connects a client to `server` and sends `lines`. Returns the client's stream.
-fn client(rt: &HostRuntime, server: SocketAddr, lines: &[u8]) -> Result<TcpStream, Fail> {
+fn client(rt: &HostRuntime, server: SocketAddr, lines: &[u8]) -> io::Result<TcpStream> {
     let mut stream = TcpStream::connect(rt, server)?;
     stream.write_all(lines)?;
     Ok(stream)
 }
 
 // Returns what the client was sent until the server closed the connection.
-fn sent(alloc: Global, mut stream: TcpStream) -> Result<Vec<u8>, Fail> {
+fn sent(rt: &impl Abort, alloc: Global, mut stream: TcpStream) -> Vec<u8> {
     let mut text = Vec::new(alloc);
-    let _ = stream.read_to_end(&mut text)?;
-    Ok(text)
+    let _ = expect_made(rt, stream.read_to_end(&mut text));
+    text
 }
 
 // Serves the clients of `door` by `workers` workers, and asserts that the history is legal. Returns
@@ -66,13 +66,16 @@ fn expect_report(rt: &impl Abort, alloc: Global, counts: Counts) {
     expect_audit_line(rt, alloc, &counts.audit, AUDIT);
 }
 
-fn expect_sent(rt: &impl Abort, alloc: Global, stream: TcpStream, text: &[u8]) -> Result<(), Fail> {
-    expect_bytes(rt, sent(alloc, stream)?.as_slice(), text);
-    Ok(())
+fn expect_sent(rt: &impl Abort, alloc: Global, stream: TcpStream, text: &[u8]) {
+    expect_bytes(rt, sent(rt, alloc, stream).as_slice(), text);
 }
 
-fn port_of_the_system() -> SocketAddr {
-    SocketAddr::V4(SocketAddrV4::new(Ipv4Addr::LOCALHOST, 0))
+// A listener at a port that the system chose, and its address.
+fn listening(rt: &HostRuntime) -> io::Result<(TcpListener, SocketAddr)> {
+    let port_of_the_system = SocketAddr::V4(SocketAddrV4::new(Ipv4Addr::LOCALHOST, 0));
+    let listener = TcpListener::bind(rt, port_of_the_system)?;
+    let server = listener.local_addr()?;
+    Ok((listener, server))
 }
 
 // A door for so many sessions, each of whose waits ends after 200 turns, that does nothing more.
@@ -81,25 +84,21 @@ fn plain_door<'a>(
     listener: TcpListener,
     sessions: u64,
     clock: &'a MachineClock<'a, HostRuntime>,
-) -> Result<TcpDoor<'a, CountedListener>, Fail> {
-    Ok(TcpDoor::new(alloc, listener, sessions, 200, TcpManners::default(), clock)?)
+) -> Result<TcpDoor<'a, CountedListener>, BrokerFault> {
+    TcpDoor::new(alloc, listener, sessions, 200, TcpManners::default(), clock)
 }
 
 #[test]
-fn two_clients_share_a_queue(rt: HostRuntime) -> Result<(), Fail> {
-    let listener = TcpListener::bind(&rt, port_of_the_system())?;
-    let server = listener.local_addr()?;
-    let taker = client(&rt, server, b"TAKE\nDONE 0\nQUIT\n")?;
-    let giver = client(&rt, server, b"OFFER 0 a\nQUIT\n")?;
+fn two_clients_share_a_queue(rt: HostRuntime) {
+    let (listener, server) = expect_made(&rt, listening(&rt));
+    let taker = expect_made(&rt, client(&rt, server, b"TAKE\nDONE 0\nQUIT\n"));
+    let giver = expect_made(&rt, client(&rt, server, b"OFFER 0 a\nQUIT\n"));
     let alloc = rt.alloc();
     let clock = MachineClock::new(&rt);
-    expect_report(
-        &rt,
-        alloc,
-        served(&rt, alloc, &plain_door(alloc, listener, 2, &clock)?, 2),
-    );
-    expect_sent(&rt, alloc, taker, b"ITEM 0 7 1 a\nDONE 0\nBYE\n")?;
-    expect_sent(&rt, alloc, giver, b"OFFERED 0 7\nBYE\n")
+    let door = expect_made(&rt, plain_door(alloc, listener, 2, &clock));
+    expect_report(&rt, alloc, served(&rt, alloc, &door, 2));
+    expect_sent(&rt, alloc, taker, b"ITEM 0 7 1 a\nDONE 0\nBYE\n");
+    expect_sent(&rt, alloc, giver, b"OFFERED 0 7\nBYE\n");
 }
 
 // Serves the clients of `door` by one worker. Returns what was counted, and the time it took, in
@@ -124,21 +123,19 @@ fn expect_refused(rt: &impl Abort, found: (Counts, u64)) {
 // Nobody has connected and the listener does not wait, so no client can be accepted. Each attempt
 // counts as a session and a fault, and takes 10 ms.
 #[test]
-fn sessions_are_not_used_up_at_once(rt: HostRuntime) -> Result<(), Fail> {
-    let listener = TcpListener::bind(&rt, port_of_the_system())?;
-    listener.set_nonblocking(true)?;
+fn sessions_are_not_used_up_at_once(rt: HostRuntime) {
+    let (listener, _) = expect_made(&rt, listening(&rt));
+    expect_made(&rt, listener.set_nonblocking(true));
     let clock = MachineClock::new(&rt);
-    let door = plain_door(rt.alloc(), listener, 5, &clock)?;
+    let door = expect_made(&rt, plain_door(rt.alloc(), listener, 5, &clock));
     expect_refused(&rt, served_within(&rt, rt.alloc(), &door));
-    Ok(())
 }
 
 // A server is handed a client, greets it, and ends a session that says nothing. The job that this holds comes back.
 #[test]
-fn a_silent_client_is_greeted_and_ended(rt: HostRuntime) -> Result<(), Fail> {
-    let listener = TcpListener::bind(&rt, port_of_the_system())?;
-    let server = listener.local_addr()?;
-    let taker = client(&rt, server, b"OFFER 0 a\nTAKE\n")?;
+fn a_silent_client_is_greeted_and_ended(rt: HostRuntime) {
+    let (listener, server) = expect_made(&rt, listening(&rt));
+    let taker = expect_made(&rt, client(&rt, server, b"OFFER 0 a\nTAKE\n"));
     let alloc = rt.alloc();
     let manners = TcpManners {
         greeting: b"HELLO\n",
@@ -146,9 +143,9 @@ fn a_silent_client_is_greeted_and_ended(rt: HostRuntime) -> Result<(), Fail> {
         ..TcpManners::default()
     };
     let clock = MachineClock::new(&rt);
-    let door = TcpDoor::new(alloc, listener, 1, 200, manners, &clock)?;
+    let door = expect_made(&rt, TcpDoor::new(alloc, listener, 1, 200, manners, &clock));
     expect_comes_back(&rt, served(&rt, alloc, &door, 1));
-    expect_sent(&rt, alloc, taker, b"HELLO\nOFFERED 0 7\nITEM 0 7 1 a\n")
+    expect_sent(&rt, alloc, taker, b"HELLO\nOFFERED 0 7\nITEM 0 7 1 a\n");
 }
 
 fn expect_comes_back(rt: &impl Abort, counts: Counts) {
@@ -158,10 +155,9 @@ fn expect_comes_back(rt: &impl Abort, counts: Counts) {
 
 // The input of a server ends before anybody comes: nobody is let in, though a client waits.
 #[test]
-fn a_server_whose_input_has_ended_lets_nobody_in(rt: HostRuntime) -> Result<(), Fail> {
-    let listener = TcpListener::bind(&rt, port_of_the_system())?;
-    let server = listener.local_addr()?;
-    let _waits = client(&rt, server, b"SIZE\n")?;
+fn a_server_whose_input_has_ended_lets_nobody_in(rt: HostRuntime) {
+    let (listener, server) = expect_made(&rt, listening(&rt));
+    let _waits = expect_made(&rt, client(&rt, server, b"SIZE\n"));
     let alloc = rt.alloc();
     let ending = Ending::new();
     ending.follow(&rt, &mut b"".as_slice());
@@ -170,9 +166,8 @@ fn a_server_whose_input_has_ended_lets_nobody_in(rt: HostRuntime) -> Result<(), 
         ..TcpManners::default()
     };
     let clock = MachineClock::new(&rt);
-    let door = TcpDoor::new(alloc, listener, 5, 200, manners, &clock)?;
+    let door = expect_made(&rt, TcpDoor::new(alloc, listener, 5, 200, manners, &clock));
     expect_nobody(&rt, served(&rt, alloc, &door, 2));
-    Ok(())
 }
 
 fn expect_nobody(rt: &impl Abort, counts: Counts) {

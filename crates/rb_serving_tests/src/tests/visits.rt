@@ -4,16 +4,15 @@ ghost use Rattle.std.specs.Prelude.{◌≤◌};
 
 use crate::tests::devices::{
     Counts, DELIVERIES, GATHERED, Plan, Received, Sends, after, at_once, counted, expect,
-    expect_audit, expect_audit_line, expect_counts, expect_number, expect_text, hundred_calls,
-    planned,
+    expect_audit, expect_audit_line, expect_counts, expect_made, expect_number, expect_text,
+    hundred_calls, planned,
 };
 use rb_queue::Audit;
 use rb_session::Delivery;
-use std::alloc::{AllocError, Global};
+use std::alloc::Global;
 use std::process::Abort;
 use std::sync::atomic::AtomicU64;
 use std::sync::{Mutex, Wait};
-use std::test::Fail;
 use std::thread::Threads;
 use std::time;
 
@@ -246,27 +245,28 @@ const COUNTS: &[u8] = b"SIZE\nQUIT\n";
 
 const COUNTED: &[u8] = b"SIZE 0\nBYE\n";
 
-fn nothing_received(alloc: Global) -> Result<Vec<Mutex<Received>>, AllocError> {
+fn nothing_received(rt: &impl Abort, alloc: Global) -> Vec<Mutex<Received>> {
     let mut received = Vec::new(alloc);
     for _ in 0..MOST_WORKERS {
-        received.push(Received::none(alloc))?;
+        expect_made(rt, received.push(Received::none(alloc)));
     }
-    Ok(received)
+    received
 }
 
 // Plans one visit for each of `received`. Each visitor begins once the one after it has been
 // served, and the last one at once.
 fn last_first<'a>(
+    rt: &impl Abort,
     alloc: Global,
     received: &'a [Mutex<Received>],
     turns: &'a AtomicU64,
-) -> Result<Vec<Plan<'a>>, AllocError> {
+) -> Vec<Plan<'a>> {
     let mut plans = Vec::new(alloc);
     for (place, own) in received.iter().enumerate() {
         let sends = begins_after(received.get(place.saturating_add(1)));
-        plans.push(planned(sends, own, turns))?;
+        expect_made(rt, plans.push(planned(sends, own, turns)));
     }
-    Ok(plans)
+    plans
 }
 
 fn begins_after<'a>(next: Option<&'a Mutex<Received>>) -> Option<Sends<'a>> {
@@ -278,18 +278,17 @@ fn begins_after<'a>(next: Option<&'a Mutex<Received>>) -> Option<Sends<'a>> {
 
 // The visitors are served last first, so none of them is served before all 16 workers run.
 #[test]
-fn sixteen_workers_run_together(rt: HostRuntime) -> Result<(), Fail> {
+fn sixteen_workers_run_together(rt: HostRuntime) {
     let alloc = rt.alloc();
-    let received = nothing_received(alloc)?;
+    let received = nothing_received(&rt, alloc);
     let turns = AtomicU64::new(0);
-    let plans = last_first(alloc, &received, &turns)?;
+    let plans = last_first(&rt, alloc, &received, &turns);
     let counts = served(&rt, alloc, GATHERED, &plans, MOST_WORKERS);
     expect_counts(&rt, counts, MOST_WORKERS, 0, 0);
     expect_number(&rt, counts.audit.calls, MOST_WORKERS);
     for text in &received {
         expect_text(&rt, text, COUNTED);
     }
-    Ok(())
 }
 
 // No client can set the clock that all of them share.
