@@ -4,8 +4,8 @@
 ghost use Rattle.std.specs.Prelude.{◌≡◌};
 
 use crate::tests::fixtures::{
-    done, element, expect_call, expect_drained, expect_number, offer, offered, opened, payload,
-    split_off,
+    done, element, expect_call, expect_drained, expect_number, expect_opened, offer, offered,
+    payload, split_off,
 };
 use crate::tests::many_threads::{HeapPass, HeapShared};
 use rb_delayed::{Element, GREATEST_ATTEMPT};
@@ -14,7 +14,6 @@ use rb_queue::{Ask, Draft, Reply};
 use std::alloc::Global;
 use std::process::Abort;
 use std::sync::Wait;
-use std::test::Fail;
 
 // The number of rounds of calls that one pass makes: many more than the first growths of anything
 // take.
@@ -24,18 +23,16 @@ const ROUNDS: u64 = 5_000;
 const NAMES: u64 = 65_535;
 
 // Opens a queue with room for `capacity` calls, and makes one call.
-fn expect_open(rt: &(impl Wait + Abort), alloc: Global, capacity: u64) -> Result<(), Fail> {
-    let (shared, mut pass): (HeapShared, HeapPass) = opened(alloc, capacity)?;
+fn expect_open(rt: &(impl Wait + Abort), alloc: Global, capacity: u64) {
+    let (shared, mut pass): (HeapShared, HeapPass) = expect_opened(rt, alloc, capacity);
     expect_call(rt, &shared, &mut pass, 0, offer(rt, 9), offered(rt, 0, 9));
-    Ok(())
 }
 
 #[test]
-fn opens_with_room_for_any_number_of_calls(rt: HostRuntime) -> Result<(), Fail> {
+fn opens_with_room_for_any_number_of_calls(rt: HostRuntime) {
     for capacity in [1, 1_000, 500_000, 500_001, 999_999, 1_000_000] {
-        expect_open(&rt, rt.alloc(), capacity)?;
+        expect_open(&rt, rt.alloc(), capacity);
     }
-    Ok(())
 }
 
 // Returns an offer of the last attempt of a job whose first attempt had id 7 and expiry 8.
@@ -97,15 +94,14 @@ fn expect_moment<R: Wait + Abort>(
 }
 
 #[test]
-fn answers_up_to_the_greatest_moment(rt: HostRuntime) -> Result<(), Fail> {
-    let (shared, mut pass) = opened(rt.alloc(), 20)?;
+fn answers_up_to_the_greatest_moment(rt: HostRuntime) {
+    let (shared, mut pass) = expect_opened(&rt, rt.alloc(), 20);
     expect_moment(&rt, &shared, &mut pass, 0, (0, 0));
     expect_moment(&rt, &shared, &mut pass, 2, (1, u64::MAX));
     expect_moment(&rt, &shared, &mut pass, 4, (1 << 63, 1 << 63));
     expect_moment(&rt, &shared, &mut pass, 6, (u64::MAX - 1, u64::MAX - 1));
     expect_moment(&rt, &shared, &mut pass, 8, (u64::MAX, u64::MAX));
     expect_number(&rt, pass.calls(), 15);
-    Ok(())
 }
 
 // Offers the element with id `id`, and drains it. The id is also its expiry and the moment of both
@@ -139,15 +135,14 @@ fn expect_standing<R: Wait + Abort>(rt: &R, shared: &HeapShared, pass: &mut Heap
 }
 
 #[test]
-fn answers_after_thousands_of_calls(rt: HostRuntime) -> Result<(), Fail> {
-    let (shared, mut pass) = opened(rt.alloc(), 4 * ROUNDS)?;
+fn answers_after_thousands_of_calls(rt: HostRuntime) {
+    let (shared, mut pass) = expect_opened(&rt, rt.alloc(), 4 * ROUNDS);
     expect_rounds(&rt, &shared, &mut pass);
     expect_standing(&rt, &shared, &mut pass);
     let head = Reply::Head(element(&rt, ROUNDS, ROUNDS));
     expect_call(&rt, &shared, &mut pass, 0, Ask::Peek, done(head));
     expect_drain(&rt, &shared, &mut pass, 2 * ROUNDS);
     expect_number(&rt, pass.calls(), 3 * ROUNDS + 2);
-    Ok(())
 }
 
 // Splits off a pass with name `name`, makes a round with it, and folds it back into `first`.
@@ -170,9 +165,8 @@ fn expect_passes<R: Wait + Abort>(rt: &R, shared: &HeapShared, first: &mut HeapP
 }
 
 #[test]
-fn answers_each_pass(rt: HostRuntime) -> Result<(), Fail> {
-    let (shared, mut first) = opened(rt.alloc(), 2 * NAMES)?;
+fn answers_each_pass(rt: HostRuntime) {
+    let (shared, mut first) = expect_opened(&rt, rt.alloc(), 2 * NAMES);
     expect_passes(&rt, &shared, &mut first);
     expect_number(&rt, first.calls(), 2 * NAMES);
-    Ok(())
 }

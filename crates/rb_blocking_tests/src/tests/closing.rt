@@ -5,7 +5,7 @@ ghost use Rattle.std.specs.Prelude.{◌≡◌};
 
 use crate::tests::fixtures::{
     ListPass, ListShared, all_given, done, element, expect_audit, expect_call, expect_number,
-    expect_totals, offer, offered, opened, split_off, totals,
+    expect_opened, expect_totals, offer, offered, split_off, totals,
 };
 use rb_kept::Kept;
 use rb_ledger::Tally;
@@ -14,7 +14,6 @@ use rb_queue::{Ask, Audit, Reply};
 use rb_timer::ListTimer;
 use std::process::Abort;
 use std::sync::Wait;
-use std::test::Fail;
 
 // Offers by one pass and polls by the other. Then the two meet.
 fn call_and_meet<R: Wait + Abort>(
@@ -86,11 +85,10 @@ fn fold_both<R: Wait + Abort>(rt: &R, shared: ListShared, first: ListPass, secon
 }
 
 #[test]
-fn closes_once_all_are_folded(rt: HostRuntime) -> Result<(), Fail> {
-    let (shared, mut first) = opened(rt.alloc(), 10)?;
+fn closes_once_all_are_folded(rt: HostRuntime) {
+    let (shared, mut first) = expect_opened(&rt, rt.alloc(), 10);
     let mut second = split_off(&rt, &shared, &mut first, 1);
     expect_number(&rt, first.name(), 0);
     call_and_meet(&rt, &shared, &mut first, &mut second);
     fold_both(&rt, shared, first, second);
-    Ok(())
 }

@@ -27,6 +27,23 @@ pub fn opened<T: Timer>(alloc: Global, capacity: u64) -> Result<(Shared<T>, Pass
     shared(alloc, kept, tally)
 }
 
+/// Does the same. Asserts that it was opened.
+pub fn expect_opened<T: Timer>(
+    rt: &impl Abort,
+    alloc: Global,
+    capacity: u64,
+) -> (Shared<T>, Pass<T>)
+    ensures { result.1.table ≡ result.0 }
+{
+    let Ok((kept, tally)) = Kept::new(alloc, capacity) else {
+        rt.abort()
+    };
+    let Ok(opened) = Shared::open(alloc, kept, tally) else {
+        rt.abort()
+    };
+    opened
+}
+
 /// Shares a kept queue that has had no calls.
 pub fn shared<T: Timer>(
     alloc: Global,

@@ -3,13 +3,13 @@
 ghost use Rattle.std.specs.Prelude.{◌≡◌};
 
 use crate::tests::fixtures::{
-    ListPass, ListShared, done, element, expect_call, expect_number, later, offer, offered, opened,
+    ListPass, ListShared, done, element, expect_call, expect_number, expect_opened, later, offer,
+    offered,
 };
 use rb_kept::CallFault;
 use rb_queue::{Ask, Reply};
 use std::process::Abort;
 use std::sync::Wait;
-use std::test::Fail;
 
 // Makes the four calls for which the history has room, and one more, which is refused. Also makes
 // two takes that would wait, which are not counted as calls.
@@ -29,8 +29,7 @@ fn expect_answers<R: Wait + Abort>(rt: &R, shared: &ListShared, pass: &mut ListP
 }
 
 #[test]
-fn answers_with_ample_memory(rt: HostRuntime) -> Result<(), Fail> {
-    let (shared, mut pass) = opened(rt.alloc(), 4)?;
+fn answers_with_ample_memory(rt: HostRuntime) {
+    let (shared, mut pass) = expect_opened(&rt, rt.alloc(), 4);
     expect_answers(&rt, &shared, &mut pass);
-    Ok(())
 }

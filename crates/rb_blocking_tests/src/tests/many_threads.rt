@@ -3,14 +3,13 @@
 
 ghost use Rattle.std.specs.Prelude.{◌≡◌, IfSome};
 
-use crate::tests::fixtures::{all_given, expect_audit, expect_number, offer, opened};
+use crate::tests::fixtures::{all_given, expect_audit, expect_number, expect_opened, offer};
 use rb_binary::BinaryTimer;
 use rb_kept::Outcome;
 use rb_lock::{Pass, Shared};
 use rb_queue::{Ask, Audit, Event};
 use std::process::Abort;
 use std::sync::Wait;
-use std::test::Fail;
 use std::thread::{Threads, join};
 
 pub(super) type HeapShared = Shared<BinaryTimer>;
@@ -188,25 +187,22 @@ fn expect_calls<R: Wait + Abort>(rt: &R, shared: HeapShared, folded: Option<Heap
 }
 
 #[test]
-fn one_pair_loses_nothing(rt: HostRuntime) -> Result<(), Fail> {
-    let (shared, first) = opened(rt.alloc(), ROOM)?;
+fn one_pair_loses_nothing(rt: HostRuntime) {
+    let (shared, first) = expect_opened(&rt, rt.alloc(), ROOM);
     let folded = pair(&rt, &shared, first, ELEMENTS);
     expect_calls(&rt, shared, folded, 2);
-    Ok(())
 }
 
 #[test]
-fn two_pairs_lose_nothing(rt: HostRuntime) -> Result<(), Fail> {
-    let (shared, first) = opened(rt.alloc(), ROOM)?;
+fn two_pairs_lose_nothing(rt: HostRuntime) {
+    let (shared, first) = expect_opened(&rt, rt.alloc(), ROOM);
     let folded = two_pairs(&rt, &shared, first, ELEMENTS / 2);
     expect_calls(&rt, shared, folded, 4);
-    Ok(())
 }
 
 #[test]
-fn four_pairs_lose_nothing(rt: HostRuntime) -> Result<(), Fail> {
-    let (shared, first) = opened(rt.alloc(), ROOM)?;
+fn four_pairs_lose_nothing(rt: HostRuntime) {
+    let (shared, first) = expect_opened(&rt, rt.alloc(), ROOM);
     let folded = four_pairs(&rt, &shared, first, ELEMENTS / 4);
     expect_calls(&rt, shared, folded, 8);
-    Ok(())
 }

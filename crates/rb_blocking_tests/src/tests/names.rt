@@ -2,11 +2,10 @@
 
 ghost use Rattle.std.specs.Prelude.{◌≡◌};
 
-use crate::tests::fixtures::{ListPass, ListShared, expect_number, opened, split_off};
+use crate::tests::fixtures::{ListPass, ListShared, expect_number, expect_opened, split_off};
 use rb_lock::SplitFault;
 use std::process::Abort;
 use std::sync::Wait;
-use std::test::Fail;
 
 // Splits off the pass with name `name`, and folds it back into `first`.
 fn expect_name<R: Wait + Abort>(rt: &R, shared: &ListShared, first: &mut ListPass, name: u64)
@@ -40,9 +39,8 @@ fn expect_no_name<R: Wait + Abort>(rt: &R, shared: &ListShared, first: &mut List
 }
 
 #[test]
-fn gives_each_name_once(rt: HostRuntime) -> Result<(), Fail> {
-    let (shared, mut first) = opened(rt.alloc(), 1)?;
+fn gives_each_name_once(rt: HostRuntime) {
+    let (shared, mut first) = expect_opened(&rt, rt.alloc(), 1);
     expect_names(&rt, &shared, &mut first);
     expect_no_name(&rt, &shared, &mut first);
-    Ok(())
 }

@@ -3,13 +3,12 @@
 ghost use Rattle.std.specs.Prelude.{◌≡◌};
 
 use crate::tests::fixtures::{
-    ListPass, ListShared, all_given, done, element, expect_audit, expect_call, offer, offered,
-    opened, split_off,
+    ListPass, ListShared, all_given, done, element, expect_audit, expect_call, expect_opened,
+    offer, offered, split_off,
 };
 use rb_queue::{Ask, Reply};
 use std::process::Abort;
 use std::sync::Wait;
-use std::test::Fail;
 
 // One pass offers, and gives a note. The other hears it, polls, and gives one back.
 fn call_and_tell<R: Wait + Abort>(
@@ -40,11 +39,10 @@ fn expect_closed<R: Wait + Abort>(rt: &R, shared: ListShared, pass: ListPass)
 }
 
 #[test]
-fn a_note_is_no_call_and_no_pass(rt: HostRuntime) -> Result<(), Fail> {
-    let (shared, mut first) = opened(rt.alloc(), 10)?;
+fn a_note_is_no_call_and_no_pass(rt: HostRuntime) {
+    let (shared, mut first) = expect_opened(&rt, rt.alloc(), 10);
     let mut second = split_off(&rt, &shared, &mut first, 1);
     call_and_tell(&rt, &shared, &mut first, &mut second);
     shared.fold(&mut first, second);
     expect_closed(&rt, shared, first);
-    Ok(())
 }

@@ -2,13 +2,12 @@
 
 ghost use Rattle.std.specs.Prelude.{◌≡◌};
 
-use crate::tests::fixtures::{all_given, expect_number, opened, split_off};
+use crate::tests::fixtures::{all_given, expect_number, expect_opened, split_off};
 use crate::tests::many_threads::{HeapPass, HeapShared, ROOM, offer_all, take_all};
 use rb_queue::{Ask, Audit};
 use std::alloc::Global;
 use std::process::Abort;
 use std::sync::Wait;
-use std::test::Fail;
 use std::thread::{Threads, join};
 
 // Offers `count` elements in one thread and takes as many in another. Then the two passes meet, and
@@ -54,28 +53,22 @@ fn audit_of_two<R: Threads + Wait + Abort + Sync>(
     rt: &R,
     alloc: Global,
     count: u64,
-) -> Result<Option<Audit>, Fail> {
-    let (shared, mut first) = opened(alloc, ROOM)?;
+) -> Option<Audit> {
+    let (shared, mut first) = expect_opened(rt, alloc, ROOM);
     let second = split_off(rt, &shared, &mut first, 1);
     let folded = exchange(rt, &shared, first, second, count);
-    Ok(audit_of(rt, shared, folded))
+    audit_of(rt, shared, folded)
 }
 
-fn expect_two<R: Threads + Wait + Abort + Sync>(
-    rt: &R,
-    alloc: Global,
-    count: u64,
-    wanted: Audit,
-) -> Result<(), Fail> {
-    let audit = audit_of_two(rt, alloc, count)?;
+fn expect_two<R: Threads + Wait + Abort + Sync>(rt: &R, alloc: Global, count: u64, wanted: Audit) {
+    let audit = audit_of_two(rt, alloc, count);
     assert_eq!(rt; audit, Some(wanted));
-    Ok(())
 }
 
 #[test]
-fn one_offers_and_one_takes(rt: HostRuntime) -> Result<(), Fail> {
-    expect_two(&rt, rt.alloc(), 1, all_given(2, 1))?;
-    expect_two(&rt, rt.alloc(), 999, all_given(1_998, 999))
+fn one_offers_and_one_takes(rt: HostRuntime) {
+    expect_two(&rt, rt.alloc(), 1, all_given(2, 1));
+    expect_two(&rt, rt.alloc(), 999, all_given(1_998, 999));
 }
 
 // Makes a take that would wait: no event is made, and the lock is taken and given back.
@@ -119,11 +112,10 @@ fn answered_of_two<R: Threads + Wait + Sync>(
 }
 
 #[test]
-fn sleepers_are_woken(rt: HostRuntime) -> Result<(), Fail> {
-    let (shared, mut first) = opened(rt.alloc(), ROOM)?;
+fn sleepers_are_woken(rt: HostRuntime) {
+    let (shared, mut first) = expect_opened(&rt, rt.alloc(), ROOM);
     let second = split_off(&rt, &shared, &mut first, 1);
     let answered = answered_of_two(&rt, &shared, first, second);
     expect_number(&rt, answered.0, 0);
     expect_number(&rt, answered.1, 0);
-    Ok(())
 }
