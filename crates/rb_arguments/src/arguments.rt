@@ -1,9 +1,9 @@
 ghost use Rattle.std.specs.Prelude.{◌≡◌, ℕ, List, false};
 ghost use Rattle.std.specs.Borrow.{Bor};
 ghost use Rattle.clap.specs.Words.{rule_of};
-ghost use Rattle.rb_arguments.specs.Arguments.{AreTimerNames, attempts_option, calls_option, chains_flag};
-ghost use Rattle.rb_arguments.specs.Arguments.{delay_option, file_argument, from_option, history_option, named_option};
-ghost use Rattle.rb_arguments.specs.Arguments.{port_option, rate_option, sessions_option, timer_option};
+ghost use Rattle.rb_arguments.specs.Arguments.{AreTimerNames, attempts_option, calls_option, chains_flag, dashed};
+ghost use Rattle.rb_arguments.specs.Arguments.{delay_option, file_argument, flag, from_option, history_option, named_option};
+ghost use Rattle.rb_arguments.specs.Arguments.{number_option, number_option_or, port_option, rate_option, sessions_option, timer_option};
 ghost use Rattle.rb_arguments.specs.Arguments.{attentive_flag, greeting_option, silent_option, since_option, socket_option};
 ghost use Rattle.rb_arguments.specs.Arguments.{turns_option, until_input_ends_flag, workers_option};
 
@@ -22,9 +22,14 @@ pub(crate) fn calls_option<'a>(alloc: Global) -> Arg<'a>
     ensures rule { rule_of result ≡ calls_option }
     ensures local { result.global ≡ false }
 {
-    named(alloc, "calls", "N", "how many calls the run has room for")
-        .value_parser(ValueParser::Unsigned(1, MOST_CALLS))
-        .default_value("10000")
+    number_or(
+        alloc,
+        "calls",
+        "how many calls the run has room for",
+        1,
+        MOST_CALLS,
+        "10000",
+    )
 }
 
 /// `--timer T`
@@ -42,14 +47,14 @@ pub(crate) fn delay_option<'a>(alloc: Global) -> Arg<'a>
     ensures rule { rule_of result ≡ delay_option }
     ensures local { result.global ≡ false }
 {
-    named(
+    number_or(
         alloc,
         "delay",
-        "N",
         "nanoseconds from a failure until the job comes back, 1000000000 for a second",
+        0,
+        GREATEST_MOMENT,
+        "1000",
     )
-    .value_parser(ValueParser::Unsigned(0, GREATEST_MOMENT))
-    .default_value("1000")
 }
 
 /// `--rate N`, instead of a delay. clap is not told here that the two conflict: see `with_conflict`.
@@ -57,13 +62,13 @@ pub(crate) fn rate_option<'a>(alloc: Global) -> Arg<'a>
     ensures rule { rule_of result ≡ rate_option }
     ensures local { result.global ≡ false }
 {
-    named(
+    number(
         alloc,
         "rate",
-        "N",
         "nanoseconds between two attempts of a job, instead of a delay",
+        0,
+        GREATEST_MOMENT,
     )
-    .value_parser(ValueParser::Unsigned(0, GREATEST_MOMENT))
 }
 
 /// `--attempts N`
@@ -71,9 +76,14 @@ pub(crate) fn attempts_option<'a>(alloc: Global) -> Arg<'a>
     ensures rule { rule_of result ≡ attempts_option }
     ensures local { result.global ≡ false }
 {
-    named(alloc, "attempts", "N", "how many attempts a job has")
-        .value_parser(ValueParser::Unsigned(1, u64::from(GREATEST_ATTEMPT)))
-        .default_value("3")
+    number_or(
+        alloc,
+        "attempts",
+        "how many attempts a job has",
+        1,
+        u64::from(GREATEST_ATTEMPT),
+        "3",
+    )
 }
 
 /// `--history FILE`
@@ -117,14 +127,14 @@ pub(crate) fn workers_option<'a>(alloc: Global) -> Arg<'a>
     ensures rule { rule_of result ≡ workers_option }
     ensures local { result.global ≡ false }
 {
-    named(
+    number_or(
         alloc,
         "workers",
-        "N",
         "how many sessions are served at once",
+        1,
+        MOST_WORKERS,
+        "4",
     )
-    .value_parser(ValueParser::Unsigned(1, MOST_WORKERS))
-    .default_value("4")
 }
 
 /// `--sessions N`
@@ -132,14 +142,14 @@ pub(crate) fn sessions_option<'a>(alloc: Global) -> Arg<'a>
     ensures rule { rule_of result ≡ sessions_option }
     ensures local { result.global ≡ false }
 {
-    named(
+    number_or(
         alloc,
         "sessions",
-        "N",
         "how many sessions to serve before the server ends",
+        1,
+        MOST_SESSIONS,
+        "1",
     )
-    .value_parser(ValueParser::Unsigned(1, MOST_SESSIONS))
-    .default_value("1")
 }
 
 /// `--turns N`
@@ -147,14 +157,14 @@ pub(crate) fn turns_option<'a>(alloc: Global) -> Arg<'a>
     ensures rule { rule_of result ≡ turns_option }
     ensures local { result.global ≡ false }
 {
-    named(
+    number_or(
         alloc,
         "turns",
-        "N",
         "how many turns TAKE and POLLFOR wait before they answer STOPPED",
+        0,
+        MOST_TURNS,
+        "10000",
     )
-    .value_parser(ValueParser::Unsigned(0, MOST_TURNS))
-    .default_value("10000")
 }
 
 /// `--socket N`
@@ -162,13 +172,13 @@ pub(crate) fn socket_option<'a>(alloc: Global) -> Arg<'a>
     ensures rule { rule_of result ≡ socket_option }
     ensures local { result.global ≡ false }
 {
-    named(
+    number(
         alloc,
         "socket",
-        "N",
         "the descriptor of a listener at that port, which the server is handed",
+        LEAST_SOCKET,
+        GREATEST_SOCKET,
     )
-    .value_parser(ValueParser::Unsigned(LEAST_SOCKET, GREATEST_SOCKET))
 }
 
 /// `--until-input-ends`
@@ -176,10 +186,11 @@ pub(crate) fn until_input_ends_flag<'a>(alloc: Global) -> Arg<'a>
     ensures rule { rule_of result ≡ until_input_ends_flag }
     ensures local { result.global ≡ false }
 {
-    Arg::new(alloc, "until-input-ends")
-        .long("until-input-ends")
-        .help("drains when something comes on standard input, and ends when that ends")
-        .action(ArgAction::SetTrue)
+    flag(
+        alloc,
+        "until-input-ends",
+        "drains when something comes on standard input, and ends when that ends",
+    )
 }
 
 /// `--greeting LINE`
@@ -200,10 +211,11 @@ pub(crate) fn attentive_flag<'a>(alloc: Global) -> Arg<'a>
     ensures rule { rule_of result ≡ attentive_flag }
     ensures local { result.global ≡ false }
 {
-    Arg::new(alloc, "attentive")
-        .long("attentive")
-        .help("ends a wait whose client sends something or hangs up")
-        .action(ArgAction::SetTrue)
+    flag(
+        alloc,
+        "attentive",
+        "ends a wait whose client sends something or hangs up",
+    )
 }
 
 /// `--silent N`
@@ -211,13 +223,13 @@ pub(crate) fn silent_option<'a>(alloc: Global) -> Arg<'a>
     ensures rule { rule_of result ≡ silent_option }
     ensures local { result.global ≡ false }
 {
-    named(
+    number(
         alloc,
         "silent",
-        "N",
         "nanoseconds of silence after which a session is ended",
+        1,
+        GREATEST_MOMENT,
     )
-    .value_parser(ValueParser::Unsigned(1, GREATEST_MOMENT))
 }
 
 /// `--since N`
@@ -225,13 +237,13 @@ pub(crate) fn since_option<'a>(alloc: Global) -> Arg<'a>
     ensures rule { rule_of result ≡ since_option }
     ensures local { result.global ≡ false }
 {
-    named(
+    number(
         alloc,
         "since",
-        "N",
         "nanoseconds after the machine's start at which the moment is the opening's",
+        0,
+        GREATEST_MOMENT,
     )
-    .value_parser(ValueParser::Unsigned(0, GREATEST_MOMENT))
 }
 
 /// `--chains`
@@ -239,10 +251,7 @@ pub(crate) fn chains_flag<'a>(alloc: Global) -> Arg<'a>
     ensures rule { rule_of result ≡ chains_flag }
     ensures local { result.global ≡ false }
 {
-    Arg::new(alloc, "chains")
-        .long("chains")
-        .help("checks the retries too")
-        .action(ArgAction::SetTrue)
+    flag(alloc, "chains", "checks the retries too")
 }
 
 /// `FILE`
@@ -256,13 +265,55 @@ pub(crate) fn file_argument<'a>(alloc: Global) -> Arg<'a>
         .required(true)
 }
 
+// `--NAME N`, of a number in this range, and this number if it is not given.
+fn number_or<'a>(
+    alloc: Global,
+    name: &'static str,
+    help: &'static str,
+    least: u64,
+    most: u64,
+    default: &'static str,
+) -> Arg<'a>
+    ensures rule { rule_of result ≡ number_option_or name.now least most default.now }
+    ensures local { result.global ≡ false }
+{
+    number(alloc, name, help, least, most).default_value(default)
+}
+
+// `--NAME N`, of a number in this range.
+fn number<'a>(
+    alloc: Global,
+    name: &'static str,
+    help: &'static str,
+    least: u64,
+    most: u64,
+) -> Arg<'a>
+    ensures rule { rule_of result ≡ number_option name.now least most }
+    ensures local { result.global ≡ false }
+{
+    named(alloc, name, "N", help).value_parser(ValueParser::Unsigned(least, most))
+}
+
 // `--NAME VALUE`, of any value.
 fn named<'a>(alloc: Global, name: &'static str, value: &'static str, help: &'static str) -> Arg<'a>
     ensures rule { rule_of result ≡ named_option name.now }
     ensures local { result.global ≡ false }
 {
-    Arg::new(alloc, name)
-        .long(name)
-        .value_name(value)
-        .help(help)
+    dashed(alloc, name, help).value_name(value)
+}
+
+// `--NAME`, which is set or not.
+fn flag<'a>(alloc: Global, name: &'static str, help: &'static str) -> Arg<'a>
+    ensures rule { rule_of result ≡ flag name.now }
+    ensures local { result.global ≡ false }
+{
+    dashed(alloc, name, help).action(ArgAction::SetTrue)
+}
+
+// `--NAME`
+fn dashed<'a>(alloc: Global, name: &'static str, help: &'static str) -> Arg<'a>
+    ensures rule { rule_of result ≡ dashed name.now }
+    ensures local { result.global ≡ false }
+{
+    Arg::new(alloc, name).long(name).help(help)
 }
