@@ -57,7 +57,7 @@ pub(crate) fn delay_option<'a>(alloc: Global) -> Arg<'a>
     )
 }
 
-/// `--rate N`, instead of a delay. clap is not told here that the two conflict: see `with_conflict`.
+/// `--rate N`, instead of a delay. clap is not told here that the two conflict: see `rate`.
 pub(crate) fn rate_option<'a>(alloc: Global) -> Arg<'a>
     ensures rule { rule_of result ≡ rate_option }
     ensures local { result.global ≡ false }

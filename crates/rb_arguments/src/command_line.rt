@@ -4,9 +4,9 @@ ghost use Rattle.clap.specs.Words.{App, Row, Rule, Text, app_of, kind_of, rule_o
 ghost use Rattle.clap.specs.Words.{with_rule, with_subcommand};
 ghost use Rattle.rb_arguments.specs.LocalCommand.{IsLocal};
 ghost use Rattle.clap.specs.declared.error.kind.ErrorKind.TheVariants.{OutOfMemory};
-ghost use Rattle.rb_arguments.specs.Arguments.{AreTimerNames};
+ghost use Rattle.rb_arguments.specs.Arguments.{AreTimerNames, rate_option};
 ghost use Rattle.rb_arguments.specs.CommandLine.{Asks, SubcommandAsks, names_both, program, replay_command};
-ghost use Rattle.rb_arguments.specs.CommandLine.{script_command, serve_command, with_commands, with_policy};
+ghost use Rattle.rb_arguments.specs.CommandLine.{script_command, serve_command, with_policy};
 ghost use Rattle.rb_arguments.specs.CommandLine.{with_manners, with_queue, with_run};
 ghost use Rattle.rb_arguments.specs.Ranges.{AreInRange};
 ghost use Rattle.rb_arguments.specs.RightValues.{AreRightFor};
@@ -56,7 +56,7 @@ fn asked_if_right(alloc: Global, words: &[&str]) -> Result<Option<Words>, Error>
     ensures wrong { IfOk result (λ asked. IfNone asked (AreWrongWords (map (λ word. word.now) words.now))) }
     ensures fault { IfErr result (λ fault. kind_of fault ≡ OutOfMemory) }
 {
-    match program(alloc)?.try_get_matches_from(words) {
+    match program(alloc, false)?.try_get_matches_from(words) {
         Ok(matches) => Ok(asked_in(alloc, &matches)?),
         Err(fault) => match fault.kind() {
             ErrorKind::OutOfMemory => Err(fault),
@@ -77,30 +77,31 @@ fn asked_in(alloc: Global, matches: &ArgMatches<'_>) -> Result<Option<Words>, Al
     }
 }
 
-// The error for words that are refused. It shows help only if a word asks for it.
+// The error for words that are refused, in clap's own text. It shows help only if a word asks for it.
 fn refusal(alloc: Global, words: &[&str]) -> Result<Error, AllocError>
     ensures help { IfOk result (λ fault. ShowsHelp (kind_of fault) → AskForHelp (map (λ word. word.now) words.now)) }
 {
-    let fault = fault_of(alloc, words)?;
-    if fault.use_stderr() || ask_for_help(words) {
-        return Ok(fault);
+    let mut command = program(alloc, true)?;
+    refusal_of(&mut command, words)
+}
+
+// The error of this command for words that are refused. If clap takes them, it has no better text.
+fn refusal_of<'a>(command: &mut Command<'a>, words: &'a [&'a str]) -> Result<Error, AllocError>
+    ensures help { IfOk result (λ fault. ShowsHelp (kind_of fault) → AskForHelp (map (λ word. word.now) words.now)) }
+{
+    if let Err(fault) = command.try_get_matches_from_mut(words) {
+        if is_shown(&fault, words) {
+            return Ok(fault);
+        }
     }
-    let mut command = program(alloc)?;
     command.error(ErrorKind::InvalidValue, UNKNOWN)
 }
 
-// What is wrong with words that are refused, in clap's own text. It is that of a command whose delay and rate
-// conflict. `read_words` reads words without that rule, since clap's contracts say which words a command takes
-// only if none of its options has a rule on another.
-fn fault_of(alloc: Global, words: &[&str]) -> Result<Error, AllocError> {
-    let script = with_conflict(script_command(alloc));
-    let replay = with_conflict(replay_command(alloc));
-    let serve = with_conflict(serve_command(alloc));
-    let mut command = with_subcommands(alloc, script, replay, serve)?;
-    match command.try_get_matches_from_mut(words) {
-        Err(fault) => Ok(fault),
-        Ok(_) => command.error(ErrorKind::InvalidValue, UNKNOWN),
-    }
+// Whether an error is shown for these words: it is a mistake, or the help that they ask for.
+fn is_shown(fault: &Error, words: &[&str]) -> bool
+    ensures { IsTrue result → ShowsHelp (kind_of fault.now) → AskForHelp (map (λ word. word.now) words.now) }
+{
+    fault.use_stderr() || ask_for_help(words)
 }
 
 // Whether a word asks for help.
@@ -122,73 +123,50 @@ fn is_help(word: &str) -> bool
     word == "help" || word == "--help" || word.as_bytes().starts_with(b"-h")
 }
 
-// The command whose delay and rate conflict. An option that is changed moves behind all others, so the last
-// one is moved behind it again: help lists the options in this order.
-fn with_conflict<'a>(command: MadeCommand<'a>) -> MadeCommand<'a> {
-    command?
-        .mut_arg("rate", |rate| rate.conflicts_with("delay"))?
-        .mut_arg("attempts", |attempts| Ok(attempts))
-}
-
-// The program's command, with its subcommands.
-fn program<'a>(alloc: Global) -> MadeCommand<'a>
-    ensures { IfOk result (λ command. (scripted served : Bor (List (Bor (List ℕ)))) × AreTimerNames scripted
+// The program's command, with its subcommands. If `conflict`, clap is told that a delay and a rate conflict: its
+// text for refused words is of such a command. Words are judged by one that is not told, since clap's contracts say
+// which words a command takes only if none of its options has a rule on another.
+fn program<'a>(alloc: Global, conflict: bool) -> MadeCommand<'a>
+    ensures { conflict ≡ false → IfOk result (λ command. (scripted served : Bor (List (Bor (List ℕ)))) × AreTimerNames scripted
         × AreTimerNames served × (app_of command ≡ program scripted served)) }
-{
-    let script = script_command(alloc);
-    let replay = replay_command(alloc);
-    let serve = serve_command(alloc);
-    with_subcommands(alloc, script, replay, serve)
-}
-
-// The program's command, with these subcommands.
-fn with_subcommands<'a>(
-    alloc: Global,
-    script: MadeCommand<'a>,
-    replay: MadeCommand<'a>,
-    serve: MadeCommand<'a>,
-) -> MadeCommand<'a>
-    ensures { (first second third : App) → IsLocal first script.entry → IsLocal second replay.entry
-        → IsLocal third serve.entry → IfOk result (λ command. app_of command
-        ≡ with_commands first.top second.top third.top) }
 {
     let bare = Command::new(alloc, "rb_broker")
         .about("A broker for jobs that have to wait")
         .subcommand_required(true);
-    let scripts = with_subcommand(Ok(bare), script);
-    let replays = with_subcommand(scripts, replay);
-    with_subcommand(replays, serve)
+    let scripts = with_subcommand(bare, script_command(alloc, conflict))?;
+    let replays = with_subcommand(scripts, replay_command(alloc, conflict))?;
+    with_subcommand(replays, serve_command(alloc, conflict))
 }
 
 // The command with one more subcommand.
-fn with_subcommand<'a>(command: MadeCommand<'a>, subcommand: MadeCommand<'a>) -> MadeCommand<'a>
-    ensures { (app sub : App) → IfOk command.entry (λ narrow. app_of narrow ≡ app) → IsLocal sub subcommand.entry
+fn with_subcommand<'a>(command: Command<'a>, subcommand: MadeCommand<'a>) -> MadeCommand<'a>
+    ensures { (app sub : App) → app_of command.entry ≡ app → IsLocal sub subcommand.entry
         → IfOk result (λ wider. app_of wider ≡ with_subcommand app sub.top) }
 {
-    command?.subcommand(subcommand?)
+    command.subcommand(subcommand?)
 }
 
-fn script_command<'a>(alloc: Global) -> MadeCommand<'a>
-    ensures { (names : Bor (List (Bor (List ℕ)))) × AreTimerNames names × IsLocal (script_command names) result }
+fn script_command<'a>(alloc: Global, conflict: bool) -> MadeCommand<'a>
+    ensures { conflict ≡ false → (names : Bor (List (Bor (List ℕ)))) × AreTimerNames names × IsLocal (script_command names) result }
 {
     let plain = Command::new(alloc, "script").about(
         "Runs a script from standard input to standard output",
     );
     let queue = with_queue(alloc, Ok(plain));
-    with_run(alloc, queue)
+    with_run(alloc, queue, conflict)
 }
 
-fn replay_command<'a>(alloc: Global) -> MadeCommand<'a>
-    ensures { IsLocal replay_command result }
+fn replay_command<'a>(alloc: Global, conflict: bool) -> MadeCommand<'a>
+    ensures { conflict ≡ false → IsLocal replay_command result }
 {
     let plain = Command::new(alloc, "replay").about("Checks the history in a file");
     let file = with_option(Ok(plain), file_argument(alloc));
     let chains = with_option(file, chains_flag(alloc));
-    with_policy(alloc, chains)
+    with_policy(alloc, chains, conflict)
 }
 
-fn serve_command<'a>(alloc: Global) -> MadeCommand<'a>
-    ensures { (names : Bor (List (Bor (List ℕ)))) × AreTimerNames names × IsLocal (serve_command names) result }
+fn serve_command<'a>(alloc: Global, conflict: bool) -> MadeCommand<'a>
+    ensures { conflict ≡ false → (names : Bor (List (Bor (List ℕ)))) × AreTimerNames names × IsLocal (serve_command names) result }
 {
     let plain = Command::new(alloc, "serve").about("Serves clients over TCP on 127.0.0.1");
     let port = with_option(Ok(plain), port_option(alloc));
@@ -197,7 +175,7 @@ fn serve_command<'a>(alloc: Global) -> MadeCommand<'a>
     let sessions = with_option(workers, sessions_option(alloc));
     let turns = with_option(sessions, turns_option(alloc));
     let manners = with_manners(alloc, turns);
-    with_run(alloc, manners)
+    with_run(alloc, manners, conflict)
 }
 
 // The command with the options of a server that is attended, and of how it treats its clients.
@@ -222,21 +200,33 @@ fn with_queue<'a>(alloc: Global, command: MadeCommand<'a>) -> MadeCommand<'a>
 }
 
 // The command with the options of what a run leaves and continues, and with those of a policy.
-fn with_run<'a>(alloc: Global, command: MadeCommand<'a>) -> MadeCommand<'a>
-    ensures { (app : App) → IsLocal app command.entry → IsLocal (with_run app) result }
+fn with_run<'a>(alloc: Global, command: MadeCommand<'a>, conflict: bool) -> MadeCommand<'a>
+    ensures { conflict ≡ false → (app : App) → IsLocal app command.entry → IsLocal (with_run app) result }
 {
     let history = with_option(command, history_option(alloc));
     let from = with_option(history, from_option(alloc));
-    with_policy(alloc, from)
+    with_policy(alloc, from, conflict)
 }
 
 // The command with the options of a policy.
-fn with_policy<'a>(alloc: Global, command: MadeCommand<'a>) -> MadeCommand<'a>
-    ensures { (app : App) → IsLocal app command.entry → IsLocal (with_policy app) result }
+fn with_policy<'a>(alloc: Global, command: MadeCommand<'a>, conflict: bool) -> MadeCommand<'a>
+    ensures { conflict ≡ false → (app : App) → IsLocal app command.entry → IsLocal (with_policy app) result }
 {
     let delay = with_option(command, delay_option(alloc));
-    let rate = with_option(delay, rate_option(alloc));
+    let rate = with_option(delay, rate(alloc, conflict)?);
     with_option(rate, attempts_option(alloc))
+}
+
+// The option of a rate. If `conflict`, clap refuses it beside a delay.
+fn rate<'a>(alloc: Global, conflict: bool) -> Result<Arg<'a>, AllocError>
+    ensures rule { conflict ≡ false → IfOk result (λ rate. rule_of rate ≡ rate_option) }
+    ensures local { IfOk result (λ rate. rate.global ≡ false) }
+{
+    let rate = rate_option(alloc);
+    if conflict {
+        return rate.conflicts_with("delay");
+    }
+    Ok(rate)
 }
 
 // The command with one more option, which belongs to this command alone.

@@ -4,7 +4,7 @@ use Rattle.clap.specs.Words.{Text, kind_of}
 use Rattle.clap.specs.declared.error.Error.{Error}
 use Rattle.clap.specs.declared.error.kind.ErrorKind.TheVariants.{InvalidValue}
 use Rattle.rb_arguments.specs.RightWords.{AskForHelp, ShowsHelp}
-use Rattle.rb_arguments.proofs.command_line.refusal.Goals as goal
+use Rattle.rb_arguments.proofs.command_line.refusal_of.Goals as goal
 
 no_help : {E : Type 0} (words : List Text) (result : Result Error E) → IfOk result (λ fault. kind_of fault ≡ InvalidValue)
     → IfOk result (λ fault. ShowsHelp (kind_of fault) → AskForHelp words)
