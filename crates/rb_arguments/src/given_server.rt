@@ -1,11 +1,12 @@
 ghost use Rattle.std.specs.Prelude.{◌≡◌, ◌≤◌, ◌↔◌, IfOk, IsSome, IsTrue, IfSome, codes};
 ghost use Rattle.clap.specs.Words.{first_of, one_of};
-ghost use Rattle.rb_delayed.specs.declared.moment.TheConstants.{GREATEST_MOMENT};
 ghost use Rattle.rb_options.specs.declared.serve_options.TheConstants.{GREATEST_SOCKET, LEAST_SOCKET};
 ghost use Rattle.rb_arguments.specs.CommandLine.{GivesServeOptions, GivesServerRun, IsAskedBy, given_rows, number_in};
 ghost use Rattle.rb_arguments.specs.RightValues.{AreServerRunValues, AreServerValues, IsGreeting, MayHaveNumberWithin};
 
-use crate::given_values::{first, given_policy, has_value, is_set, number_within, text, timer};
+use crate::given_values::{
+    first, given_policy, has_value, is_set, number_within, optional_number_within, text, timer,
+};
 use crate::words::Words;
 use clap::ArgMatches;
 use rb_delayed::GREATEST_MOMENT;
@@ -66,8 +67,8 @@ fn serve_options(given: &ArgMatches<'_>) -> Option<ServeOptions>
     let sessions = number_within(given, "sessions", 1, MOST_SESSIONS)?;
     let turns = number_within(given, "turns", 0, MOST_TURNS)?;
     let socket = socket(given)?;
-    let silent = silent(given)?;
-    let since = since(given)?;
+    let silent = optional_number_within(given, "silent", 1, GREATEST_MOMENT)?;
+    let since = optional_number_within(given, "since", 0, GREATEST_MOMENT)?;
     let run = run_options(given)?;
     Some(ServeOptions {
         port,
@@ -94,30 +95,6 @@ fn socket(given: &ArgMatches<'_>) -> Option<Option<u16>>
     }
     let socket = number_within(given, "socket", LEAST_SOCKET, GREATEST_SOCKET)?;
     Some(Some(u16::try_from(socket).ok()?))
-}
-
-// After how many nanoseconds of silence a session is ended, if it is. `None` if their number is out of its range.
-fn silent(given: &ArgMatches<'_>) -> Option<Option<u64>>
-    ensures given { IfSome result (λ silent. number_in (one_of (codes "silent") (given_rows given.now)) ≡ silent) }
-    ensures range { IfSome result (λ silent. IfSome silent (λ silent. 1 ≤ silent)) }
-    ensures taken { MayHaveNumberWithin 1 GREATEST_MOMENT (codes "silent") (given_rows given.now) → IsSome result }
-{
-    if !has_value(given, "silent") {
-        return Some(None);
-    }
-    Some(Some(number_within(given, "silent", 1, GREATEST_MOMENT)?))
-}
-
-// At how many nanoseconds after the machine's start the moment is the opening's, if that is said. `None` if their number
-// is out of its range.
-fn since(given: &ArgMatches<'_>) -> Option<Option<u64>>
-    ensures given { IfSome result (λ since. number_in (one_of (codes "since") (given_rows given.now)) ≡ since) }
-    ensures taken { MayHaveNumberWithin 0 GREATEST_MOMENT (codes "since") (given_rows given.now) → IsSome result }
-{
-    if !has_value(given, "since") {
-        return Some(None);
-    }
-    Some(Some(number_within(given, "since", 0, GREATEST_MOMENT)?))
 }
 
 // The options of the server's run.

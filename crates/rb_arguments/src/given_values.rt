@@ -7,7 +7,7 @@ ghost use Rattle.rb_delayed.specs.declared.moment.TheConstants.{GREATEST_MOMENT}
 ghost use Rattle.rb_retry.specs.Retry.{AreAttempts};
 ghost use Rattle.rb_arguments.specs.CommandLine.{GivesPolicy, HasNumberWithin, HasPace, given_pace, given_rows};
 ghost use Rattle.rb_arguments.specs.CommandLine.{number_in};
-ghost use Rattle.rb_arguments.specs.RightValues.{HasPolicy, NamesTimer};
+ghost use Rattle.rb_arguments.specs.RightValues.{HasPolicy, MayHaveNumberWithin, NamesTimer};
 ghost use Rattle.rb_options.specs.TimerKind.{timer_name};
 
 use clap::ArgMatches;
@@ -96,6 +96,23 @@ pub(crate) fn number_within(given: &ArgMatches<'_>, id: &str, least: u64, most: 
         return None;
     }
     Some(number)
+}
+
+/// The number that an option's value spells, if it has a value. `None` if the number is not within this range.
+pub(crate) fn optional_number_within(
+    given: &ArgMatches<'_>,
+    id: &str,
+    least: u64,
+    most: u64,
+) -> Option<Option<u64>>
+    ensures number { IfSome result (λ number. number_in (one_of id.now (given_rows given.now)) ≡ number) }
+    ensures range { IfSome result (λ number. IfSome number (λ number. (least ≤ number) × (number ≤ most))) }
+    ensures taken { MayHaveNumberWithin least most id.now (given_rows given.now) → IsSome result }
+{
+    if !has_value(given, id) {
+        return Some(None);
+    }
+    Some(Some(number_within(given, id, least, most)?))
 }
 
 // The number that an option's value spells.
