@@ -3,3 +3,4 @@ pub mod ServedVisits
 pub mod FoldedWorkers
 pub mod ServedRuns
 pub mod AllServed
+pub mod TcpEntrances

@@ -1,4 +1,4 @@
-ghost use Rattle.std.specs.Prelude.{◌≡◌};
+ghost use Rattle.std.specs.Prelude.{◌≡◌, Some};
 ghost use Rattle.std.specs.List.{All};
 ghost use Rattle.rb_serving.specs.TcpSteps.{ShowsStep, ShowsStepSomewhere};
 
@@ -34,6 +34,16 @@ impl<'a, L> TcpDoor<'a, L> {
     }
 }
 
+impl<'a, L> TcpEntrance<'a, L> {
+    // Has no more visits, for this reason.
+    fn end(&mut self, why: NoMore<'a>)
+        ensures door { self.new.door ≡ self.old.door }
+        ensures why { self.new.no_more ≡ Some why.entry }
+    {
+        self.no_more = Some(why);
+    }
+}
+
 impl<'a, L: Listener> Door for TcpEntrance<'a, L>
 where
     L::Reader: Send,
@@ -66,7 +76,7 @@ where
         match self.door.answer(rt, asked) {
             Ok(answer) => Some(answer),
             Err(why) => {
-                self.no_more = Some(why);
+                self.end(why);
                 None
             }
         }
