@@ -1,4 +1,4 @@
-ghost use Rattle.std.specs.Prelude.{◌≡◌, ◌<◌, Ok, Err, OnErr, OnOk, IfErr, IfOk};
+ghost use Rattle.std.specs.Prelude.{◌≡◌, ◌<◌, OnErr, OnOk, IfErr, IfOk};
 ghost use Rattle.rb_ending.specs.declared.broker_fault.BrokerFault.TheVariants.{Listen};
 ghost use Rattle.rb_serving.specs.TcpReasons.{IsNoMore, ShowsDrain};
 ghost use Rattle.rb_serving.specs.TcpSteps.{IsClient, IsAsked};
@@ -184,25 +184,13 @@ impl<'a, L: Listener> TcpDoor<'a, L> {
             return Err(NoMore::UsedUp);
         }
         match self.accept(rt) {
-            Ok(accepted) => {
-                if accepted.is_err() {
-                    thread::sleep(rt, Duration::from_millis(PAUSE));
-                }
-                answer_of(accepted)
+            Ok(Ok(visit)) => Ok(Ok(visit)),
+            Ok(Err(_)) => {
+                thread::sleep(rt, Duration::from_millis(PAUSE));
+                Ok(Err(DoorFault))
             }
             Err(token) => Err(NoMore::Drains(token)),
         }
-    }
-}
-
-// What a worker is told of a client that came: never that no more will come.
-fn answer_of<'a, V: Drop>(accepted: io::Result<V>) -> Result<Result<V, DoorFault>, NoMore<'a>>
-    ensures let_in { IfOk accepted (λ visit. result ≡ Ok (Ok visit)) }
-    ensures turned_away { OnErr accepted ((fault : DoorFault) × (result ≡ Ok (Err fault))) }
-{
-    match accepted {
-        Ok(visit) => Ok(Ok(visit)),
-        Err(_) => Ok(Err(DoorFault)),
     }
 }
 
