@@ -1,3 +1,4 @@
+ghost use Rattle.std.specs.Prelude.{IfSome};
 ghost use Rattle.std.specs.Io.{ReadsAtMost};
 
 use crate::ending::{Ending, InputRead, shown_drain};
@@ -67,19 +68,27 @@ impl<'a, S: Incoming> TcpReader<'a, S> {
         }
     }
 
+    // What the client has sent, or that nothing more is read; none if it is still waited for.
+    fn look(&mut self, buf: &mut [u8], ending: Option<&'a Ending>) -> Option<io::Result<usize>>
+        ensures { IfSome result (λ came. ReadsAtMost came buf.new) }
+    {
+        match self.stance(ending) {
+            Stance::Waits => match self.stream.read(buf) {
+                Err(fault) if is_timeout(&fault) => None,
+                came => Some(came),
+            },
+            Stance::Takes(_) => Some(self.stream.read_at_once(buf)),
+            Stance::IsOver(_) => Some(Ok(0)),
+        }
+    }
+
     fn read_patiently(&mut self, buf: &mut [u8], patience: Patience<'a>) -> io::Result<usize>
         ensures { ReadsAtMost result buf.new }
     {
         let begun = patience.clock.now();
         for _ in 0..u64::MAX {
-            match self.stance(patience.ending) {
-                Stance::Waits => {}
-                Stance::Takes(_) => return self.stream.read_at_once(buf),
-                Stance::IsOver(_) => return Ok(0),
-            }
-            match self.stream.read(buf) {
-                Err(fault) if is_timeout(&fault) => {}
-                came => return came,
+            if let Some(came) = self.look(buf, patience.ending) {
+                return came;
             }
             if patience.is_over_since(begun) {
                 break;
