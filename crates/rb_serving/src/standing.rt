@@ -1,7 +1,7 @@
 use std::sync::atomic::{AtomicBool, Ordering};
 
 /// How a session stands, as it last said: whether it holds jobs, and whether bytes that it has read are not served yet.
-#[derive(Debug, Drop)]
+#[derive(Drop)]
 pub(crate) struct Standing {
     holds: AtomicBool,
     has_more: AtomicBool,

@@ -5,7 +5,7 @@ ghost use Rattle.rb_session.specs.Served.{lost_in};
 use rb_session::{Ended, SessionFault};
 
 /// The counts of visits, each at most 2^64 - 1.
-#[derive(Clone, Copy, Debug, Default, PartialEq, Eq)]
+#[derive(Clone, Copy, Default)]
 pub(crate) struct VisitCounts {
     /// How many visits there were.
     pub(crate) sessions: u64,
