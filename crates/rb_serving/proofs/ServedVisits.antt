@@ -1,13 +1,16 @@
 -- Visits that were served, one after the other, and their counts.
-use Rattle.std.proofs.Common.{◌≡◌, ℕ, List, [], ◌∷◌, ◌++◌, Option, None, Some, refl, subst}
-use Rattle.std.proofs.Common.{ap₂, ◌∙◌, arith, length-append, append_assoc}
+use Rattle.std.proofs.Common.{◌≡◌, ℕ, List, [], ◌∷◌, ◌++◌, Option, None, Some, Result, refl, sym, subst}
+use Rattle.std.proofs.Common.{ap, ap₂, ◌∙◌, arith, length-append, append_assoc}
 use Rattle.std.proofs.lemmas.List.Sums.{sum_by-append, sum_by_push}
 use Rattle.rb_queue.specs.declared.opening.Opening.{Opening}
 use Rattle.rb_lock.specs.Passes.{PassState, record_of}
 use Rattle.rb_lock.specs.declared.pass_record.PassRecord.{PassRecord}
 use Rattle.rb_session.specs.Served.{Served}
+use Rattle.rb_session.specs.declared.ended.Ended.{Ended}
+use Rattle.rb_session.specs.declared.session_fault.SessionFault.{SessionFault}
+use Rattle.rb_serving.specs.Serving.{IsWorked}
 use Rattle.rb_serving.specs.Terms.{Terms}
-use Rattle.rb_serving.specs.VisitCounts.{both_counts}
+use Rattle.rb_serving.specs.VisitCounts.{both_counts, ended_visit}
 use Rattle.rb_serving.specs.DoorSteps.{DoorStep, Sees, LetIn, TurnedAway, Left}
 use Rattle.rb_serving.specs.Visits.{AreVisits, IsWorker, AreWorkers, counts_at, counts_of}
 use Rattle.rb_serving.specs.declared.visit_counts.VisitCounts.{VisitCounts}
@@ -36,6 +39,22 @@ counts_more visits visit = same_counts _ _
     (omega (arith, length-append visits (visit ∷ []), one_session visit))
     (omega (arith, sum_by_push (λ one. (counts_at one).faults) visits visit))
     (omega (arith, sum_by_push (λ one. (counts_at one).lost) visits visit))
+
+-- the pass called for visitors, and then for more of them
+pub worked_on : (old mid new : PassState) → IsWorked old mid → IsWorked mid new → IsWorked old new
+worked_on old mid new first then = record {
+  table = then.table ∙ first.table;
+  name = then.name ∙ first.name;
+  parts = then.parts ∙ first.parts;
+  folded = then.folded ∙ first.folded;
+  capacity = then.capacity ∙ first.capacity;
+  opening = then.opening ∙ first.opening;
+}
+
+-- a session that ended so counts as one visit
+pub counts_session : (visit counted : VisitCounts) (ended : Result Ended SessionFault) (served : Served) → visit ≡ counted
+    → counted ≡ ended_visit ended → served.ended ≡ ended → visit ≡ counts_at (Some served)
+counts_session visit counted ended served is counts same = is ∙ counts ∙ ap ended_visit (sym same)
 
 module _ {I O G C : Type 0} (terms : Terms I O G C) where
   -- some visits were served at an entrance, and then others

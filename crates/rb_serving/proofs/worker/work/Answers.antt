@@ -1,55 +1,40 @@
 -- One visitor more came, and is counted with those before; or the door had no more.
-use Rattle.std.proofs.Common.{rules, None, Some, [], ◌∷◌, ◌++◌, refl, sym, ap, ◌∙◌}
+use Rattle.std.proofs.Common.{rules, None, Some, [], ◌∷◌, ◌++◌, refl, ◌∙◌}
 use Rattle.rb_serving.specs.DoorSteps.{Sees, LetIn, TurnedAway, NoMore, Left}
 use Rattle.rb_serving.specs.Terms.{service_terms}
-use Rattle.rb_serving.specs.VisitCounts.{ended_visit}
-use Rattle.rb_serving.proofs.ServedVisits.{seen_both, works_more}
+use Rattle.rb_serving.proofs.ServedVisits.{counts_session, seen_both, worked_on, works_more}
 use Rattle.rb_serving.proofs.worker.work.Goals as goal
 use Rattle.rb_serving.proofs.worker.work.Goals.{in-Some-Err, in-Some-Ok, in-None, in-Some+in-None-next}
 
 pub loop-preserved : goal.loop-preserved
-loop-preserved g c = record {
-  worked =
-      let before = c.loop.invariant.worked in elim c.match-this.branch [
-        | in-Some-Err w ↦ rw w.pass-is before
-        | in-Some-Ok w ↦
-            let worked = w.serve_visit-ended.ensures.worked in
-            rw w.pass-is (record {
-              table = worked.table ∙ before.table;
-              name = worked.name ∙ before.name;
-              parts = worked.parts ∙ before.parts;
-              folded = worked.folded ∙ before.folded;
-              capacity = worked.capacity ∙ before.capacity;
-              opening = worked.opening ∙ before.opening;
-            })
-      ];
-  ready = elim c.match-this.branch [
-    | in-Some-Err w ↦ rw (w.pass-is, w.door-is) (let ready = c.next-in-loop.ensures.still_ready in search rules)
-    | in-Some-Ok w ↦ rw (w.pass-is, w.door-is) w.serve_visit-ended.ensures.ready
-  ];
-  visits =
-      let terms =
-      service_terms g.D.Reader.Read g.D.Writer.Recipient g.D.Gate.Gate g.C.Clock c.args.service.now in
-      let before = c.loop.invariant.visits in elim c.match-this.branch [
-        | in-Some-Err w ↦ rw (w.pass-is, w.door-is)
-            (works_more terms g.D.Door.has_seen c.loop.door c.next-in-loop.new.self c.args.pass c.loop.pass c.loop.pass
-            c.loop.counts c.match-this.visit c.with-counts.result (TurnedAway ∷ []) None before
+loop-preserved g c =
+    let terms =
+    service_terms g.D.Reader.Read g.D.Writer.Recipient g.D.Gate.Gate g.C.Clock c.args.service.now in
+    let before = c.loop.invariant in elim c.match-this.branch [
+      | in-Some-Err w ↦ rw (w.pass-is, w.door-is) (record {
+        worked = before.worked;
+        ready = (let ready = c.next-in-loop.ensures.still_ready in search rules);
+        visits = works_more terms g.D.Door.has_seen c.loop.door c.next-in-loop.new.self c.args.pass c.loop.pass c.loop.pass
+            c.loop.counts c.match-this.visit c.with-counts.result (TurnedAway ∷ []) None before.visits
             (let away = c.next-in-loop.ensures.turned_away in search rules) refl
-            (w.visit-is ∙ w.of_refusal-visit.ensures) c.with-counts.ensures)
-        | in-Some-Ok w ↦
-            let done = w.serve_visit-ended in
-            let ran = done.ensures.ran in
-            let left = ran.2 in
-            rw (w.pass-is, w.door-is)
-            (works_more terms g.D.Door.has_seen c.loop.door done.new.door c.args.pass c.loop.pass done.new.pass
-            c.loop.counts c.match-this.visit c.with-counts.result (LetIn _ ∷ Left left.reader left.status left.writer ∷ [])
-            (Some ran.0) before
-            (seen_both terms g.D.Door.has_seen c.loop.door c.next-in-loop.new.self done.new.door (LetIn _)
-            (Left left.reader left.status left.writer) (let lets = c.next-in-loop.ensures.let_in in search rules) left.left)
-            (done.new.pass, left.ran, refl)
-            (w.visit-is ∙ w.of_session-visit.ensures ∙ ap ended_visit (sym ran.1)) c.with-counts.ensures)
-      ];
-}
+            (w.visit-is ∙ w.of_refusal-visit.ensures) c.with-counts.ensures;
+      })
+      | in-Some-Ok w ↦
+          let done = w.serve_visit-ended in
+          let ran = done.ensures.ran in
+          let left = ran.2 in
+          rw (w.pass-is, w.door-is) (record {
+            worked = worked_on c.args.pass c.loop.pass done.new.pass before.worked done.ensures.worked;
+            ready = done.ensures.ready;
+            visits = works_more terms g.D.Door.has_seen c.loop.door done.new.door c.args.pass c.loop.pass done.new.pass
+                c.loop.counts c.match-this.visit c.with-counts.result (LetIn _ ∷ Left left.reader left.status left.writer ∷ [])
+                (Some ran.0) before.visits
+                (seen_both terms g.D.Door.has_seen c.loop.door c.next-in-loop.new.self done.new.door (LetIn _)
+                (Left left.reader left.status left.writer) (let lets = c.next-in-loop.ensures.let_in in search rules) left.left)
+                (done.new.pass, left.ran, refl)
+                (counts_session c.match-this.visit w.of_session-visit.result done.result ran.0 w.visit-is w.of_session-visit.ensures ran.1) c.with-counts.ensures;
+          })
+    ]
 
 pub returns-clause-worked : goal.returns-clause-worked
 returns-clause-worked g c =
