@@ -1,4 +1,5 @@
 -- The lemmas of this crate: visits that were served, and passes of workers that are folded into the first.
+pub mod RanVisits
 pub mod ServedVisits
 pub mod FoldedWorkers
 pub mod ServedRuns
