@@ -4,6 +4,7 @@
 //! A door is where visits come from: the clients of a TCP listener, or what a test provides.
 #![tactic(auto)]
 
+mod beginning;
 mod connection;
 mod decision;
 mod door;

@@ -6,7 +6,8 @@ ghost use Rattle.rb_serving.specs.Serving.{EndsRecorded, IsOpened, IsReport, IsS
 ghost use Rattle.rb_serving.specs.Terms.{terms_of};
 ghost use Rattle.rb_serving.specs.Visits.{Satisfies};
 
-use crate::decision::{Decider, Deciding};
+use crate::beginning::Recording;
+use crate::decision::{Decided, Decider, Deciding};
 use crate::door::Door;
 use crate::serve_report::ServeReport;
 use crate::served_queue::ServedQueue;
@@ -196,11 +197,11 @@ where
         delivery,
     };
     let decider = Decider::new(blank);
-    let (door, recorder, served) = serve_all::<L, T, D, C, B, R>(
+    let start = Recording { decider, recorder };
+    let (door, recorder, served) = serve_all::<T, D, C, Decided<L, B::Begun>, Recording<L, B>, R>(
         rt,
         &service,
-        decider,
-        recorder,
+        start,
         door,
         pass,
         options.workers,

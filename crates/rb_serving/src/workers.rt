@@ -1,22 +1,23 @@
-ghost use Rattle.std.specs.Prelude.{◌≡◌, ◌<◌, ◌≤◌, ℕ, [], List, true, false, is_some, is_ok, IfOk, OnErr, MatchResult};
+ghost use Rattle.std.specs.Prelude.{◌≡◌, ◌≤◌, ℕ, [], List, true, false, is_ok, IfErr, IfOk, OnErr, MatchResult};
 ghost use Rattle.rb_serving.specs.DoorSteps.{DoorStep, Gathers};
-ghost use Rattle.rb_serving.specs.Serving.{EndsRecorded, GathersWorkers, IsWorkerResult};
+ghost use Rattle.rb_serving.specs.Serving.{GathersWorkers, IsWorkerResult};
 ghost use Rattle.rb_serving.specs.Terms.{service_terms};
 ghost use Rattle.rb_serving.specs.Visits.{IsUnused, Satisfies};
 
-use crate::decision::{Decided, Decider, Deciding, Decision};
+use crate::beginning::Begin;
+use crate::decision::Decision;
 use crate::door::Door;
 use crate::service::Service;
 use crate::visit_counts::VisitCounts;
 use crate::worker::work_with_all;
 use rb_blocking::Clock;
-use rb_ending::{BrokerFault, Recorder};
+use rb_ending::BrokerFault;
 use rb_lock::Pass;
 use rb_protocol::Recipient;
 use rb_timer::Timer;
 use std::snapshot::Snapshot;
-use std::sync::{OnceLock, OnceToken, Wait};
-use std::thread::{Promise, Scope, Threads};
+use std::sync::{OnceToken, Wait};
+use std::thread::{Promise, PromisedHandle, Scope, Threads};
 use std::{thread, time};
 
 // What a worker's thread gives: its pass, which served visits of this service at an entrance and nothing else, their
@@ -46,29 +47,27 @@ where
 
 /// Runs this many workers at once, and folds the pass of each into this one.
 ///
-/// Each has a pass and an entrance of its own, split off these. Once all have been started, the recorder begins, and
-/// then they serve. If one can't be started, or the recorder can't begin, those that were started leave without having
-/// served, and it waits for them: nothing happened at any entrance then.
+/// Each has a pass and an entrance of its own, split off these. Once all have been started, it begins, and then they
+/// serve. If one can't be started, or it can't begin, those that were started leave without having served, and it waits
+/// for them: nothing happened at any entrance then.
 pub(crate) fn serve_all<
-    L: Deciding + Send + Sync,
     T: Timer + Send,
     D: Door + Drop + Send,
     C: Clock + Sync,
-    B: Recorder + Drop,
+    V: Decision + Send + Sync,
+    S: Begin<V> + Drop,
     R: Threads + Wait + time::Clock + Sync,
 >(
     rt: &R,
-    service: &Service<'_, T, C, Decided<L, B::Begun>>,
-    decider: Decider<L>,
-    recorder: B,
+    service: &Service<'_, T, C, V>,
+    start: S,
     door: D,
     pass: Pass<T>,
     count: u64,
-) -> (D, B, Result<(Pass<T>, VisitCounts), BrokerFault>)
+) -> (D, S::Rest, Result<(Pass<T>, VisitCounts), BrokerFault>)
 where
     D::Writer: Recipient<Pass<T>>,
-    requires all { L.all ≡ L.parts }
-    requires some { 0 < L.all }
+    requires decides { S.may_decide }
     requires pass { pass.table ≡ service.now.shared.now }
     requires splits { (least : ℕ) × D.may_split door count least × (least ≤ pass.noted) }
     requires honest { Satisfies
@@ -77,28 +76,23 @@ where
         (service_terms D.Reader.Read D.Writer.Recipient D.Gate.Gate C.Clock service.now)
         D.has_joined count door pass result.0 served.0 served.1) }
     ensures unused { OnErr result.2 (Gathers D.has_joined door [] result.0) }
-    ensures recorder { MatchResult result.2 (λ _. B.has_begun recorder result.1)
-        (EndsRecorded B.has_failed recorder result.1) }
+    ensures began { MatchResult result.2 (λ _. S.has_begun start result.1) (S.has_failed start result.1) }
 {
     thread::scope(
         thread::scope_env(),
         rt,
-        move |scope| -> (D, B, Result<(Pass<T>, VisitCounts), BrokerFault>)
-            requires { (L.all ≡ L.parts) × (0 < L.all) × (pass.table ≡ service.now.shared.now)
+        move |scope| -> (D, S::Rest, Result<(Pass<T>, VisitCounts), BrokerFault>)
+            requires { S.may_decide × (pass.table ≡ service.now.shared.now)
                 × ((least : ℕ) × D.may_split door count least × (least ≤ pass.noted)) × Satisfies
                 (service_terms D.Reader.Read D.Writer.Recipient D.Gate.Gate C.Clock service.now) D.awaits D.demands }
             ensures { IfOk result.2 (λ served. GathersWorkers
                 (service_terms D.Reader.Read D.Writer.Recipient D.Gate.Gate C.Clock service.entry.now)
                 D.has_joined count door pass result.0 served.0 served.1)
                 × OnErr result.2 (Gathers D.has_joined door [] result.0)
-                × MatchResult result.2 (λ _. B.has_begun recorder result.1)
-                (EndsRecorded B.has_failed recorder result.1) }
+                × MatchResult result.2 (λ _. S.has_begun start result.1) (S.has_failed start result.1) }
         {
-            let mut begun = recorder;
-            let (door, served, _) = start_all(
-                rt, scope, service, decider, &mut begun, door, pass, count,
-            );
-            (door, begun, served)
+            let (door, rest, served, _) = start_all(rt, scope, service, start, door, pass, count);
+            (door, rest, served)
         },
     )
 }
@@ -107,88 +101,65 @@ where
 fn start_all<
     's,
     E,
-    L: Deciding + Send + Sync + 's,
     T: Timer + Send + 's,
     D: Door + Drop + Send + 's,
     C: Clock + Sync + 's,
-    B: Recorder + 's,
+    V: Decision + Send + Sync + 's,
+    S: Begin<V>,
     R: Threads + Wait + time::Clock + Sync + 's,
 >(
     rt: &'s R,
     scope: &'s Scope<'s, E>,
-    service: &'s Service<'s, T, C, Decided<L, B::Begun>>,
-    decider: Decider<L>,
-    recorder: &mut B,
+    service: &'s Service<'s, T, C, V>,
+    start: S,
     mut door: D,
     mut pass: Pass<T>,
     count: u64,
 ) -> (
     D,
+    S::Rest,
     Result<(Pass<T>, VisitCounts), BrokerFault>,
-    OnceToken<'s, Decided<L, B::Begun>>,
+    OnceToken<'s, V>,
 )
 where
     D::Writer: Recipient<Pass<T>>,
-    requires all { L.all ≡ L.parts }
-    requires some { 0 < L.all }
+    requires decides { S.may_decide }
     requires pass { pass.table ≡ service.now.shared.now }
     requires splits { (least : ℕ) × D.may_split door count least × (least ≤ pass.noted) }
     requires honest { Satisfies
         (service_terms D.Reader.Read D.Writer.Recipient D.Gate.Gate C.Clock service.now) D.awaits D.demands }
-    ensures folds { IfOk result.1 (λ served. GathersWorkers
+    ensures folds { IfOk result.2 (λ served. GathersWorkers
         (service_terms D.Reader.Read D.Writer.Recipient D.Gate.Gate C.Clock service.now)
         D.has_joined count door pass result.0 served.0 served.1) }
-    ensures unused { OnErr result.1 (Gathers D.has_joined door [] result.0) }
-    ensures token { result.2.of ≡ service.now.serves.now.id }
-    ensures serve { is_some result.2.value.begun ≡ is_ok result.1 }
-    ensures recorder { MatchResult result.1 (λ _. B.has_begun recorder.old recorder.new)
-        (EndsRecorded B.has_failed recorder.old recorder.new) }
+    ensures unused { OnErr result.2 (Gathers D.has_joined door [] result.0) }
+    ensures token { result.3.of ≡ service.now.serves.now.id }
+    ensures serve { V.serves result.3.value ≡ is_ok result.2 }
+    ensures began { MatchResult result.2 (λ _. S.has_begun start result.1) (S.has_failed start result.1) }
 {
     if count == 0 {
-        let (begun, token) = let_serve(rt, decider, service.serves, recorder);
+        let (begun, token, rest) = start.begin(rt, service.serves);
         if let Err(fault) = begun {
-            return (door, Err(fault), token);
+            return (door, rest, Err(fault), token);
         }
-        return (door, Ok((pass, VisitCounts::default())), token);
+        return (door, rest, Ok((pass, VisitCounts::default())), token);
     }
     let Ok(child) = service.shared.split(rt, &mut pass) else {
-        let token = decider.decide(rt, service.serves, None);
-        return (door, Err(BrokerFault::Worker), token);
+        let (token, rest) = start.give_up(rt, service.serves);
+        return (door, rest, Err(BrokerFault::Worker), token);
     };
     let entrance = door.split(&child);
-    let start = Snapshot::of(&child);
-    let promise = OfWorker { service, start };
-    let started = match scope.spawn_with(
-        promise,
-        move || -> (Pass<T>, VisitCounts, D, OnceToken<'_, Decided<L, B::Begun>>)
-            requires { (child.table ≡ service.now.shared.now) × IsUnused child × D.has_seen entrance []
-                × D.is_ready entrance child × Satisfies
-                (service_terms D.Reader.Read D.Writer.Recipient D.Gate.Gate C.Clock service.now) D.awaits D.demands }
-            ensures { (result.0.table ≡ service.entry.now.shared.now) × (result.0.parts ≡ child.parts)
-                × (result.3.of ≡ service.entry.now.serves.now.id)
-                × (is_some result.3.value.begun ≡ true → (log : List (DoorStep D.Reader D.Writer D.Gate)) × D.has_seen result.2 log
-                × IsWorkerResult
-                (service_terms D.Reader.Read D.Writer.Recipient D.Gate.Gate C.Clock service.entry.now)
-                child.capacity child.opening log result.0 result.1)
-                × (is_some result.3.value.begun ≡ false → (result.0 ≡ child) × D.has_seen result.2 []) }
-        { work_with_all(rt, service, entrance, child) },
-    ) {
+    let (started, start) = match start_worker(rt, scope, service, start, entrance, child) {
         Ok(started) => started,
-        Err(refused) => {
-            let token = decider.decide(rt, service.serves, None);
-            // What the thread would have done: it leaves, and gives its entrance back.
-            let (_, _, entrance, own) = call_here(refused.value);
-            token.agrees(&own);
+        Err((entrance, rest, token)) => {
             door.join(entrance);
-            return (door, Err(BrokerFault::Worker), token);
+            return (door, rest, Err(BrokerFault::Worker), token);
         }
     };
-    let (mut door, others, token) = start_all(
+    let (mut door, rest, others, token) = start_all(
         rt,
         scope,
         service,
-        decider,
-        recorder,
+        start,
         door,
         pass,
         count - 1,
@@ -198,10 +169,81 @@ where
     door.join(entrance);
     let (mut pass, more) = match others {
         Ok(folded) => folded,
-        Err(fault) => return (door, Err(fault), token),
+        Err(fault) => return (door, rest, Err(fault), token),
     };
     service.shared.fold(&mut pass, done);
-    (door, Ok((pass, more.with(counts))), token)
+    (door, rest, Ok((pass, more.with(counts))), token)
+}
+
+// Starts a worker for this pass at this entrance. If it can't be started, all leave, and the entrance is given back.
+fn start_worker<
+    's,
+    E,
+    T: Timer + Send + 's,
+    D: Door + Drop + Send + 's,
+    C: Clock + Sync + 's,
+    V: Decision + Send + Sync + 's,
+    S: Begin<V>,
+    R: Threads + Wait + time::Clock + Sync + 's,
+>(
+    rt: &'s R,
+    scope: &'s Scope<'s, E>,
+    service: &'s Service<'s, T, C, V>,
+    start: S,
+    entrance: D,
+    child: Pass<T>,
+) -> Result<
+    (
+        PromisedHandle<(Pass<T>, VisitCounts, D, OnceToken<'s, V>), OfWorker<'s, T, C, V>>,
+        S,
+    ),
+    (D, S::Rest, OnceToken<'s, V>),
+>
+where
+    D::Writer: Recipient<Pass<T>>,
+    requires decides { S.may_decide }
+    requires pass { child.table ≡ service.now.shared.now }
+    requires unused { IsUnused child }
+    requires unseen { D.has_seen entrance [] }
+    requires ready { D.is_ready entrance child }
+    requires honest { Satisfies
+        (service_terms D.Reader.Read D.Writer.Recipient D.Gate.Gate C.Clock service.now) D.awaits D.demands }
+    ensures service { IfOk result (λ started. started.0.promise.service.now ≡ service.now) }
+    ensures given { IfOk result (λ started. started.0.promise.start.value ≡ child) }
+    ensures start { IfOk result (λ started. started.1 ≡ start) }
+    ensures unused { IfErr result (λ left. D.has_seen left.0 []) }
+    ensures failed { IfErr result (λ left. S.has_failed start left.1 BrokerFault.Worker) }
+    ensures token { IfErr result (λ left. left.2.of ≡ service.now.serves.now.id) }
+    ensures leave { IfErr result (λ left. V.serves left.2.value ≡ false) }
+{
+    let promise = OfWorker {
+        service,
+        start: Snapshot::of(&child),
+    };
+    match scope.spawn_with(
+        promise,
+        move || -> (Pass<T>, VisitCounts, D, OnceToken<'_, V>)
+            requires { (child.table ≡ service.now.shared.now) × IsUnused child × D.has_seen entrance []
+                × D.is_ready entrance child × Satisfies
+                (service_terms D.Reader.Read D.Writer.Recipient D.Gate.Gate C.Clock service.now) D.awaits D.demands }
+            ensures { (result.0.table ≡ service.entry.now.shared.now) × (result.0.parts ≡ child.parts)
+                × (result.3.of ≡ service.entry.now.serves.now.id)
+                × (V.serves result.3.value ≡ true → (log : List (DoorStep D.Reader D.Writer D.Gate)) × D.has_seen result.2 log
+                × IsWorkerResult
+                (service_terms D.Reader.Read D.Writer.Recipient D.Gate.Gate C.Clock service.entry.now)
+                child.capacity child.opening log result.0 result.1)
+                × (V.serves result.3.value ≡ false → (result.0 ≡ child) × D.has_seen result.2 []) }
+        { work_with_all(rt, service, entrance, child) },
+    ) {
+        Ok(started) => Ok((started, start)),
+        Err(refused) => {
+            let (token, rest) = start.give_up(rt, service.serves);
+            // What the thread would have done: it leaves, and gives its entrance back.
+            let (_, _, entrance, own) = call_here(refused.value);
+            token.agrees(&own);
+            Err((entrance, rest, token))
+        }
+    }
 }
 
 // Calls in this thread what another would have called.
@@ -210,27 +252,4 @@ fn call_here<T, F: FnOnce() -> T + Drop>(f: F) -> T
     ensures { F.post f result }
 {
     f()
-}
-
-// Lets the recorder begin, and then the workers serve. If it can't begin, they leave.
-fn let_serve<'a, L: Deciding, B: Recorder, R: Wait>(
-    rt: &R,
-    decider: Decider<L>,
-    serves: &'a OnceLock<Decided<L, B::Begun>>,
-    recorder: &mut B,
-) -> (Result<(), BrokerFault>, OnceToken<'a, Decided<L, B::Begun>>)
-    requires all { L.all ≡ L.parts }
-    requires some { 0 < L.all }
-    ensures token { result.1.of ≡ serves.now.id }
-    ensures serve { is_some result.1.value.begun ≡ is_ok result.0 }
-    ensures recorder { MatchResult result.0 (λ _. B.has_begun recorder.old recorder.new)
-        (EndsRecorded B.has_failed recorder.old recorder.new) }
-{
-    match recorder.begin() {
-        Ok(begun) => (Ok(()), decider.decide(rt, serves, Some(begun))),
-        Err(_) => (
-            Err(BrokerFault::WriteHistory),
-            decider.decide(rt, serves, None),
-        ),
-    }
 }

@@ -1,6 +1,6 @@
 -- The last worker that ends is folded in behind the others, and its visits are counted with theirs.
 use Rattle.std.proofs.Common.{rules, ◌≡◌, ◌<◌, ◌+◌, ◌-◌, ◌++◌, ◌∷◌, [], ℕ, sym, subst, ap, arith, ◌∙◌}
-use Rattle.std.specs.Prelude.{is_ok, is_some}
+use Rattle.std.specs.Prelude.{is_ok}
 use Rattle.rb_lock.specs.Passes.{PassState}
 use Rattle.std.proofs.lemmas.Bool.Decides.{nat_tests}
 use Rattle.rb_serving.specs.Serving.{FoldsWorkers, IsWorkerResult}
@@ -24,13 +24,13 @@ returns-clause-folds g t c =
     let rest = c.in-Ok-others.folded in
     let others = of_ok _ c.in-Ok-others.folded _ c.in-Ok-others.is c.start_all-door.ensures.folds in
     let serve = c.start_all-door.ensures.serve ∙ ap is_ok c.in-Ok-others.is in
-    let kept = c.join-done.ensures.3 (ap (λ decided. is_some decided.begun) (sym c.agrees-2.ensures) ∙ serve) in
-    let as_promised = subst (λ promise. IsWorkerResult (terms promise.service.now) promise.start.value.capacity
-    promise.start.value.opening kept.0 done.0 done.1) c.in-Ok-spawn_with.ensures.ok kept.2 in
-    let parts = subst (λ promise. done.0.parts ≡ promise.start.value.parts) c.in-Ok-spawn_with.ensures.ok c.join-done.ensures.1
-    ∙ ap (λ (start : PassState). start.parts) c.of-start.ensures in
+    let kept = c.join-done.ensures.3 (ap g.V.Decision.serves (sym c.agrees.ensures) ∙ serve) in
+    let begun = c.in-Ok-start_worker.ensures.given in
+    let as_promised = subst (λ served. IsWorkerResult (terms served) c.in-Ok-start_worker.started.0.promise.start.value.capacity
+    c.in-Ok-start_worker.started.0.promise.start.value.opening kept.0 done.0 done.1) c.in-Ok-start_worker.ensures.service kept.2 in
+    let parts = c.join-done.ensures.1 ∙ ap (λ (start : PassState). start.parts) begun in
     let worked = subst (λ (start : PassState). IsWorkerResult of start.capacity start.opening kept.0 done.0 done.1)
-    (c.of-start.ensures ∙ c.in-Ok.ensures.child) as_promised in
+    (begun ∙ c.in-Ok.ensures.child) as_promised in
     record {
       logs = others.logs ++ kept.0 ∷ [];
       gathers = gathers_more of g.D.Door.has_joined g.D.Door.has_seen c.args.door c.split-entrance.new.self
@@ -67,23 +67,4 @@ start_all-door-requires-clause-splits g t c κs within =
       c.split-entrance.ensures.fewer (c.args.count - 1) splits.0
           (subst (λ count. g.D.Door.may_split c.args.door count splits.0) is splits.1),
       omega (arith, c.in-Ok.ensures.noted),
-    )
-
--- What a thread would have been started with is what comes back.
-pub call_here-entrance-requires : goal.call_here-entrance-requires
-call_here-entrance-requires g t c =
-    let split = c.in-Ok.ensures in
-    rw c.in-Err-spawn_with.ensures.err (
-      (
-        ap (λ (pass : PassState). pass.table) split.child ∙ (split.learns.table ∙ c.requires.pass),
-        record {
-          idle = ap (λ (pass : PassState). pass.mine) split.child;
-          unheard = split.unheard;
-          alone = ap (λ (pass : PassState). pass.folded) split.child;
-        },
-        c.split-entrance.ensures.begun,
-        c.split-entrance.ensures.ready,
-        c.requires.honest,
-      ),
-      search rules,
     )
