@@ -1,4 +1,4 @@
-use super::fixtures::{element, expect, expect_number};
+use super::fixtures::{element, expect, expect_number, expect_same};
 use rb_queue::{Act, Ids};
 use std::alloc::Global;
 use std::process::Abort;
@@ -17,22 +17,24 @@ fn expect_counts(rt: &impl Abort, act: Act, counts: [u64; 4]) {
     expect_number(rt, act.cleared(7), cleared);
 }
 
-fn expect_timed(rt: &impl Abort, got: Option<u64>, given: u64) {
+fn timed(got: Option<u64>) -> Act {
     let (start, timeout) = (3, 4);
-    let act = Act::PollFor {
+    Act::PollFor {
         start,
         timeout,
         got,
-    };
-    expect_counts(rt, act, [0, given, 0, 0]);
+    }
 }
 
-fn expect_removal(rt: &impl Abort, found: bool, removed: u64) {
-    expect_counts(rt, Act::Remove { id: 0, found }, [0, 0, removed, 0]);
+fn removal(found: bool) -> Act {
+    Act::Remove { id: 0, found }
 }
 
-fn expect_drain(rt: &impl Abort, max: u64, ids: Ids, given: u64) {
-    expect_counts(rt, Act::Drain { max, ids }, [0, given, 0, 0]);
+fn drain(rt: &impl Abort, alloc: Global, max: u64, ids: &[u64]) -> Act {
+    Act::Drain {
+        max,
+        ids: ids_of(rt, alloc, ids),
+    }
 }
 
 #[test]
@@ -41,42 +43,41 @@ fn what_each_act_counts(rt: HostRuntime) {
     expect_counts(&rt, Act::Poll(Some(0)), [0, 1, 0, 0]);
     expect_counts(&rt, Act::Poll(None), [0, 0, 0, 0]);
     expect_counts(&rt, Act::Take(0), [0, 1, 0, 0]);
-    expect_timed(&rt, Some(0), 1);
-    expect_timed(&rt, None, 0);
+    expect_counts(&rt, timed(Some(0)), [0, 1, 0, 0]);
+    expect_counts(&rt, timed(None), [0, 0, 0, 0]);
     expect_counts(&rt, Act::Peek(Some(0)), [0, 0, 0, 0]);
     expect_counts(&rt, Act::Peek(None), [0, 0, 0, 0]);
-    expect_removal(&rt, true, 1);
-    expect_removal(&rt, false, 0);
+    expect_counts(&rt, removal(true), [0, 0, 1, 0]);
+    expect_counts(&rt, removal(false), [0, 0, 0, 0]);
     expect_counts(&rt, Act::Clear, [0, 0, 0, 7]);
     expect_counts(&rt, Act::Size(1), [0, 0, 0, 0]);
-    expect_drain(&rt, 9, ids_of(&rt, rt.alloc(), &[1, 2, 5]), 3);
-    expect_drain(&rt, 0, ids_of(&rt, rt.alloc(), &[]), 0);
+    expect_counts(&rt, drain(&rt, rt.alloc(), 9, &[1, 2, 5]), [0, 3, 0, 0]);
+    expect_counts(&rt, drain(&rt, rt.alloc(), 0, &[]), [0, 0, 0, 0]);
     expect_number(&rt, Act::Clear.cleared(0), 0);
 }
 
-fn expect_values(rt: &impl Abort, values: &[u64]) {
-    expect(rt, values == [4, 1, 1].as_slice(), "the values in order");
-}
+const VALUES: &[u64] = &[4, 1, 1];
 
 fn expect_sequence(rt: &impl Abort, ids: Ids) {
-    expect_values(rt, ids.as_slice());
-    expect_values(rt, ids.into_vec().as_slice());
+    expect_same(rt, ids.as_slice(), VALUES);
+    expect_same(rt, ids.into_vec().as_slice(), VALUES);
 }
 
-fn expect_equality(rt: &impl Abort, one: &Ids, other: Ids, are_equal: bool) {
-    expect(rt, (*one == other) == are_equal, "whether two are equal");
+// Asserts whether a sequence of these values is equal to that of `VALUES`.
+fn expect_equality(rt: &impl Abort, alloc: Global, values: &[u64], are_equal: bool) {
+    let equal = ids_of(rt, alloc, values) == ids_of(rt, alloc, VALUES);
+    expect(rt, equal == are_equal, "whether two are equal");
 }
 
 #[test]
 fn a_sequence_is_its_values_in_order(rt: HostRuntime) {
-    expect_sequence(&rt, ids_of(&rt, rt.alloc(), &[4, 1, 1]));
-    let ids = &ids_of(&rt, rt.alloc(), &[4, 1, 1]);
-    for (other, are_equal) in [
+    expect_sequence(&rt, ids_of(&rt, rt.alloc(), VALUES));
+    for (values, are_equal) in [
         ([4, 1, 1].as_slice(), true),
         ([1, 4, 1].as_slice(), false),
         ([4, 1].as_slice(), false),
         ([4, 1, 1, 0].as_slice(), false),
     ] {
-        expect_equality(&rt, ids, ids_of(&rt, rt.alloc(), other), are_equal);
+        expect_equality(&rt, rt.alloc(), values, are_equal);
     }
 }

@@ -3,10 +3,13 @@
 // `dev/refuse_allocations` counts their allocations. All things are made before the first call, so
 // that the tool can also refuse every allocation from that call on.
 
-use crate::tests::fixtures::{expect, expect_number, payload};
+use crate::tests::fixtures::{
+    done, element, expect, expect_made, expect_same, later, offer, payload, puts, takes,
+};
+use crate::tests::queue_refusals::try_offer;
 use rb_binary::BinaryTimer;
 use rb_delayed::{Delayed, Element, Payload, add_capped, add_delay, is_expired};
-use rb_kept::{CallFault, Kept, Outcome};
+use rb_kept::{CallFault, Kept, Outcome, Step};
 use rb_ledger::{Books, Tally};
 use rb_pairing::PairingTimer;
 use rb_protocol::{ErrWord, LineReply, read_request, write_reply};
@@ -45,17 +48,6 @@ fn each_of_the_calls(rt: HostRuntime) {
     expect_answers(&rt, rt.alloc(), ROUNDS);
 }
 
-// The things that the calls are made on.
-#[derive(Drop)]
-struct Things {
-    text: Vec<u8>,
-    history: History,
-    list: Over<ListTimer>,
-    heap: Over<BinaryTimer>,
-    pairing: Over<PairingTimer>,
-    wheel: Over<WheelTimer>,
-}
-
 // A timer with room, and a queue and a kept queue with elements.
 #[derive(Drop)]
 struct Over<T: Timer> {
@@ -63,17 +55,6 @@ struct Over<T: Timer> {
     queue: DelayQueue<T>,
     kept: Kept<T>,
     tally: Tally,
-}
-
-fn made(rt: &impl Abort, alloc: Global) -> Things {
-    Things {
-        text: text(rt, alloc),
-        history: history(rt, alloc),
-        list: made_over(rt, alloc),
-        heap: made_over(rt, alloc),
-        pairing: made_over(rt, alloc),
-        wheel: made_over(rt, alloc),
-    }
 }
 
 fn made_over<T: Timer>(rt: &impl Abort, alloc: Global) -> Over<T> {
@@ -86,21 +67,9 @@ fn made_over<T: Timer>(rt: &impl Abort, alloc: Global) -> Over<T> {
     }
 }
 
-// Returns an empty text with room for the longest reply.
-fn text(rt: &impl Abort, alloc: Global) -> Vec<u8> {
-    let text = Vec::with_capacity(alloc, 128);
-    text.ok().expect(rt, "a text")
-}
-
-fn history(rt: &impl Abort, alloc: Global) -> History {
-    let history = read_history(alloc, b"history 3\nopen 0 0 0\n0 0 0 size 0\nend 1\n");
-    history.ok().expect(rt, "a history")
-}
-
 fn timer<T: Timer>(rt: &impl Abort, alloc: Global) -> T {
     let mut timer = T::new(alloc);
-    let room = timer.reserve(ROOM);
-    expect(rt, room.is_ok(), "room");
+    expect_made(rt, timer.reserve(ROOM));
     timer
 }
 
@@ -108,99 +77,70 @@ fn timer<T: Timer>(rt: &impl Abort, alloc: Global) -> T {
 fn queue<T: Timer>(rt: &impl Abort, alloc: Global) -> DelayQueue<T> {
     let mut queue = DelayQueue::new(alloc);
     for expiry in 0..ELEMENTS {
-        offers(rt, &mut queue, expiry);
+        expect_made(rt, try_offer(rt, &mut queue, expiry));
     }
     queue
-}
-
-fn offers<T: Timer>(rt: &impl Abort, queue: &mut DelayQueue<T>, expiry: u64) {
-    if queue.next_id() < u64::MAX {
-        let offered = queue.offer(draft(rt, expiry));
-        expect(rt, offered.is_ok(), "an offer");
-    }
 }
 
 // Makes a kept queue of `ELEMENTS` elements whose expiries are their ids.
 fn kept_queue<T: Timer>(rt: &impl Abort, alloc: Global) -> (Kept<T>, Tally) {
     let begun = Kept::new_from(alloc, CALLS, Opening::empty(alloc));
-    let (mut kept, mut tally) = begun.ok().expect(rt, "a kept queue");
+    let (mut kept, mut tally) = expect_made(rt, begun);
     for expiry in 0..ELEMENTS {
-        let offered = kept.act(&mut tally, 0, 0, Ask::Offer(draft(rt, expiry)));
-        expect_done(rt, &offered);
+        let step = kept.act(&mut tally, 0, 0, offer(rt, expiry, b"a"));
+        expect(rt, is_done(step), "an offer");
     }
     (kept, tally)
 }
 
-// Makes the calls, in groups, and asserts that all were answered as they have to be. Each round of
-// a group counts the right answers.
+// Makes the calls, and asserts that all are answered as they have to be. What is made is handed on
+// to be dropped over any timer: dropped here, each field of each timer would have its own proof.
 fn expect_answers(rt: &impl Abort, alloc: Global, rounds: u64) {
-    let mut things = made(rt, alloc);
-    expect_number(rt, values(rt, rounds), rounds.saturating_mul(7));
-    expect_number(rt, beginnings(rt, alloc, rounds), rounds.saturating_mul(4));
-    expect_number(rt, books(rounds), rounds.saturating_mul(3));
-    expect_number(
-        rt,
-        lines(rt, &mut things.text, rounds),
-        rounds.saturating_mul(23),
-    );
-    let shown = histories(&things.history, rounds);
-    expect_number(rt, shown, rounds.saturating_mul(2));
-    expect_over(rt, alloc, &mut things.list, rounds);
-    expect_over(rt, alloc, &mut things.heap, rounds);
-    expect_over(rt, alloc, &mut things.pairing, rounds);
-    expect_over(rt, alloc, &mut things.wheel, rounds);
-    // Without this call each field of each timer's queue would be dropped in this body, at the end
-    // of the scope, which costs two minutes to prove.
-    drop(things);
+    let text = expect_made(rt, Vec::with_capacity(alloc, 128));
+    let history = history(rt, alloc);
+    let list = made_over::<ListTimer>(rt, alloc);
+    let heap = made_over::<BinaryTimer>(rt, alloc);
+    let pairing = made_over::<PairingTimer>(rt, alloc);
+    let wheel = made_over::<WheelTimer>(rt, alloc);
+    expect_without_timers(rt, alloc, text, history, rounds);
+    expect_over(rt, alloc, list, rounds);
+    expect_over(rt, alloc, heap, rounds);
+    expect_over(rt, alloc, pairing, rounds);
+    expect_over(rt, alloc, wheel, rounds);
 }
 
-fn expect_over<T: Timer>(rt: &impl Abort, alloc: Global, over: &mut Over<T>, rounds: u64) {
-    expect_number(
-        rt,
-        timers(alloc, &mut over.timer, rounds),
-        rounds.saturating_mul(8),
-    );
-    expect_number(
-        rt,
-        queues(alloc, &mut over.queue, rounds),
-        rounds.saturating_mul(6),
-    );
-    expect_number(
-        rt,
-        kept_queues(&mut over.kept, &mut over.tally, rounds),
-        rounds.saturating_mul(10),
-    );
-    clears(rt, &mut over.kept, &mut over.tally, rounds);
+fn history(rt: &impl Abort, alloc: Global) -> History {
+    let text = b"history 3\nopen 0 0 0\n0 0 0 size 0\nend 1\n";
+    expect_made(rt, read_history(alloc, text))
 }
 
-fn count(answers: &[bool]) -> u64 {
-    answers.iter().filter(|&&answer| answer).count() as u64
+fn are_right(answers: &[bool]) -> bool {
+    !answers.contains(&false)
 }
 
-// Makes the calls of payloads, moments and delays. Returns the number of right answers.
-fn values(rt: &impl Abort, rounds: u64) -> u64 {
-    let element = element(rt);
-    let mut right = 0_u64;
+// Makes the calls that need no timer, in rounds. The text has room for the longest reply.
+fn expect_without_timers(
+    rt: &impl Abort,
+    alloc: Global,
+    mut text: Vec<u8>,
+    history: History,
+    rounds: u64,
+) {
+    let element = element(rt, 0, LATE, b"a");
     for round in 0..rounds {
-        right = right.saturating_add(value_round(&element, round));
-    }
-    right
-}
-
-fn element(rt: &impl Abort) -> Element {
-    Element {
-        id: 0,
-        expiry: LATE,
-        origin: 0,
-        first: LATE,
-        attempt: 1,
-        payload: payload(rt, b"a"),
+        expect(rt, value_round(&element, round), "a value");
+        expect(rt, beginning_round(alloc, &element), "a beginning");
+        expect(rt, book_round(), "a book");
+        expect(rt, request_round(), "a request");
+        reply_round(rt, &mut text);
+        expect(rt, history_round(&history), "a history");
     }
 }
 
-fn value_round(element: &Element, round: u64) -> u64 {
-    count(&[
-        Payload::new(b"job").is_ok_and(|payload| payload.as_bytes() == b"job".as_slice()),
+// Makes the calls of payloads, moments and delays.
+fn value_round(element: &Element, round: u64) -> bool {
+    are_right(&[
+        Payload::new(b"a") == Ok(element.payload) && element.payload.as_bytes() == b"a".as_slice(),
         add_delay(round, 1) == round.checked_add(1),
         add_capped(u64::MAX, round) == u64::MAX,
         !is_expired(element, round),
@@ -211,59 +151,32 @@ fn value_round(element: &Element, round: u64) -> u64 {
 }
 
 // Makes a draft, and openings with which a queue or a run begins, and asks what acts came to.
-// Returns the number of right answers.
-fn beginnings(rt: &impl Abort, alloc: Global, rounds: u64) -> u64 {
-    let mut right = 0_u64;
-    for _ in 0..rounds {
-        right = right.saturating_add(beginning_round(rt, alloc));
-    }
-    right
-}
-
-fn beginning_round(rt: &impl Abort, alloc: Global) -> u64 {
-    count(&[
-        draft(rt, LATE).expiry == LATE,
+fn beginning_round(alloc: Global, element: &Element) -> bool {
+    are_right(&[
+        Draft::first(LATE, element.payload).expiry == LATE,
         Opening::empty(alloc).next_id == 0,
         Opening::new(Items::new(Vec::new(alloc)), 7, LATE).is_some(),
         Act::Clear.cleared(3) == 3 && Act::Take(0).given() == 1,
     ])
 }
 
-// Makes the calls of books and of their shares. Returns the number of right answers.
-fn books(rounds: u64) -> u64 {
-    let mut right = 0_u64;
-    for _ in 0..rounds {
-        right = right.saturating_add(book_round());
-    }
-    right
-}
-
-fn book_round() -> u64 {
+// Makes the calls of books and of their shares.
+fn book_round() -> bool {
     let (mut books, mut tally) = Books::new();
     let mut other = tally.split();
     books.note(&mut tally, 1, 0);
     books.note(&mut other, 0, 2);
     tally.join(other);
-    count(&[
+    are_right(&[
         books.calls() == 2 && tally.calls() == 2,
         books.offered() == 1 && tally.offered() == 1,
         books.totals() == tally.totals() && tally.given() == 2,
     ])
 }
 
-// Reads lines of each form and with each fault, and writes each kind of reply into `text`, which
-// has room for the longest one. Returns the number of right answers.
-fn lines(rt: &impl Abort, text: &mut Vec<u8>, rounds: u64) -> u64 {
-    let mut right = 0_u64;
-    for _ in 0..rounds {
-        right = right.saturating_add(request_round());
-        right = right.saturating_add(reply_round(rt, text));
-    }
-    right
-}
-
-fn request_round() -> u64 {
-    count(&[
+// Reads lines of each form and with each fault.
+fn request_round() -> bool {
+    are_right(&[
         read_request(b"OFFER 18446744073709551615 job").is_ok(),
         read_request(b"OFFERAT 5 job").is_ok(),
         read_request(b"FAIL 7").is_ok(),
@@ -287,9 +200,9 @@ fn longest(rt: &impl Abort) -> Element {
     }
 }
 
-fn reply_round(rt: &impl Abort, text: &mut Vec<u8>) -> u64 {
+// Writes each kind of reply.
+fn reply_round(rt: &impl Abort, text: &mut Vec<u8>) {
     let (id, expiry) = (u64::MAX, u64::MAX);
-    let mut written = 0_u64;
     for reply in &[
         LineReply::Offered { id, expiry },
         LineReply::Item(longest(rt)),
@@ -308,37 +221,33 @@ fn reply_round(rt: &impl Abort, text: &mut Vec<u8>) -> u64 {
         LineReply::Err(ErrWord::NotHeld),
     ] {
         text.clear();
-        let answer = write_reply(reply, text);
-        written = written.saturating_add(u64::from(answer.is_ok()));
+        expect(rt, write_reply(reply, text).is_ok(), "a reply");
     }
-    written
 }
 
-// Looks at the one event of a history that was read, and at its opening. Returns the number of
-// right answers.
-fn histories(history: &History, rounds: u64) -> u64 {
-    let mut right = 0_u64;
-    for _ in 0..rounds {
-        right = right.saturating_add(count(&[
-            history.events().len() == 1,
-            history.opening().next_id == 0,
-        ]));
-    }
-    right
+// Looks at the one event of a history that was read, and at its opening.
+fn history_round(history: &History) -> bool {
+    history.events().len() == 1 && history.opening().next_id == 0
 }
 
-// Makes the calls of a timer except `reserve`. Returns the number of right answers.
-fn timers<T: Timer>(alloc: Global, timer: &mut T, rounds: u64) -> u64 {
-    let mut right = 0_u64;
+// Makes the calls over a timer, in rounds. The queue is cleared and the history filled after them.
+fn expect_over<T: Timer>(rt: &impl Abort, alloc: Global, mut over: Over<T>, rounds: u64) {
     for round in 0..rounds {
-        right = right.saturating_add(timer_round(alloc, timer, round));
+        expect(rt, timer_round(alloc, &mut over.timer, round), "a timer");
+        expect(rt, queue_round(alloc, &mut over.queue, round), "a queue");
+        let is_right = kept_round(&mut over.kept, &mut over.tally, round);
+        expect(rt, is_right, "a kept queue");
     }
-    right
+    if rounds > 0 {
+        over.queue.clear();
+        clears(rt, &mut over.kept, &mut over.tally);
+    }
+    drop(over);
 }
 
-// Puts in an entry at the round's moment and one far after it, takes each out when it is due, and
-// then fills each slot. Clears the timer at the end.
-fn timer_round<T: Timer>(alloc: Global, timer: &mut T, round: u64) -> u64 {
+// Makes the calls of a timer except `reserve`. Puts in an entry at the round's moment and one far
+// after it, takes each out when it is due, and then fills each slot. Clears the timer at the end.
+fn timer_round<T: Timer>(alloc: Global, timer: &mut T, round: u64) -> bool {
     let far = round.saturating_add(1_000_000);
     let answers = [
         T::new(alloc).len() == 0,
@@ -346,28 +255,12 @@ fn timer_round<T: Timer>(alloc: Global, timer: &mut T, round: u64) -> u64 {
         puts(timer, 1, round),
         timer.least() == Some((1, round)),
         timer.due(round) == Some((1, round)),
-        takes(timer, 1),
+        takes(timer, 1, round),
         timer.due(far) == Some((64, far)) && timer.len() == 1,
-        takes(timer, 64) && fills(timer, round),
+        takes(timer, 64, far) && fills(timer, round),
     ];
     timer.clear();
-    count(&answers)
-}
-
-fn puts<T: Timer>(timer: &mut T, slot: usize, expiry: u64) -> bool {
-    if timer.room() <= slot || timer.get(slot).is_some() {
-        return false;
-    }
-    timer.insert(slot, expiry);
-    true
-}
-
-fn takes<T: Timer>(timer: &mut T, slot: usize) -> bool {
-    if timer.get(slot).is_none() {
-        return false;
-    }
-    timer.remove(slot);
-    true
+    are_right(&answers)
 }
 
 fn fills<T: Timer>(timer: &mut T, expiry: u64) -> bool {
@@ -378,64 +271,51 @@ fn fills<T: Timer>(timer: &mut T, expiry: u64) -> bool {
     is_right && timer.len() == ROOM && timer.room() == ROOM
 }
 
-fn draft(rt: &impl Abort, expiry: u64) -> Draft {
-    Draft::first(expiry, payload(rt, b"a"))
-}
-
-// Makes the calls of a queue that take no memory: all but `new_from`, offers and drains. Returns
-// the number of right answers.
-fn queues<T: Timer>(alloc: Global, queue: &mut DelayQueue<T>, rounds: u64) -> u64 {
-    let mut right = 0_u64;
-    for round in 0..rounds {
-        right = right.saturating_add(queue_round(alloc, queue, round));
+fn has_id(found: Option<Element>, id: u64) -> bool {
+    match found {
+        Some(element) => element.id == id,
+        None => false,
     }
-    empty(queue, rounds);
-    right
 }
 
-fn queue_round<T: Timer>(alloc: Global, queue: &mut DelayQueue<T>, round: u64) -> u64 {
+// Makes the calls of a queue that take no memory: all but `new_from`, offers and drains.
+fn queue_round<T: Timer>(alloc: Global, queue: &mut DelayQueue<T>, round: u64) -> bool {
     let left = ELEMENTS.saturating_sub(round.saturating_mul(2));
-    count(&[
+    are_right(&[
         DelayQueue::<T>::new(alloc).peek().is_none(),
         queue.next_expiry() == Some(round) && queue.next_id() == ELEMENTS,
-        queue.peek().is_some_and(|element| element.id == round),
-        queue.poll(LATE).is_some_and(|element| element.id == round),
+        has_id(queue.peek(), round),
+        has_id(queue.poll(LATE), round),
         queue.remove(ELEMENTS.saturating_sub(1).saturating_sub(round)),
         queue.size() == left.saturating_sub(2),
     ])
 }
 
-fn empty<T: Timer>(queue: &mut DelayQueue<T>, rounds: u64) {
-    if rounds > 0 {
-        queue.clear();
-    }
+fn asks<T: Timer>(kept: &mut Kept<T>, tally: &mut Tally, ask: Ask) -> Step {
+    kept.act(tally, 0, LATE, ask)
+}
+
+fn is_done(step: Step) -> bool {
+    matches!(&step, Ok(Outcome::Done(_)))
+}
+
+fn is_item(step: Step) -> bool {
+    matches!(&step, Ok(Outcome::Done(Reply::Item(_))))
 }
 
 // Makes the calls of a kept queue, except offers, drains and runs, which take memory. `clears`
-// makes the last ones. Returns the number of right answers.
-fn kept_queues<T: Timer>(kept: &mut Kept<T>, tally: &mut Tally, rounds: u64) -> u64 {
-    let mut right = 0_u64;
-    for round in 0..rounds {
-        right = right.saturating_add(kept_round(kept, tally, round));
-    }
-    right
-}
-
-fn expect_done(rt: &impl Abort, step: &rb_kept::Step) {
-    assert!(rt; matches!(step, Ok(Outcome::Done(_))));
-}
-
-fn kept_round<T: Timer>(kept: &mut Kept<T>, tally: &mut Tally, round: u64) -> u64 {
+// makes the last ones.
+fn kept_round<T: Timer>(kept: &mut Kept<T>, tally: &mut Tally, round: u64) -> bool {
     let (start, timeout) = (0, 5);
     let last = ELEMENTS.saturating_sub(1).saturating_sub(round);
     let before = kept.history().len();
-    count(&[
-        gives(kept, tally, Ask::Poll),
-        gives(kept, tally, Ask::Take),
-        gives(kept, tally, Ask::PollFor { start, timeout }),
-        answers(kept, tally, Ask::Peek),
-        answers(kept, tally, Ask::Remove(last)),
-        answers(kept, tally, Ask::Size),
+    are_right(&[
+        is_item(asks(kept, tally, Ask::Poll)),
+        is_item(asks(kept, tally, Ask::Take)),
+        is_item(asks(kept, tally, Ask::PollFor { start, timeout })),
+        is_done(asks(kept, tally, Ask::Peek)),
+        is_done(asks(kept, tally, Ask::Remove(last))),
+        is_done(asks(kept, tally, Ask::Size)),
         kept.history().len() == before.saturating_add(6),
         kept.capacity() == CALLS,
         kept.opening().next_id == 0,
@@ -443,35 +323,11 @@ fn kept_round<T: Timer>(kept: &mut Kept<T>, tally: &mut Tally, round: u64) -> u6
     ])
 }
 
-fn gives<T: Timer>(kept: &mut Kept<T>, tally: &mut Tally, ask: Ask) -> bool {
-    let step = kept.act(tally, 0, LATE, ask);
-    matches!(&step, Ok(Outcome::Done(Reply::Item(_))))
-}
-
-fn answers<T: Timer>(kept: &mut Kept<T>, tally: &mut Tally, ask: Ask) -> bool {
-    let step = kept.act(tally, 0, LATE, ask);
-    matches!(&step, Ok(Outcome::Done(_)))
-}
-
-// Clears the queue and fills its history, if there were any rounds. A take from an empty queue
-// would wait, which is no event. A full history refuses each call.
-fn clears<T: Timer>(rt: &impl Abort, kept: &mut Kept<T>, tally: &mut Tally, rounds: u64) {
-    if rounds > 0 {
-        let cleared = kept.act(tally, 0, LATE, Ask::Clear);
-        expect_done(rt, &cleared);
-        let later = kept.act(tally, 0, LATE, Ask::Take);
-        expect_later(rt, &later);
-        let last = kept.act(tally, 0, LATE, Ask::Size);
-        expect_done(rt, &last);
-        let refused = kept.act(tally, 0, LATE, Ask::Size);
-        expect_full(rt, &refused);
-    }
-}
-
-fn expect_later(rt: &impl Abort, step: &rb_kept::Step) {
-    assert!(rt; matches!(step, Ok(Outcome::Later(None))));
-}
-
-fn expect_full(rt: &impl Abort, step: &rb_kept::Step) {
-    assert!(rt; matches!(step, Err(CallFault::Full)));
+// Clears the queue and fills its history. A take from an empty queue would wait, which is no event.
+// A full history refuses each call.
+fn clears<T: Timer>(rt: &impl Abort, kept: &mut Kept<T>, tally: &mut Tally) {
+    expect_same(rt, asks(kept, tally, Ask::Clear), done(Reply::Cleared));
+    expect_same(rt, asks(kept, tally, Ask::Take), later(None));
+    expect_same(rt, asks(kept, tally, Ask::Size), done(Reply::Size(0)));
+    expect_same(rt, asks(kept, tally, Ask::Size), Err(CallFault::Full));
 }

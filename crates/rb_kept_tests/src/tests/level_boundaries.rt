@@ -1,10 +1,9 @@
 // Entries that expire where levels of the wheel begin, each put in while the wheel's base stands at
 // such a moment.
 
-use super::fixtures::expect_made;
+use super::fixtures::answers_of;
 use rb_timer::TimerAnswer::{Entry, Inserted, Removed};
 use rb_timer::TimerCommand::{Due, Insert, Least, Remove};
-use rb_timer::{Timer, run_timer};
 use rb_wheel::WheelTimer;
 use std::alloc::Global;
 use std::process::Abort;
@@ -50,8 +49,6 @@ static BOUNDARIES: [u64; 32] = [
 // before, by a wheel whose base is `from` when the entry is put in. The base got there when an entry
 // that expires at 0 left one that expires at `from` behind.
 fn finds_due(rt: &impl Abort, alloc: Global, from: u64, moment: u64) -> bool {
-    let mut timer = WheelTimer::new(alloc);
-    expect_made(rt, timer.reserve(3));
     let found = Entry(Some((0, moment)));
     let commands = [
         Insert(1, 0),
@@ -78,7 +75,7 @@ fn finds_due(rt: &impl Abort, alloc: Global, from: u64, moment: u64) -> bool {
         Removed(moment),
         Entry(None),
     ];
-    let answers = expect_made(rt, run_timer(alloc, &mut timer, &commands));
+    let answers = answers_of::<WheelTimer>(rt, alloc, 3, &commands);
     answers.as_slice() == expected.as_slice()
 }
 

@@ -1,11 +1,11 @@
 // A run of many tries in one call.
 
-use super::fixtures::{done, expect_number, expect_step, item, offer, offered};
+use super::fixtures::{done, expect_made, expect_number, expect_step, item, offer, offered, push};
 use rb_kept::{Kept, Step, Try};
 use rb_ledger::Tally;
 use rb_queue::{Ask, Reply};
-use rb_timer::ListTimer;
-use std::alloc::{AllocError, Global};
+use rb_timer::{ListTimer, Timer};
+use std::alloc::Global;
 use std::process::Abort;
 
 // The number of tries. Each odd one polls what the try before it has offered.
@@ -32,33 +32,25 @@ fn reply_in_turn(rt: &impl Abort, n: u64) -> Reply {
     }
 }
 
-fn tries_in_turn(rt: &impl Abort, alloc: Global) -> Result<Vec<Try>, AllocError> {
+fn tries_in_turn(rt: &impl Abort, alloc: Global) -> Vec<Try> {
     let mut tries = Vec::new(alloc);
     for n in 0..LONG {
-        tries.push(try_in_turn(rt, n))?;
+        push(rt, &mut tries, try_in_turn(rt, n));
     }
-    Ok(tries)
+    tries
 }
 
-fn expect_turns(rt: &impl Abort, steps: &[Step]) {
-    expect_number(rt, steps.len() as u64, LONG);
-    for (n, step) in (0..LONG).zip(steps) {
-        expect_step(rt, step, &done(reply_in_turn(rt, n)), n);
+fn expect_turns(rt: &impl Abort, steps: Vec<Step>) {
+    let mut n = 0_u64;
+    for step in &steps {
+        expect_step(rt, step, done(reply_in_turn(rt, n)), n);
+        n = n.saturating_add(1);
     }
+    expect_number(rt, n, LONG);
+    drop(steps);
 }
 
-// Makes all tries in one run, and returns their steps.
-fn steps_of(
-    rt: &impl Abort,
-    alloc: Global,
-    kept: &mut Kept<ListTimer>,
-    tally: &mut Tally,
-) -> Vec<Step> {
-    let tries = tries_in_turn(rt, alloc).ok().expect(rt, "tries");
-    kept.run_tries(tally, tries).ok().expect(rt, "steps")
-}
-
-fn expect_counts(rt: &impl Abort, kept: &Kept<ListTimer>, tally: &Tally) {
+fn expect_counts<T: Timer>(rt: &impl Abort, kept: &Kept<T>, tally: &Tally) {
     let audit = kept.audit();
     expect_number(rt, audit.calls, LONG);
     expect_number(rt, audit.left, 0);
@@ -68,10 +60,16 @@ fn expect_counts(rt: &impl Abort, kept: &Kept<ListTimer>, tally: &Tally) {
     expect_number(rt, kept.history().len() as u64, LONG);
 }
 
+// Makes all tries in one run.
+fn expect_run<T: Timer>(rt: &impl Abort, alloc: Global) {
+    let (mut kept, mut tally) = expect_made(rt, Kept::<T>::new(alloc, LONG));
+    let steps = kept.run_tries(&mut tally, tries_in_turn(rt, alloc));
+    expect_turns(rt, expect_made(rt, steps));
+    expect_counts(rt, &kept, &tally);
+    drop(kept);
+}
+
 #[test]
 fn a_run_has_many_thousands_of_tries(rt: HostRuntime) {
-    let made = Kept::new(rt.alloc(), LONG);
-    let (mut kept, mut tally) = made.ok().expect(&rt, "a queue");
-    expect_turns(&rt, &steps_of(&rt, rt.alloc(), &mut kept, &mut tally));
-    expect_counts(&rt, &kept, &tally);
+    expect_run::<ListTimer>(&rt, rt.alloc());
 }

@@ -1,6 +1,6 @@
 use super::fixtures::{
     done, element, expect, expect_element, expect_made, expect_number, expect_opening, expect_same,
-    expect_step, later, offer, offered,
+    expect_step, later, offer, offered, push,
 };
 use super::queue_refusals::queue_refusals;
 use super::timer_refusals::timer_refusals;
@@ -47,14 +47,10 @@ fn snapshot<T: Timer>(caller: &Caller<T>) -> Snapshot {
     (audit, events, capacity, caller.tally.totals())
 }
 
-fn expect_snapshot(rt: &impl Abort, found: Snapshot, wanted: Snapshot) {
-    expect_same(rt, found, wanted);
-}
-
 // Asserts that a refused call has left the numbers of `before`, the opening and each event, and
 // counts the refusal. The calls after it, up to the last, show the elements.
 fn expect_unchanged<T: Timer>(rt: &impl Abort, caller: &mut Caller<T>, before: Snapshot) {
-    expect_snapshot(rt, snapshot(caller), before);
+    expect_same(rt, snapshot(caller), before);
     expect_events(rt, caller.kept.opening(), caller.kept.history());
     caller.met = caller.met.saturating_add(1);
 }
@@ -69,7 +65,7 @@ fn room(rt: &impl Abort, alloc: Global) -> Vec<Element> {
 fn elements_of(rt: &impl Abort, alloc: Global, count: u64) -> Items {
     let mut elements = room(rt, alloc);
     for id in 0..count {
-        expect_made(rt, elements.push(numbered(rt, id)));
+        push(rt, &mut elements, numbered(rt, id));
     }
     Items::new(elements)
 }
@@ -82,12 +78,8 @@ pub fn opening_of(rt: &impl Abort, alloc: Global, count: u64) -> Opening {
 
 // Makes a queue whose memory was refused once, which is the first refusal met.
 fn made_again<T: Timer>(rt: &impl Abort, alloc: Global, fault: NewFault) -> Caller<T> {
-    expect(
-        rt,
-        fault == NewFault::Memory,
-        "the fault of a refused queue",
-    );
-    let (kept, tally) = Kept::new(alloc, 30).ok().expect(rt, "a queue");
+    expect_same(rt, fault, NewFault::Memory);
+    let (kept, tally) = expect_made(rt, Kept::new(alloc, 30));
     Caller {
         kept,
         tally,
@@ -114,14 +106,9 @@ fn begun_again<T: Timer>(
     back: Opening,
     fault: NewFault,
 ) -> Caller<T> {
-    expect(
-        rt,
-        fault == NewFault::Memory,
-        "the fault of a refused queue",
-    );
+    expect_same(rt, fault, NewFault::Memory);
     expect_opening(rt, &back, &opening_of(rt, alloc, MANY));
-    let begun = Kept::new_from(alloc, 30, back);
-    let (kept, tally) = begun.ok().expect(rt, "a queue");
+    let (kept, tally) = expect_made(rt, Kept::new_from(alloc, 30, back));
     Caller {
         kept,
         tally,
@@ -161,6 +148,11 @@ fn answered<T: Timer>(rt: &impl Abort, caller: &mut Caller<T>, ask: Ask) -> Step
     }
 }
 
+// Asks at 95, once more after a refusal, and asserts the answer.
+fn expect_answer<T: Timer>(rt: &impl Abort, caller: &mut Caller<T>, ask: Ask, wanted: Step) {
+    expect_step(rt, &answered(rt, caller, ask), wanted, 95);
+}
+
 // Asserts that elements 19 to 5 are drained, in this order.
 fn expect_items(rt: &impl Abort, items: &[Element]) {
     expect_number(rt, items.len() as u64, 15);
@@ -181,11 +173,12 @@ fn expect_ids(rt: &impl Abort, ids: &[u64]) {
     }
 }
 
-fn expect_drained(rt: &impl Abort, step: &Step) {
-    match step {
+fn expect_drained(rt: &impl Abort, step: Step) {
+    match &step {
         Ok(Outcome::Done(Reply::Drained(items))) => expect_items(rt, items.as_slice()),
         _ => expect(rt, false, "the drain gave nothing"),
     }
+    drop(step);
 }
 
 // Returns the tries of a run: one, which offers element 20.
@@ -209,14 +202,14 @@ fn one_try_at_last(rt: &impl Abort, alloc: Global) -> Result<Vec<Try>, AllocErro
 // Returns whether the run's one step offers element 20. Otherwise the step must be a refusal: a
 // refused offer is a step too.
 fn has_offered(rt: &impl Abort, steps: &[Step]) -> bool {
-    let step = [done(offered(rt, 20, 80, b"a"))];
-    let has_offered = steps == step.as_slice();
-    expect(rt, has_offered || is_refused(steps), "the run's one step");
-    has_offered
-}
-
-fn is_refused(steps: &[Step]) -> bool {
-    matches!(steps, [Err(CallFault::Memory)])
+    match steps {
+        [Err(CallFault::Memory)] => false,
+        [step] => {
+            expect_step(rt, step, done(offered(rt, 20, 80, b"a")), 95);
+            true
+        }
+        _ => rt.abort(),
+    }
 }
 
 // Returns whether a run was made and offered element 20. A refused offer uses up no id, so a
@@ -245,9 +238,8 @@ fn runs<T: Timer>(rt: &impl Abort, alloc: Global, caller: &mut Caller<T>) {
 }
 
 fn offers<T: Timer>(rt: &impl Abort, caller: &mut Caller<T>, id: u64) {
-    let step = answered(rt, caller, offer(rt, expiry_of(id), b"a"));
     let wanted = done(offered(rt, id, expiry_of(id), b"a"));
-    expect_step(rt, &step, &wanted, 95);
+    expect_answer(rt, caller, offer(rt, expiry_of(id), b"a"), wanted);
 }
 
 // Offers elements 0 to 19.
@@ -307,9 +299,8 @@ fn expect_offer(rt: &impl Abort, element: &Element, place: u64) {
 
 // Drains a queue with elements 0 to 19, offers element 20 in a run, and polls what is left.
 fn goes_on<T: Timer>(rt: &impl Abort, alloc: Global, caller: &mut Caller<T>) {
-    expect_drained(rt, &answered(rt, caller, Ask::Drain(MANY)));
-    let next = answered(rt, caller, Ask::Take);
-    expect_step(rt, &next, &later(Some(96)), 95);
+    expect_drained(rt, answered(rt, caller, Ask::Drain(MANY)));
+    expect_answer(rt, caller, Ask::Take, later(Some(96)));
     runs(rt, alloc, caller);
     expect_events(rt, caller.kept.opening(), caller.kept.history());
     polls_the_rest(rt, caller);
@@ -317,7 +308,7 @@ fn goes_on<T: Timer>(rt: &impl Abort, alloc: Global, caller: &mut Caller<T>) {
 
 fn polls<T: Timer>(rt: &impl Abort, caller: &mut Caller<T>, reply: Reply) {
     let polled = caller.kept.act(&mut caller.tally, 0, 100, Ask::Poll);
-    expect_step(rt, &polled, &done(reply), 100);
+    expect_step(rt, &polled, done(reply), 100);
 }
 
 // Polls what is left: elements 20 and 4 to 0, which expire in this order.
@@ -345,14 +336,18 @@ pub fn run_through<T: Timer>(rt: &impl Abort, alloc: Global) -> u32 {
     offers_many(rt, &mut caller);
     goes_on(rt, alloc, &mut caller);
     expect_calls(rt, caller.kept.audit(), caller.tally.totals());
-    caller.met
+    let met = caller.met;
+    drop(caller);
+    met
 }
 
 // Does the same for a queue that begins with an opening of elements 0 to 19, which are not offered.
-fn run_on(rt: &impl Abort, alloc: Global) -> u32 {
-    let mut caller = begun::<ListTimer>(rt, alloc);
+fn run_on<T: Timer>(rt: &impl Abort, alloc: Global) -> u32 {
+    let mut caller = begun::<T>(rt, alloc);
     goes_on(rt, alloc, &mut caller);
-    caller.met
+    let met = caller.met;
+    drop(caller);
+    met
 }
 
 #[test]
@@ -360,7 +355,7 @@ fn a_refusal_changes_nothing(rt: HostRuntime) {
     let of_timers = timer_refusals(&rt, rt.alloc());
     let of_queue = queue_refusals::<ListTimer>(&rt, rt.alloc());
     let begun_empty = run_through::<ListTimer>(&rt, rt.alloc());
-    let begun_with_elements = run_on(&rt, rt.alloc());
+    let begun_with_elements = run_on::<ListTimer>(&rt, rt.alloc());
     let of_kept = begun_empty.saturating_add(begun_with_elements);
     let below = of_timers.saturating_add(of_queue);
     expect_same(&rt, below.saturating_add(of_kept), REFUSALS);

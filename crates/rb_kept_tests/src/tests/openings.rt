@@ -1,6 +1,8 @@
-use super::fixtures::{element, expect, expect_element, expect_made, expect_number};
+use super::fixtures::{
+    element, expect, expect_begun, expect_made, expect_number, expect_same, push,
+};
 use rb_delayed::Element;
-use rb_queue::{DelayQueue, Items, Opening};
+use rb_queue::{Items, Opening};
 use rb_timer::ListTimer;
 use std::alloc::Global;
 use std::process::Abort;
@@ -26,33 +28,25 @@ fn an_empty_opening_begins_at_zero(rt: HostRuntime) {
 fn standing(rt: &impl Abort, alloc: Global, entries: &[(u64, u64)]) -> Items {
     let mut elements = Vec::new(alloc);
     for &(id, expiry) in entries {
-        expect_made(rt, elements.push(element(rt, id, expiry, b"job")));
+        push(rt, &mut elements, element(rt, id, expiry, b"job"));
     }
     Items::new(elements)
 }
 
-fn expect_elements(rt: &impl Abort, elements: &[Element], entries: &[(u64, u64)]) {
-    expect_number(rt, elements.len() as u64, entries.len() as u64);
-    for (found, &(id, expiry)) in elements.iter().zip(entries) {
-        expect_element(rt, found, &element(rt, id, expiry, b"job"));
-    }
-}
-
-fn expect_opening(rt: &impl Abort, opening: &Opening, entries: &[(u64, u64)], next_id: u64) {
-    expect_elements(rt, opening.elements.as_slice(), entries);
-    expect_number(rt, opening.next_id, next_id);
-    expect_number(rt, opening.last_at, 40);
-}
-
-// Returns whether `items` and `next_id` make an opening. If so, asserts that it holds what was
-// given.
-fn make_opening(rt: &impl Abort, items: Items, entries: &[(u64, u64)], next_id: u64) -> bool {
-    match Opening::new(items, next_id, 40) {
-        None => false,
-        Some(opening) => {
-            expect_opening(rt, &opening, entries, next_id);
-            true
-        }
+// Asserts whether these elements and `next_id` make an opening. If so, it must hold what was given.
+fn expect_opening(
+    rt: &impl Abort,
+    alloc: Global,
+    entries: &[(u64, u64)],
+    next_id: u64,
+    is_opening: bool,
+) {
+    let made = Opening::new(standing(rt, alloc, entries), next_id, 40);
+    expect(rt, made.is_some() == is_opening, "whether it is an opening");
+    if let Some(opening) = made {
+        expect_number(rt, opening.next_id, next_id);
+        expect_number(rt, opening.last_at, 40);
+        expect_same(rt, opening.elements, standing(rt, alloc, entries));
     }
 }
 
@@ -76,9 +70,7 @@ fn an_opening_has_rising_ids_below_the_next(rt: HostRuntime) {
             false,
         ),
     ] {
-        let items = standing(&rt, rt.alloc(), entries);
-        let is_made = make_opening(&rt, items, entries, next_id);
-        expect(&rt, is_made == is_opening, "whether it is an opening");
+        expect_opening(&rt, rt.alloc(), entries, next_id, is_opening);
     }
 }
 
@@ -86,13 +78,9 @@ fn an_opening_has_rising_ids_below_the_next(rt: HostRuntime) {
 fn million(rt: &impl Abort, alloc: Global) -> Vec<Element> {
     let mut elements = expect_made(rt, Vec::with_capacity(alloc, 1_000_001));
     for id in 0..1_000_000_u64 {
-        push(rt, &mut elements, id);
+        push(rt, &mut elements, element(rt, id, 5, b"job"));
     }
     elements
-}
-
-fn push(rt: &impl Abort, elements: &mut Vec<Element>, id: u64) {
-    expect_made(rt, elements.push(element(rt, id, 5, b"job")));
 }
 
 // Asserts that a queue can begin with the most elements and the greatest next id. Returns the
@@ -100,18 +88,8 @@ fn push(rt: &impl Abort, elements: &mut Vec<Element>, id: u64) {
 fn expect_most(rt: &impl Abort, alloc: Global, elements: Vec<Element>) -> Vec<Element> {
     let opening = Opening::new(Items::new(elements), 1_099_511_627_776, u64::MAX);
     let opening = opening.expect(rt, "an opening");
-    expect_begun(rt, alloc, &opening);
+    expect_begun::<ListTimer>(rt, alloc, &opening, 1_000_000, 1_099_511_627_776);
     opening.elements.into_vec()
-}
-
-fn expect_begun(rt: &impl Abort, alloc: Global, opening: &Opening) {
-    let begun = DelayQueue::<ListTimer>::new_from(alloc, opening);
-    expect_goes_on(rt, &mut begun.ok().expect(rt, "a queue"));
-}
-
-fn expect_goes_on(rt: &impl Abort, queue: &mut DelayQueue<ListTimer>) {
-    expect_number(rt, queue.size(), 1_000_000);
-    expect_number(rt, queue.next_id(), 1_099_511_627_776);
 }
 
 fn expect_too_many(rt: &impl Abort, elements: Vec<Element>) {
@@ -122,6 +100,6 @@ fn expect_too_many(rt: &impl Abort, elements: Vec<Element>) {
 #[test]
 fn an_opening_has_at_most_a_million_elements(rt: HostRuntime) {
     let mut elements = expect_most(&rt, rt.alloc(), million(&rt, rt.alloc()));
-    push(&rt, &mut elements, 1_000_000);
+    push(&rt, &mut elements, element(&rt, 1_000_000, 5, b"job"));
     expect_too_many(&rt, elements);
 }

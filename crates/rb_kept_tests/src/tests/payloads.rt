@@ -1,4 +1,4 @@
-use super::fixtures::{expect, expect_made, expect_same, expect_text, payload};
+use super::fixtures::{expect, expect_made, expect_same, payload};
 use rb_delayed::{Payload, PayloadFault};
 use std::alloc::Global;
 use std::process::Abort;
@@ -38,7 +38,7 @@ fn equal_payloads_have_equal_bytes(rt: HostRuntime) {
 
 fn shows(rt: &impl Abort, alloc: Global, payload: Payload) {
     let text = expect_made(rt, format!(in alloc; "{payload:?}"));
-    expect_text(rt, &text, "Payload(\"job\")");
+    expect_same(rt, text.as_str(), "Payload(\"job\")");
 }
 
 #[test]

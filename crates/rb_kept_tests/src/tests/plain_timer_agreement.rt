@@ -1,11 +1,11 @@
-use super::fixtures::{expect_made, expect_same};
+use super::fixtures::{answers_of, expect_same, push};
 use rand_pcg::Pcg32;
 use rand_pcg::rand_core::Rng;
 use rb_binary::BinaryTimer;
 use rb_pairing::PairingTimer;
 use rb_timer::TimerAnswer::Entry;
 use rb_timer::TimerCommand::{Clear, Due, Insert, Least, Remove};
-use rb_timer::{ListTimer, Timer, TimerAnswer, TimerCommand, run_timer};
+use rb_timer::{ListTimer, Timer, TimerAnswer, TimerCommand};
 use rb_wheel::WheelTimer;
 use std::alloc::Global;
 use std::process::Abort;
@@ -46,44 +46,31 @@ fn next_commands(
     let count = if run == 0 { 20_024 } else { 1000u32 };
     for _ in 0..count {
         now = now.saturating_add(of_any_size(random) >> (run % 60));
-        expect_made(rt, commands.push(next_command(random, now)));
+        push(rt, &mut commands, next_command(random, now));
     }
     commands
 }
 
-// Returns whether two answers are equal. Entries agree if their expiries are equal, since any entry
-// of least expiry may be given.
-fn agree(one: &TimerAnswer, other: &TimerAnswer) -> bool {
-    match (one, other) {
+// Asserts that two answers are equal. Entries agree if their expiries are equal, since any entry of
+// least expiry may be given.
+fn expect_agree(rt: &impl Abort, one: &TimerAnswer, other: &TimerAnswer, run: u32) {
+    let agree = match (one, other) {
         (Entry(Some((_, expiry))), Entry(Some((_, another)))) => expiry == another,
         _ => one == other,
-    }
+    };
+    assert!(rt; agree, "run {run}");
 }
 
 fn expect_agreement(rt: &impl Abort, answers: &[TimerAnswer], expected: &[TimerAnswer], run: u32) {
     expect_same(rt, answers.len(), expected.len());
-    assert!(rt;
-        answers
-            .iter()
-            .zip(expected.iter())
-            .all(|(one, other)| agree(one, other)),
-        "run {run}"
-    );
-}
-
-fn answers_of<T: Timer>(
-    rt: &impl Abort,
-    alloc: Global,
-    commands: &[TimerCommand],
-) -> Vec<TimerAnswer> {
-    let mut timer = T::new(alloc);
-    expect_made(rt, timer.reserve(48));
-    expect_made(rt, run_timer(alloc, &mut timer, commands))
+    for (one, other) in answers.iter().zip(expected) {
+        expect_agree(rt, one, other, run);
+    }
 }
 
 fn expect_agrees<T: Timer>(rt: &impl Abort, alloc: Global, commands: &[TimerCommand], run: u32) {
-    let expected = answers_of::<ListTimer>(rt, alloc, commands);
-    let answers = answers_of::<T>(rt, alloc, commands);
+    let expected = answers_of::<ListTimer>(rt, alloc, 48, commands);
+    let answers = answers_of::<T>(rt, alloc, 48, commands);
     expect_agreement(rt, &answers, &expected, run);
 }
 

@@ -2,7 +2,7 @@
 // everything is as before it: what the queue shows then, and each element that it gives until the
 // end. The call, made again, finds memory.
 
-use super::fixtures::{element, expect_found, expect_moment, expect_number, payload};
+use super::fixtures::{element, expect_element, expect_made, expect_number, expect_same, payload};
 use rb_delayed::Element;
 use rb_queue::{DelayQueue, Draft, Items, Opening};
 use rb_timer::Timer;
@@ -35,10 +35,7 @@ fn shown<T: Timer>(queue: &DelayQueue<T>) -> Shown {
 }
 
 fn expect_shown<T: Timer>(rt: &impl Abort, queue: &DelayQueue<T>, wanted: Shown) {
-    expect_number(rt, queue.size(), wanted.0);
-    expect_number(rt, queue.next_id(), wanted.1);
-    expect_found(rt, queue.peek(), wanted.2);
-    expect_moment(rt, queue.next_expiry(), wanted.3);
+    expect_same(rt, shown(queue), wanted);
 }
 
 fn five_elements(rt: &impl Abort, alloc: Global) -> Result<Items, AllocError> {
@@ -50,25 +47,26 @@ fn five_elements(rt: &impl Abort, alloc: Global) -> Result<Items, AllocError> {
 }
 
 // Makes the opening of elements 0 to 4, and tries once more if memory is refused.
-fn five(rt: &impl Abort, alloc: Global) -> Result<Opening, AllocError> {
+fn five(rt: &impl Abort, alloc: Global) -> Opening {
     let items = match five_elements(rt, alloc) {
         Ok(items) => items,
-        Err(_) => five_elements(rt, alloc)?,
+        Err(_) => expect_made(rt, five_elements(rt, alloc)),
     };
-    Ok(Opening::new(items, 5, 0).expect(rt, "an opening"))
+    Opening::new(items, 5, 0).expect(rt, "an opening")
 }
 
 // A queue, and the number of refusals when it began.
 type Begun<T> = (DelayQueue<T>, u32);
 
-fn begun_again<T: Timer>(alloc: Global, opening: &Opening) -> Result<Begun<T>, AllocError> {
+fn begun_again<T: Timer>(rt: &impl Abort, alloc: Global, opening: &Opening) -> Begun<T> {
     match DelayQueue::new_from(alloc, opening) {
-        Ok(queue) => Ok((queue, 0)),
-        Err(_) => Ok((DelayQueue::new_from(alloc, opening)?, 1)),
+        Ok(queue) => (queue, 0),
+        Err(_) => (expect_made(rt, DelayQueue::new_from(alloc, opening)), 1),
     }
 }
 
-fn offered<T: Timer>(
+/// Offers an element of payload `job`.
+pub fn try_offer<T: Timer>(
     rt: &impl Abort,
     queue: &mut DelayQueue<T>,
     expiry: u64,
@@ -83,13 +81,13 @@ fn offered_again<T: Timer>(
     rt: &impl Abort,
     queue: &mut DelayQueue<T>,
     expiry: u64,
-) -> Result<(Element, u32), AllocError> {
+) -> (Element, u32) {
     let before = shown(queue);
-    match offered(rt, queue, expiry) {
-        Ok(element) => Ok((element, 0)),
+    match try_offer(rt, queue, expiry) {
+        Ok(element) => (element, 0),
         Err(_) => {
             expect_shown(rt, queue, before);
-            Ok((offered(rt, queue, expiry)?, 1))
+            (expect_made(rt, try_offer(rt, queue, expiry)), 1)
         }
     }
 }
@@ -101,13 +99,13 @@ fn drained_again<T: Timer>(
     queue: &mut DelayQueue<T>,
     now: u64,
     max: u64,
-) -> Result<(Items, u32), AllocError> {
+) -> (Items, u32) {
     let before = shown(queue);
     match queue.drain(now, max) {
-        Ok(items) => Ok((items, 0)),
+        Ok(items) => (items, 0),
         Err(_) => {
             expect_shown(rt, queue, before);
-            Ok((queue.drain(now, max)?, 1))
+            (expect_made(rt, queue.drain(now, max)), 1)
         }
     }
 }
@@ -116,30 +114,26 @@ fn drained_again<T: Timer>(
 fn expect_down_from(rt: &impl Abort, items: &[Element], last: u64, count: u64) {
     expect_number(rt, items.len() as u64, count);
     let mut id = last;
-    for &item in items {
-        expect_found(rt, Some(item), Some(numbered(rt, id)));
+    for item in items {
+        expect_element(rt, item, &numbered(rt, id));
         id = id.saturating_sub(1);
     }
 }
 
 // Offers element `id`, once more after a refusal, and returns the number of refusals.
-fn offers<T: Timer>(
-    rt: &impl Abort,
-    queue: &mut DelayQueue<T>,
-    id: u64,
-) -> Result<u32, AllocError> {
-    let (offer, times) = offered_again(rt, queue, expiry_of(id))?;
-    expect_found(rt, Some(offer), Some(numbered(rt, id)));
-    Ok(times)
+fn offers<T: Timer>(rt: &impl Abort, queue: &mut DelayQueue<T>, id: u64) -> u32 {
+    let (offered, refused) = offered_again(rt, queue, expiry_of(id));
+    expect_element(rt, &offered, &numbered(rt, id));
+    refused
 }
 
 // Offers elements 5 to 19, and returns the number of refusals.
-fn offers_many<T: Timer>(rt: &impl Abort, queue: &mut DelayQueue<T>) -> Result<u32, AllocError> {
+fn offers_many<T: Timer>(rt: &impl Abort, queue: &mut DelayQueue<T>) -> u32 {
     let mut refused = 0_u32;
     for id in 5..COUNT {
-        refused = refused.saturating_add(offers(rt, queue, id)?);
+        refused = refused.saturating_add(offers(rt, queue, id));
     }
-    Ok(refused)
+    refused
 }
 
 // Drains at most `max` elements that are expired at `now`, asserts that they are `count` elements
@@ -149,41 +143,27 @@ fn drains<T: Timer>(
     queue: &mut DelayQueue<T>,
     (now, max): (u64, u64),
     (last, count): (u64, u64),
-) -> Result<u32, AllocError> {
-    let (items, refused) = drained_again(rt, queue, now, max)?;
+) -> u32 {
+    let (items, refused) = drained_again(rt, queue, now, max);
     expect_down_from(rt, items.as_slice(), last, count);
-    Ok(refused)
+    refused
 }
 
 // Drains seven elements and then all others, and returns the number of refusals.
-fn drains_twice<T: Timer>(rt: &impl Abort, queue: &mut DelayQueue<T>) -> Result<u32, AllocError> {
-    let few = drains(rt, queue, (90, 7), (19, 7))?;
-    let all = drains(rt, queue, (u64::MAX, u64::MAX), (12, 13))?;
+fn drains_twice<T: Timer>(rt: &impl Abort, queue: &mut DelayQueue<T>) -> u32 {
+    let few = drains(rt, queue, (90, 7), (19, 7));
+    let all = drains(rt, queue, (u64::MAX, u64::MAX), (12, 13));
     expect_shown(rt, queue, (0, COUNT, None, None));
-    Ok(few.saturating_add(all))
-}
-
-fn offers_and_drains<T: Timer>(
-    rt: &impl Abort,
-    queue: &mut DelayQueue<T>,
-) -> Result<u32, AllocError> {
-    expect_shown(rt, queue, (5, 5, Some(numbered(rt, 4)), Some(96)));
-    let offering = offers_many(rt, queue)?;
-    let draining = drains_twice(rt, queue)?;
-    Ok(offering.saturating_add(draining))
-}
-
-fn run_through<T: Timer>(rt: &impl Abort, alloc: Global) -> Result<u32, AllocError> {
-    let opening = five(rt, alloc)?;
-    let (mut queue, refused) = begun_again::<T>(alloc, &opening)?;
-    let further = offers_and_drains(rt, &mut queue)?;
-    Ok(refused.saturating_add(further))
+    few.saturating_add(all)
 }
 
 /// Begins a queue, offers and drains. Each call is made once more after a refusal. Returns the
 /// number of refusals.
 pub fn queue_refusals<T: Timer>(rt: &impl Abort, alloc: Global) -> u32 {
-    run_through::<T>(rt, alloc)
-        .ok()
-        .expect(rt, "a second refusal")
+    let (mut queue, beginning) = begun_again::<T>(rt, alloc, &five(rt, alloc));
+    expect_shown(rt, &queue, (5, 5, Some(numbered(rt, 4)), Some(96)));
+    let offering = offers_many(rt, &mut queue);
+    let draining = drains_twice(rt, &mut queue);
+    drop(queue);
+    beginning.saturating_add(offering).saturating_add(draining)
 }

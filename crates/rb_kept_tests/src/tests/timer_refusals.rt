@@ -2,7 +2,7 @@
 // holds: after a refusal it has its entries and its room as before, and the call, made again, finds
 // memory.
 
-use super::fixtures::{expect, expect_number};
+use super::fixtures::{expect, expect_entry, expect_number, puts, takes};
 use rb_binary::BinaryTimer;
 use rb_pairing::PairingTimer;
 use rb_timer::TimerAnswer::{self, Entry, Inserted, Refused, Removed};
@@ -30,26 +30,11 @@ fn least_of(count: usize) -> Option<(usize, u64)> {
     Some((slot, expiry_of(slot)))
 }
 
-fn puts<T: Timer>(timer: &mut T, slot: usize) -> bool {
-    if timer.room() <= slot || timer.get(slot).is_some() {
-        return false;
-    }
-    timer.insert(slot, expiry_of(slot));
-    true
-}
-
-fn takes<T: Timer>(timer: &mut T, slot: usize) -> bool {
-    if timer.get(slot).is_none() {
-        return false;
-    }
-    timer.remove(slot) == expiry_of(slot)
-}
-
 // Asserts that the timer has exactly `count` slots, and an entry in each.
 fn expect_filled<T: Timer>(rt: &impl Abort, timer: &T, count: usize) {
     expect_number(rt, timer.room() as u64, count as u64);
     expect_number(rt, timer.len() as u64, count as u64);
-    expect(rt, timer.least() == least_of(count), "the least entry");
+    expect_entry(rt, timer.least(), least_of(count));
     for slot in 0..count {
         expect(
             rt,
@@ -74,14 +59,12 @@ fn reserves<T: Timer>(rt: &impl Abort, timer: &mut T, count: usize, wanted: usiz
 // wheel's base has moved past its expiry, so everything that comes later is early for the wheel.
 fn fills<T: Timer>(rt: &impl Abort, timer: &mut T, count: usize, room: usize) {
     for slot in count..room {
-        expect(rt, puts(timer, slot), "a slot is filled");
+        expect(rt, puts(timer, slot, expiry_of(slot)), "a slot is filled");
     }
     let last = room.saturating_sub(1);
-    expect(
-        rt,
-        takes(timer, last) && puts(timer, last),
-        "the last slot is filled again",
-    );
+    let expiry = expiry_of(last);
+    let is_again = takes(timer, last, expiry) && puts(timer, last, expiry);
+    expect(rt, is_again, "the last slot is filled again");
     expect_filled(rt, timer, room);
 }
 
@@ -142,12 +125,10 @@ fn runs<T: Timer>(rt: &impl Abort, alloc: Global, timer: &mut T) -> u32 {
 fn drains<T: Timer>(rt: &impl Abort, timer: &mut T) {
     for taken in 0..MOST {
         let count = MOST.saturating_sub(taken);
-        expect(rt, timer.due(1_000) == least_of(count), "the due entry");
-        expect(
-            rt,
-            takes(timer, count.saturating_sub(1)),
-            "the due entry leaves",
-        );
+        expect_entry(rt, timer.due(1_000), least_of(count));
+        let slot = count.saturating_sub(1);
+        let is_taken = takes(timer, slot, expiry_of(slot));
+        expect(rt, is_taken, "the due entry leaves");
     }
     expect_number(rt, timer.len() as u64, 0);
 }

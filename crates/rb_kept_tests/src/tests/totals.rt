@@ -1,7 +1,7 @@
 //! The totals of a run, and the shares that add up to them.
 
-use super::fixtures::{expect_number, expect_same};
-use rb_ledger::{Books, GREATEST_COUNT, Tally, Totals};
+use super::fixtures::{expect_number, expect_totals};
+use rb_ledger::{Books, GREATEST_COUNT, Tally};
 use std::process::Abort;
 
 // The three numbers of a `wanted` are those of calls, of elements offered and of elements given.
@@ -20,10 +20,6 @@ fn expect_whole(rt: &impl Abort, books: &Books, wanted: [u64; 3]) {
     expect_number(rt, books.given(), given);
 }
 
-fn expect_totals(rt: &impl Abort, totals: Totals, wanted: Totals) {
-    expect_same(rt, totals, wanted);
-}
-
 #[test]
 fn a_call_is_in_the_books_and_in_its_share(rt: HostRuntime) {
     let (mut books, mut first) = Books::new();
@@ -35,14 +31,8 @@ fn a_call_is_in_the_books_and_in_its_share(rt: HostRuntime) {
     expect_share(&rt, &second, [2, 2, 7]);
     expect_whole(&rt, &books, [3, 3, 7]);
     first.join(second);
-    expect_totals(&rt, first.totals(), books.totals());
-    let (calls, offered, given) = (3, 3, 7);
-    let wanted = Totals {
-        calls,
-        offered,
-        given,
-    };
-    expect_totals(&rt, first.totals(), wanted);
+    expect_totals(&rt, first.totals(), [3, 3, 7]);
+    expect_totals(&rt, books.totals(), [3, 3, 7]);
 }
 
 #[test]
