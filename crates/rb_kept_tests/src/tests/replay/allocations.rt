@@ -10,25 +10,27 @@ use rb_replay::History;
 use std::alloc::Global;
 use std::process::Abort;
 
-// The numbers of events of the histories: none, some, and several pieces.
-const COUNTS: [u64; 3] = [0, 100, 10_000];
-
-// The bytes of their texts: the lines around the events have 21, and 6, 8 and 10 bytes. Of each two events
-// one is a drain with a line of 20 bytes, and one a count with a line of 13.
-const BYTES: [usize; 3] = [27, 21 + 50 * 33 + 8, 21 + 5_000 * 33 + 10];
+// The numbers of events of the histories, which are none, some, and several pieces, and of the bytes of their
+// texts: the lines around the events have 21, and 6, 8 and 10 bytes. Of each two events one is a drain with a line
+// of 20 bytes, and one a count with a line of 13.
+const SIZES: [(u64, usize); 3] = [
+    (0, 27),
+    (100, 21 + 50 * 33 + 8),
+    (10_000, 21 + 5_000 * 33 + 10),
+];
 
 #[test]
 fn none_of_the_calls(rt: HostRuntime) {
-    for (count, _) in COUNTS.iter().zip(BYTES.iter()) {
-        let _ = made(&rt, rt.alloc(), *count);
+    for (count, _) in SIZES {
+        drop(made(&rt, rt.alloc(), count));
     }
 }
 
 #[test]
 fn each_of_the_calls(rt: HostRuntime) {
-    for (count, bytes) in COUNTS.iter().zip(BYTES.iter()) {
-        let (room, history) = made(&rt, rt.alloc(), *count);
-        is_written(&rt, room, &history, *bytes);
+    for (count, bytes) in SIZES {
+        let (room, history) = made(&rt, rt.alloc(), count);
+        is_written(&rt, room, history, bytes);
     }
 }
 
@@ -43,9 +45,10 @@ fn made(rt: &impl Abort, alloc: Global, count: u64) -> (HistoryRoom, History) {
     (room, history_of(rt, opening(rt, alloc, EMPTY), events))
 }
 
-fn is_written(rt: &impl Abort, room: HistoryRoom, history: &History, bytes: usize) {
+fn is_written(rt: &impl Abort, room: HistoryRoom, history: History, bytes: usize) {
     let mut scale = Scale { bytes: 0 };
     let ended = write_in(rt, room, history.opening(), history.events(), &mut scale);
     expect(rt, ended.is_ok());
     expect_count(rt, scale.bytes, bytes);
+    drop(history);
 }

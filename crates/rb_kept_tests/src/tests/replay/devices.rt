@@ -1,8 +1,9 @@
 use crate::tests::fixtures::expect_same;
+use crate::tests::replay::fixtures::is_read_as;
 use rb_history::{HistoryRoom, write_history_in};
 use rb_protocol::{LimitedWriter, WriteFault, WriterStatus};
 use rb_queue::{Event, Opening};
-use rb_replay::{HistoryFault, TextFault, TextReason, write_history};
+use rb_replay::{History, HistoryFault, TextFault, TextReason, write_history};
 use std::alloc::Global;
 use std::io::{self, ErrorKind, Write};
 use std::process::Abort;
@@ -130,4 +131,18 @@ pub fn expect_written(
 
 pub fn expect_unreadable(rt: &impl Abort, fault: Option<TextFault>, line: u64, reason: TextReason) {
     expect_same(rt, fault, Some(TextFault::At { line, reason }));
+}
+
+/// Asserts that the whole history is written to a device, and read from what that received. Returns
+/// the number of bytes and of the device's calls.
+pub fn expect_read_again(
+    rt: &impl Abort,
+    alloc: Global,
+    history: &History,
+    mut device: Device,
+) -> (usize, usize) {
+    let ended = write_to(rt, alloc, history.opening(), history.events(), &mut device);
+    expect_written(rt, ended, Ok(()));
+    expect(rt, is_read_as(alloc, &device.bytes, history));
+    (device.bytes.len(), device.calls)
 }

@@ -1,5 +1,5 @@
-use crate::tests::fixtures::{expect_made, expect_same};
-use rb_delayed::{Element, Payload};
+use crate::tests::fixtures::{element, expect_made, expect_same, payload, push};
+use rb_delayed::Element;
 use rb_queue::{Act, Audit, Event, Ids, Items, Opening, Sequence};
 use rb_replay::{
     ChainFault, History, OpeningFault, ReplayFault, TextFault, chains, check, opening_of,
@@ -38,20 +38,21 @@ pub const EMPTY: Start<'static> = None;
 /// The next id after a run of one job that failed once.
 pub const NEXT_ID: u64 = 2;
 
-pub fn payload(rt: &impl Abort, bytes: &[u8]) -> Payload {
-    Payload::new(bytes).ok().expect(rt, "a payload")
-}
-
-/// Returns the attempt of job 0 that has number `attempt`, with payload `a`.
-pub fn attempt(rt: &impl Abort, id: u64, expiry: u64, attempt: u32) -> Element {
+/// Returns the attempt of number `attempt`.
+pub fn attempt(
+    rt: &impl Abort,
+    [id, expiry, origin, first]: [u64; 4],
+    attempt: u64,
+    bytes: &[u8],
+) -> Element {
     assert!(rt; attempt >= 1 && attempt <= 1_000);
     Element {
         id,
         expiry,
-        origin: 0,
-        first: 0,
-        attempt,
-        payload: payload(rt, b"a"),
+        origin,
+        first,
+        attempt: attempt as u32,
+        payload: payload(rt, bytes),
     }
 }
 
@@ -59,19 +60,12 @@ pub fn attempt(rt: &impl Abort, id: u64, expiry: u64, attempt: u32) -> Element {
 /// and `b` for any other.
 pub fn first(rt: &impl Abort, id: u64, expiry: u64) -> Element {
     let bytes: &[u8] = if id == 0 { b"a" } else { b"b" };
-    Element {
-        id,
-        expiry,
-        origin: id,
-        first: expiry,
-        attempt: 1,
-        payload: payload(rt, bytes),
-    }
+    element(rt, id, expiry, bytes)
 }
 
 /// Returns the second attempt of job 0, offered as element 1.
 pub fn second(rt: &impl Abort) -> Element {
-    attempt(rt, 1, 1000, 2)
+    attempt(rt, [1, 1000, 0, 0], 2, b"a")
 }
 
 /// Returns a run of two seats: an offer, its poll, a timed poll that gives up, and a count.
@@ -110,7 +104,7 @@ fn drained(rt: &impl Abort, alloc: Global, given: [Option<u64>; 3]) -> Ids {
     let mut ids = Vec::new(alloc);
     for id in given {
         if let Some(id) = id {
-            expect_made(rt, ids.push(id));
+            push(rt, &mut ids, id);
         }
     }
     Ids::new(ids)
@@ -144,20 +138,13 @@ fn act(rt: &impl Abort, alloc: Global, deed: Deed) -> Act {
 pub fn push_row(rt: &impl Abort, alloc: Global, events: &mut Vec<Event>, row: Row) {
     let (seat, asked, at, deed) = row;
     let act = act(rt, alloc, deed);
-    push_event(
-        rt,
-        events,
-        Event {
-            seat,
-            asked,
-            at,
-            act,
-        },
-    );
-}
-
-pub fn push_event(rt: &impl Abort, events: &mut Vec<Event>, event: Event) {
-    expect_made(rt, events.push(event));
+    let event = Event {
+        seat,
+        asked,
+        at,
+        act,
+    };
+    push(rt, events, event);
 }
 
 fn events(rt: &impl Abort, alloc: Global, rows: &[Row]) -> Vec<Event> {
@@ -236,16 +223,16 @@ pub fn expect_linked(rt: &impl Abort, answer: Result<(), ChainFault>, wanted: Op
 
 pub fn expect_opening(
     rt: &impl Abort,
-    answer: &Result<Opening, OpeningFault>,
-    wanted: &Result<Opening, OpeningFault>,
+    answer: Result<Opening, OpeningFault>,
+    wanted: Result<Opening, OpeningFault>,
 ) {
     expect_same(rt, answer, wanted);
 }
 
 pub fn expect_read(
     rt: &impl Abort,
-    answer: &Result<History, TextFault>,
-    wanted: &Result<History, TextFault>,
+    answer: Result<History, TextFault>,
+    wanted: Result<History, TextFault>,
 ) {
     expect_same(rt, answer, wanted);
 }

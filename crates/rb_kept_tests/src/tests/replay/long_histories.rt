@@ -4,21 +4,17 @@
 //! place in the round, from 0 to 99. It has the same number of digits in each round, except for
 //! attempts and sizes.
 
-use crate::tests::fixtures::expect_made;
-use crate::tests::replay::devices::{
-    Device, NEVER, expect, expect_count, expect_unreadable, expect_written, write_to,
-};
+use crate::tests::fixtures::{expect_made, push};
+use crate::tests::replay::devices::{Device, NEVER, expect, expect_count, expect_read_again};
 use crate::tests::replay::fixtures::{
-    Deed, EMPTY, Start, checked, expect_audit, expect_linked, history_of, is_read_as, linked,
-    opened, opening, opening_at, payload, push_event, push_row,
+    Deed, EMPTY, Start, attempt, checked, expect_audit, expect_linked, expect_opening, history_of,
+    is_read_as, linked, opened, opening, opening_at, push_row,
 };
 use rb_delayed::Element;
 use rb_queue::{Act, Audit, Event, Ids, Items, Opening};
-use rb_replay::{
-    ChainFault, ChainReason, History, OpeningFault, Reason, ReplayFault, TextReason, read_history,
-};
+use rb_replay::{ChainFault, ChainReason, History, OpeningFault, Reason, ReplayFault};
 use rb_retry::Policy;
-use std::alloc::{AllocError, Global};
+use std::alloc::Global;
 use std::fmt::Write;
 use std::process::Abort;
 
@@ -64,17 +60,11 @@ fn expiry(round: u64, place: u64) -> u64 {
 fn offered(rt: &impl Abort, round: u64, place: u64) -> Element {
     let retry = place == 0;
     let begun = if retry { 0 } else { round };
-    let attempt = if retry { round.saturating_add(1) } else { 1 };
+    let number = if retry { round.saturating_add(1) } else { 1 };
     let bytes: &[u8] = if retry { b"again" } else { b"j" };
-    assert!(rt; attempt >= 1 && attempt <= 1_000);
-    Element {
-        id: id(round, place),
-        expiry: expiry(round, place),
-        origin: id(begun, place),
-        first: expiry(begun, place),
-        attempt: attempt as u32,
-        payload: payload(rt, bytes),
-    }
+    let (origin, first) = (id(begun, place), expiry(begun, place));
+    let expiry = expiry(round, place);
+    attempt(rt, [id(round, place), expiry, origin, first], number, bytes)
 }
 
 // Returns the number of elements that are left of the rounds up to `round`, or, after the clear, of
@@ -186,14 +176,10 @@ fn run(rt: &impl Abort, alloc: Global, count: u64) -> History {
     run_of(rt, alloc, rounds(rt, alloc, count))
 }
 
-fn push_element(rt: &impl Abort, elements: &mut Vec<Element>, element: Element) {
-    expect_made(rt, elements.push(element));
-}
-
 // Appends the elements that are left of a round.
 fn push_left(rt: &impl Abort, elements: &mut Vec<Element>, round: u64) {
     for place in 20..OFFERS_A_ROUND {
-        push_element(rt, elements, offered(rt, round, place));
+        push(rt, elements, offered(rt, round, place));
     }
 }
 
@@ -231,38 +217,26 @@ fn polls_of(rt: &impl Abort, alloc: Global, elements: &[Element]) -> Vec<Event> 
 
 // Asserts that the text of the history has `bytes` bytes, and that the history is read from it.
 fn is_written_and_read(rt: &impl Abort, alloc: Global, history: &History, bytes: usize) {
-    let mut device = Device::new(alloc, NEVER, NEVER);
-    let ended = write_to(rt, alloc, history.opening(), history.events(), &mut device);
-    expect_written(rt, ended, Ok(()));
-    expect_count(rt, device.bytes.len(), bytes);
-    expect(rt, is_read_as(alloc, &device.bytes, history));
+    let device = Device::new(alloc, NEVER, NEVER);
+    let (written, _) = expect_read_again(rt, alloc, history, device);
+    expect_count(rt, written, bytes);
 }
 
-// Returns whether a run that begins where the history ends has the opening `end`.
-fn leads_to(rt: &impl Abort, alloc: Global, history: &History, end: &Opening) -> bool {
-    match opened(rt, alloc, history) {
-        Ok(opening) => opening == *end,
-        Err(_) => false,
-    }
-}
-
-// Asserts that each call accepts the history.
+// Asserts that each call accepts the history, and that a run that begins where it ends has the
+// opening `end`.
 fn passes(
     rt: &impl Abort,
     alloc: Global,
-    history: &History,
+    history: History,
     bytes: usize,
     audit: Audit,
-    end: &Opening,
+    end: Opening,
 ) {
-    is_written_and_read(rt, alloc, history, bytes);
-    expect_audit(rt, checked(rt, alloc, history), Ok(audit));
-    expect_linked(
-        rt,
-        linked(rt, alloc, history, Policy::fixed(10, 1_000)),
-        None,
-    );
-    expect(rt, leads_to(rt, alloc, history, end));
+    is_written_and_read(rt, alloc, &history, bytes);
+    expect_audit(rt, checked(rt, alloc, &history), Ok(audit));
+    let answer = linked(rt, alloc, &history, Policy::fixed(10, 1_000));
+    expect_linked(rt, answer, None);
+    expect_opening(rt, opened(rt, alloc, &history), Ok(end));
 }
 
 // The number of bytes of the text of all rounds. The lines of a round have these numbers of bytes,
@@ -288,7 +262,7 @@ fn a_long_history_passes_each_call(rt: HostRuntime) {
         opening: 0,
     };
     let history = run(&rt, alloc, ROUNDS);
-    passes(&rt, alloc, &history, BYTES, audit, &end(&rt, alloc));
+    passes(&rt, alloc, history, BYTES, audit, end(&rt, alloc));
 }
 
 // A line has 39 bytes for an element and 30 for a poll. The lines around these have 10, 26 and 10
@@ -309,7 +283,7 @@ fn a_long_opening_passes_each_call(rt: HostRuntime) {
     };
     let history = polls(&rt, alloc, end(&rt, alloc));
     let nothing = nothing_left(&rt, alloc);
-    passes(&rt, alloc, &history, POLLED_BYTES, audit, &nothing);
+    passes(&rt, alloc, history, POLLED_BYTES, audit, nothing);
 }
 
 // Returns the opening that the polls lead to.
@@ -330,24 +304,21 @@ fn forged(rt: &impl Abort, alloc: Global) -> History {
     run_of(rt, alloc, events)
 }
 
-fn expect_late_faults(rt: &impl Abort, alloc: Global, history: &History) {
+fn expect_late_faults(rt: &impl Abort, alloc: Global, history: History) {
     let (index, reason) = (LAST, Reason::WrongSize);
-    expect_audit(
-        rt,
-        checked(rt, alloc, history),
-        Err(ReplayFault::At { index, reason }),
-    );
-    let fault = opened(rt, alloc, history).err();
-    expect(rt, fault == Some(OpeningFault::At { index, reason }));
+    let fault = ReplayFault::At { index, reason };
+    expect_audit(rt, checked(rt, alloc, &history), Err(fault));
+    let fault = OpeningFault::At { index, reason };
+    expect_opening(rt, opened(rt, alloc, &history), Err(fault));
 }
 
 #[test]
 fn a_late_fault_is_told(rt: HostRuntime) {
-    expect_late_faults(&rt, rt.alloc(), &forged(&rt, rt.alloc()));
+    expect_late_faults(&rt, rt.alloc(), forged(&rt, rt.alloc()));
 }
 
-fn expect_late_attempt(rt: &impl Abort, alloc: Global, history: &History) {
-    let answer = linked(rt, alloc, history, Policy::fixed(10, 999));
+fn expect_late_attempt(rt: &impl Abort, alloc: Global, history: History) {
+    let answer = linked(rt, alloc, &history, Policy::fixed(10, 999));
     let (index, reason) = (99_900, ChainReason::TooMany);
     expect_linked(rt, answer, Some(ChainFault::At { index, reason }));
 }
@@ -355,7 +326,7 @@ fn expect_late_attempt(rt: &impl Abort, alloc: Global, history: &History) {
 // The last attempt is offered by the first event of the last round.
 #[test]
 fn a_late_attempt_too_many_is_told(rt: HostRuntime) {
-    expect_late_attempt(&rt, rt.alloc(), &run(&rt, rt.alloc(), ROUNDS));
+    expect_late_attempt(&rt, rt.alloc(), run(&rt, rt.alloc(), ROUNDS));
 }
 
 // The number of elements in the texts of the first two versions.
@@ -364,45 +335,38 @@ const TOLD: u64 = 100_000;
 // Returns element `id`. Each job has two elements, of which the first expires at 5 and the second
 // at 6.
 fn told(rt: &impl Abort, id: u64) -> Element {
-    Element {
-        id,
-        expiry: 5 + id % 2,
-        origin: id / 2,
-        first: 5,
-        attempt: 1,
-        payload: payload(rt, b"j"),
-    }
+    attempt(rt, [id, 5 + id % 2, id / 2, 5], 1, b"j")
 }
 
 // Appends a line for each of the elements, which begins with `front`.
-fn push_lines(text: &mut String, front: &str) -> Result<(), AllocError> {
+fn push_lines(rt: &impl Abort, text: &mut String, front: &str) {
     for id in 0..TOLD {
-        writeln!(text, "{front} {id} {} {} 1 j", 5 + id % 2, id / 2)?;
+        push_line(rt, text, front, id);
     }
-    Ok(())
 }
 
-// Appends the lines of a text: those of the opening, if it lists the elements, and of the events, which
+fn push_line(rt: &impl Abort, text: &mut String, front: &str, id: u64) {
+    let (expiry, origin) = (5 + id % 2, id / 2);
+    expect_made(rt, writeln!(text, "{front} {id} {expiry} {origin} 1 j"));
+}
+
+// Returns a text with the lines of the opening, if it lists the elements, and of the events, which
 // offer them.
-fn push_text(text: &mut String, opening: &str, keeps: bool) -> Result<(), AllocError> {
-    text.push_str(opening)?;
-    if keeps {
-        push_lines(text, "keep")?;
-    }
-    push_lines(text, "0 0 0 offer")?;
-    text.push_str("end 100000\n")
-}
-
 fn text_of(rt: &impl Abort, alloc: Global, opening: &str, keeps: bool) -> String {
     let mut text = String::new(alloc);
-    expect_made(rt, push_text(&mut text, opening, keeps));
+    expect_made(rt, text.push_str(opening));
+    if keeps {
+        push_lines(rt, &mut text, "keep");
+    }
+    push_lines(rt, &mut text, "0 0 0 offer");
+    expect_made(rt, text.push_str("end 100000\n"));
     text
 }
 
 fn told_elements(rt: &impl Abort, alloc: Global) -> Vec<Element> {
     let mut elements = Vec::new(alloc);
     for id in 0..TOLD {
-        push_element(rt, &mut elements, told(rt, id));
+        push(rt, &mut elements, told(rt, id));
     }
     elements
 }
@@ -417,7 +381,7 @@ fn told_history(rt: &impl Abort, alloc: Global, start: Start<'_>) -> History {
     history_of(rt, opening(rt, alloc, start), events)
 }
 
-fn expect_told(rt: &impl Abort, alloc: Global, text: &String, start: Start<'_>) {
+fn expect_told(rt: &impl Abort, alloc: Global, text: String, start: Start<'_>) {
     let wanted = told_history(rt, alloc, start);
     expect(rt, is_read_as(alloc, text.as_bytes(), &wanted));
 }
@@ -425,7 +389,7 @@ fn expect_told(rt: &impl Abort, alloc: Global, text: &String, start: Start<'_>) 
 #[test]
 fn a_long_text_of_the_first_version_is_read(rt: HostRuntime) {
     let text = text_of(&rt, rt.alloc(), "history 1\n", false);
-    expect_told(&rt, rt.alloc(), &text, EMPTY);
+    expect_told(&rt, rt.alloc(), text, EMPTY);
 }
 
 // The opening lists the elements, and the events offer them again.
@@ -434,7 +398,7 @@ fn a_long_text_of_the_second_version_is_read(rt: HostRuntime) {
     let opening = "history 2\nopen 100000 0 100000\n";
     let text = text_of(&rt, rt.alloc(), opening, true);
     let kept = told_elements(&rt, rt.alloc());
-    expect_told(&rt, rt.alloc(), &text, Some((&kept, TOLD)));
+    expect_told(&rt, rt.alloc(), text, Some((&kept, TOLD)));
 }
 
 // A number of rounds whose text has more than 100,000 bytes. Their attempts have 41 digits. Their
@@ -444,41 +408,30 @@ const FEW_ROUNDS: u64 = 25;
 
 const FEW_BYTES: usize = 25 * 4_450 + 41 + 73 + 17 * 72 + 35;
 
-fn is_whole(rt: &impl Abort, alloc: Global, history: &History, bytes: &[u8]) {
-    expect_count(rt, bytes.len(), FEW_BYTES);
-    expect(rt, is_read_as(alloc, bytes, history));
-}
-
-fn is_written_by_bytes(rt: &impl Abort, alloc: Global, history: &History) {
-    let mut device = Device::new(alloc, 1, NEVER);
-    let ended = write_to(rt, alloc, history.opening(), history.events(), &mut device);
-    expect_written(rt, ended, Ok(()));
-    expect_count(rt, device.calls, FEW_BYTES.saturating_add(1));
-    is_whole(rt, alloc, history, &device.bytes);
+// Asserts that a device gets the whole text of few rounds. Returns the number of its calls.
+fn is_written_to(rt: &impl Abort, alloc: Global, device: Device) -> usize {
+    let history = run(rt, alloc, FEW_ROUNDS);
+    let (bytes, calls) = expect_read_again(rt, alloc, &history, device);
+    expect_count(rt, bytes, FEW_BYTES);
+    calls
 }
 
 // Each byte is one write, and one flush follows them.
 #[test]
 fn a_device_may_take_a_byte_at_a_time(rt: HostRuntime) {
-    is_written_by_bytes(&rt, rt.alloc(), &run(&rt, rt.alloc(), FEW_ROUNDS));
+    let device = Device::new(rt.alloc(), 1, NEVER);
+    let calls = is_written_to(&rt, rt.alloc(), device);
+    expect_count(&rt, calls, FEW_BYTES.saturating_add(1));
 }
 
-// Asserts that a device gets the whole text if it is interrupted at two of three writes and takes
-// at most `most` bytes at the third.
-fn is_written_between(rt: &impl Abort, alloc: Global, history: &History, most: usize) {
-    let mut device = Device::new(alloc, most, NEVER);
-    device.is_restless = true;
-    let ended = write_to(rt, alloc, history.opening(), history.events(), &mut device);
-    expect_written(rt, ended, Ok(()));
-    is_whole(rt, alloc, history, &device.bytes);
-}
-
+// The device is interrupted at two of three writes, and takes at most `most` bytes at the third.
 #[test]
 fn a_write_that_is_interrupted_is_made_again(rt: HostRuntime) {
     let alloc = rt.alloc();
-    let history = run(&rt, alloc, FEW_ROUNDS);
     for most in [1, 1_000, NEVER] {
-        is_written_between(&rt, alloc, &history, most);
+        let mut device = Device::new(alloc, most, NEVER);
+        device.is_restless = true;
+        is_written_to(&rt, alloc, device);
     }
 }
 
@@ -487,7 +440,7 @@ fn long_ids(rt: &impl Abort, alloc: Global) -> Ids {
     let mut ids = Vec::new(alloc);
     for number in 0..100_000 {
         let id = 10_000_000_000_000_000_000_u64.saturating_add(number);
-        expect_made(rt, ids.push(id));
+        push(rt, &mut ids, id);
     }
     Ids::new(ids)
 }
@@ -506,7 +459,7 @@ fn long_drain(rt: &impl Abort, alloc: Global) -> Event {
 fn drains(rt: &impl Abort, alloc: Global) -> History {
     let mut events = Vec::new(alloc);
     for _ in 0..50 {
-        push_event(rt, &mut events, long_drain(rt, alloc));
+        push(rt, &mut events, long_drain(rt, alloc));
     }
     history_of(rt, Opening::empty(alloc), events)
 }

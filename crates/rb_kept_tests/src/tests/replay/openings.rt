@@ -3,41 +3,38 @@ use crate::tests::replay::fixtures::{
     second,
 };
 use rb_queue::Opening;
-use rb_replay::{History, OpeningFault, Reason};
+use rb_replay::{OpeningFault, Reason};
 use std::alloc::Global;
 use std::process::Abort;
 
-// Asserts that no run can begin where this one ends, because of `fault`.
-fn refused(rt: &impl Abort, alloc: Global, start: Start<'_>, rows: &[Row], fault: OpeningFault) {
+// Asserts with which opening a run begins where this one ends, or why none can.
+fn leads_to(
+    rt: &impl Abort,
+    alloc: Global,
+    start: Start<'_>,
+    rows: &[Row],
+    wanted: Result<Opening, OpeningFault>,
+) {
     let history = history(rt, alloc, start, rows);
-    expect_opening(rt, &opened(rt, alloc, &history), &Err(fault));
-}
-
-// Asserts that a run can begin where the history ends, with the opening `wanted`.
-fn leads_to(rt: &impl Abort, alloc: Global, history: &History, wanted: Opening) {
-    expect_opening(rt, &opened(rt, alloc, history), &Ok(wanted));
+    expect_opening(rt, opened(rt, alloc, &history), wanted);
 }
 
 #[test]
 fn a_run_begins_where_another_ended(rt: HostRuntime) {
     let alloc = rt.alloc();
-    let history = history(&rt, alloc, EMPTY, &one_retry(&rt, second(&rt)));
     let retried = opening(&rt, alloc, Some((&[second(&rt)], NEXT_ID)));
-    leads_to(&rt, alloc, &history, retried);
-    let reason = Reason::BadId;
-    let fault = OpeningFault::At { index: 2, reason };
-    refused(&rt, alloc, EMPTY, &one_retry(&rt, first(&rt, 2, 5)), fault);
+    let rows = one_retry(&rt, second(&rt));
+    leads_to(&rt, alloc, EMPTY, &rows, Ok(retried));
+    let (index, reason) = (2, Reason::BadId);
+    let fault = OpeningFault::At { index, reason };
+    let rows = one_retry(&rt, first(&rt, 2, 5));
+    leads_to(&rt, alloc, EMPTY, &rows, Err(fault));
 }
 
 #[test]
 fn an_opening_has_its_limits(rt: HostRuntime) {
     let last = 1_099_511_627_776;
     let rows = [(0, 0, 0, Deed::Offer(first(&rt, last, 0)))];
-    refused(
-        &rt,
-        rt.alloc(),
-        Some((&[], last)),
-        &rows,
-        OpeningFault::TooLarge,
-    );
+    let start: Start<'_> = Some((&[], last));
+    leads_to(&rt, rt.alloc(), start, &rows, Err(OpeningFault::TooLarge));
 }

@@ -8,7 +8,7 @@ use crate::tests::replay::fixtures::{Deed, history_of, opening, push_row};
 use rb_history::HistoryRoom;
 use rb_protocol::WriteFault;
 use rb_replay::History;
-use std::alloc::{AllocError, Global};
+use std::alloc::Global;
 use std::fmt::Write;
 use std::process::Abort;
 
@@ -39,31 +39,27 @@ const ONE_PIECE: u64 = 2_620;
 // Returns a history of so many events, and its text.
 fn counts(rt: &impl Abort, alloc: Global, next_id: u64, events: u64) -> (History, String) {
     let mut counts = Vec::new(alloc);
+    let mut text = String::new(alloc);
+    expect_made(rt, write!(text, "history 3\nopen {next_id} 0 0\n"));
     for index in 0..events {
         let moment = START.saturating_add(index);
         push_row(rt, alloc, &mut counts, (0, moment, moment, Deed::Size(0)));
+        push_line(rt, &mut text, moment);
     }
+    expect_made(rt, write!(text, "end {events}\n"));
     let opening = opening(rt, alloc, Some((&[], next_id)));
-    let mut text = String::new(alloc);
-    expect_made(rt, push_lines(&mut text, next_id, events));
     (history_of(rt, opening, counts), text)
 }
 
-fn push_lines(text: &mut String, next_id: u64, events: u64) -> Result<(), AllocError> {
-    write!(text, "history 3\nopen {next_id} 0 0\n")?;
-    for index in 0..events {
-        let moment = START.saturating_add(index);
-        write!(text, "0 {moment} {moment} size 0\n")?;
-    }
-    write!(text, "end {events}\n")?;
-    Ok(())
+fn push_line(rt: &impl Abort, text: &mut String, moment: u64) {
+    expect_made(rt, write!(text, "0 {moment} {moment} size 0\n"));
 }
 
 // Writes to a device that takes at most `most` bytes at a time and fails at call `fails_at`.
 fn written(
     rt: &impl Abort,
     alloc: Global,
-    history: &History,
+    history: History,
     (most, fails_at): (usize, usize),
 ) -> (Device, Result<(), WriteFault>) {
     let room = expect_made(rt, HistoryRoom::new(alloc));
@@ -74,28 +70,32 @@ fn written(
 
 // Writes to a device that takes all of each write. Asserts that it gets the text, in so many writes and
 // a flush.
-fn goes_out(rt: &impl Abort, alloc: Global, history: &History, text: &[u8], writes: usize) {
+fn goes_out(rt: &impl Abort, alloc: Global, (history, text): (History, String), writes: usize) {
     let (device, ended) = written(rt, alloc, history, (NEVER, NEVER));
     expect(rt, ended.is_ok());
     expect(rt, device.longest <= PIECE);
     expect_count(rt, device.calls, writes.saturating_add(1));
-    expect(rt, device.bytes.as_slice() == text);
+    expect(rt, device.bytes.as_slice() == text.as_bytes());
 }
 
 // A device that takes a part of each piece gets the rest of it by further writes.
-fn goes_out_in_parts(rt: &impl Abort, alloc: Global, history: &History, text: &[u8]) {
+fn goes_out_in_parts(
+    rt: &impl Abort,
+    alloc: Global,
+    (history, text): (History, String),
+    bytes: usize,
+) {
     let (device, ended) = written(rt, alloc, history, (1_000, NEVER));
     expect(rt, ended.is_ok());
-    expect(rt, device.bytes.as_slice() == text);
+    expect_count(rt, device.bytes.len(), bytes);
+    expect(rt, device.bytes.as_slice() == text.as_bytes());
 }
 
 #[test]
 fn a_long_text_goes_out_in_pieces(rt: HostRuntime) {
     let alloc = rt.alloc();
-    let (history, text) = counts(&rt, alloc, 0, LONG);
-    expect_count(&rt, text.len(), LONG_BYTES);
-    goes_out(&rt, alloc, &history, text.as_bytes(), LONG_PIECES);
-    goes_out_in_parts(&rt, alloc, &history, text.as_bytes());
+    goes_out(&rt, alloc, counts(&rt, alloc, 0, LONG), LONG_PIECES);
+    goes_out_in_parts(&rt, alloc, counts(&rt, alloc, 0, LONG), LONG_BYTES);
 }
 
 // Returns how many bytes are written at least before this call: whole pieces, or all before the flush.
@@ -108,32 +108,27 @@ fn least_written(call: usize) -> usize {
 }
 
 // Nothing is written behind a call that failed, and what was written before it is the first part of the text.
-fn breaks_off(rt: &impl Abort, alloc: Global, history: &History, text: &[u8], fails_at: usize) {
+fn breaks_off(rt: &impl Abort, alloc: Global, (history, text): (History, String), fails_at: usize) {
     let (device, ended) = written(rt, alloc, history, (NEVER, fails_at));
     expect(rt, ended == Err(WriteFault));
     expect_count(rt, device.calls, fails_at.saturating_add(1));
-    expect(rt, text.starts_with(&device.bytes));
+    expect(rt, text.as_bytes().starts_with(&device.bytes));
     expect(rt, device.bytes.len() >= least_written(fails_at));
 }
 
 #[test]
 fn a_device_that_fails_at_any_call_has_a_first_part(rt: HostRuntime) {
     let alloc = rt.alloc();
-    let (history, text) = counts(&rt, alloc, 0, SHORTER);
     for fails_at in 0..=SHORTER_PIECES {
-        breaks_off(&rt, alloc, &history, text.as_bytes(), fails_at);
+        breaks_off(&rt, alloc, counts(&rt, alloc, 0, SHORTER), fails_at);
     }
-}
-
-fn fits(rt: &impl Abort, alloc: Global, next_id: u64, writes: usize) {
-    let (history, text) = counts(rt, alloc, next_id, ONE_PIECE);
-    goes_out(rt, alloc, &history, text.as_bytes(), writes);
 }
 
 // A text that fits into the room is one write, and a byte more makes it two.
 #[test]
 fn a_text_that_fits_is_one_write(rt: HostRuntime) {
-    fits(&rt, rt.alloc(), 0, 1);
-    fits(&rt, rt.alloc(), 9_999_999, 1);
-    fits(&rt, rt.alloc(), 10_000_000, 2);
+    let alloc = rt.alloc();
+    for (next_id, writes) in [(0, 1), (9_999_999, 1), (10_000_000, 2)] {
+        goes_out(&rt, alloc, counts(&rt, alloc, next_id, ONE_PIECE), writes);
+    }
 }

@@ -19,25 +19,16 @@ fn unreadable(rt: &impl Abort, alloc: Global, text: &[u8], line: u64, reason: Te
     expect_unreadable(rt, read_history(alloc, text).err(), line, reason);
 }
 
-// Returns the number of whole lines of the text.
-fn whole_lines(text: &[u8]) -> u64 {
-    text.iter().filter(|&&byte| byte == b'\n').count() as u64
-}
-
-// Asserts that a part of a text is refused after its last whole line. A part of at most nine bytes has
-// no whole line, and so no header.
-fn prefix_is_unreadable(rt: &impl Abort, alloc: Global, text: &[u8]) {
-    if text.len() <= 9 {
-        unreadable(rt, alloc, text, 1, TextReason::Header);
-    } else {
-        let line = whole_lines(text).saturating_add(1);
-        unreadable(rt, alloc, text, line, TextReason::End);
-    }
-}
-
+// Asserts that each part of a text is refused after its last whole line. The header is the first.
 fn expect_prefixes(rt: &impl Abort, alloc: Global, text: &[u8]) {
-    for len in 0..text.len() {
-        prefix_is_unreadable(rt, alloc, text.get(..len).unwrap_or_default());
+    let (mut line, mut reason) = (1_u64, TextReason::Header);
+    for (len, byte) in text.iter().enumerate() {
+        let part = text.get(..len).unwrap_or_default();
+        unreadable(rt, alloc, part, line, reason);
+        if *byte == b'\n' {
+            line = line.saturating_add(1);
+            reason = TextReason::End;
+        }
     }
     expect(rt, read_history(alloc, text).is_ok());
 }

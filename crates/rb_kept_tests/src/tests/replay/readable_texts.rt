@@ -1,17 +1,15 @@
-use crate::tests::fixtures::{expect_made, expect_same};
 use crate::tests::replay::fixtures::{
-    Deed, EMPTY, NEXT_ID, Row, Start, expect_read, first, history, next_run, one_retry, second,
-    two_seats,
+    Deed, EMPTY, NEXT_ID, Row, Start, attempt, expect_read, first, history, next_run, one_retry,
+    second, two_seats,
 };
-use rb_queue::{Act, Event};
-use rb_replay::{History, read_history};
+use rb_replay::read_history;
 use std::alloc::Global;
 use std::process::Abort;
 
 // Asserts that the text is read as the history of `start` and `rows`.
 fn read_as(rt: &impl Abort, alloc: Global, text: &[u8], start: Start<'_>, rows: &[Row]) {
     let wanted = Ok(history(rt, alloc, start, rows));
-    expect_read(rt, &read_history(alloc, text), &wanted);
+    expect_read(rt, read_history(alloc, text), wanted);
 }
 
 #[test]
@@ -103,40 +101,29 @@ fn the_greatest_next_id_is_read(rt: HostRuntime) {
     read_as(&rt, rt.alloc(), text, Some((&[], next_id)), &rows);
 }
 
-// Returns the first expiry of the element that the event offered.
-fn first_of(event: &Event) -> Option<u64> {
-    match &event.act {
-        Act::Offer(element) => Some(element.first),
-        _ => None,
-    }
-}
-
-fn kept_first(history: &History, place: usize) -> Option<u64> {
-    match history.opening().elements.as_slice().get(place) {
-        Some(kept) => Some(kept.first),
-        None => None,
-    }
-}
-
-fn offered_first(history: &History, place: usize) -> Option<u64> {
-    match history.events().get(place) {
-        Some(event) => first_of(event),
-        None => None,
-    }
-}
-
-fn expect_firsts(rt: &impl Abort, history: &History) {
-    for (place, first) in [(0, 70), (1, 60), (2, 70)] {
-        expect_same(rt, kept_first(history, place), Some(first));
-    }
-    for (place, first) in [(0, 70), (1, 40), (2, 40)] {
-        expect_same(rt, offered_first(history, place), Some(first));
-    }
-}
-
 #[test]
 fn the_earliest_line_tells_the_first_expiry(rt: HostRuntime) {
     let text = b"history 2\nopen 9 0 3\nkeep 3 70 1 1 a\nkeep 4 60 2 1 a\nkeep 5 90 1 2 a\n\
         0 0 0 offer 9 50 1 3 a\n0 0 0 offer 10 40 10 1 b\n0 0 0 offer 11 30 10 2 b\nend 3\n";
-    expect_firsts(&rt, &expect_made(&rt, read_history(rt.alloc(), text)));
+    let kept = [
+        attempt(&rt, [3, 70, 1, 70], 1, b"a"),
+        attempt(&rt, [4, 60, 2, 60], 1, b"a"),
+        attempt(&rt, [5, 90, 1, 70], 2, b"a"),
+    ];
+    let rows = [
+        (0, 0, 0, Deed::Offer(attempt(&rt, [9, 50, 1, 70], 3, b"a"))),
+        (
+            0,
+            0,
+            0,
+            Deed::Offer(attempt(&rt, [10, 40, 10, 40], 1, b"b")),
+        ),
+        (
+            0,
+            0,
+            0,
+            Deed::Offer(attempt(&rt, [11, 30, 10, 40], 2, b"b")),
+        ),
+    ];
+    read_as(&rt, rt.alloc(), text, Some((&kept, 9)), &rows);
 }

@@ -1,9 +1,7 @@
 use crate::tests::replay::devices::{
-    Device, NEVER, expect, expect_bytes, expect_written, write_to,
+    Device, NEVER, expect_bytes, expect_read_again, expect_written, write_to,
 };
-use crate::tests::replay::fixtures::{
-    EMPTY, NEXT_ID, history, is_read_as, next_run, second, two_seats,
-};
+use crate::tests::replay::fixtures::{EMPTY, NEXT_ID, history, next_run, second, two_seats};
 use rb_replay::{
     History, HistoryFault, no_fault_of_text, no_text_of_two, one_fault, one_text_each,
 };
@@ -25,7 +23,7 @@ const NEXT_RUN: &[u8] =
 fn written_as(
     rt: &impl Abort,
     alloc: Global,
-    history: &History,
+    history: History,
     (most, fails_at): (usize, usize),
     answer: Result<(), HistoryFault>,
     text: &[u8],
@@ -40,7 +38,7 @@ fn written_as(
 fn an_empty_run_is_written(rt: HostRuntime) {
     let alloc = rt.alloc();
     let run = history(&rt, alloc, EMPTY, &[]);
-    written_as(&rt, alloc, &run, (99, 99), Ok(()), EMPTY_RUN);
+    written_as(&rt, alloc, run, (99, 99), Ok(()), EMPTY_RUN);
     one_text_each();
     no_text_of_two();
     no_fault_of_text();
@@ -50,16 +48,13 @@ fn an_empty_run_is_written(rt: HostRuntime) {
 #[test]
 fn runs_are_written(rt: HostRuntime) {
     let alloc = rt.alloc();
-    let run = history(&rt, alloc, EMPTY, &two_seats(&rt));
-    written_as(&rt, alloc, &run, (999, 99), Ok(()), TWO_SEATS);
-    written_as(
-        &rt,
-        alloc,
-        &second_run(&rt, alloc),
-        (7, 99),
-        Ok(()),
-        NEXT_RUN,
-    );
+    let (first, second) = (first_run(&rt, alloc), second_run(&rt, alloc));
+    written_as(&rt, alloc, first, (999, 99), Ok(()), TWO_SEATS);
+    written_as(&rt, alloc, second, (7, 99), Ok(()), NEXT_RUN);
+}
+
+fn first_run(rt: &impl Abort, alloc: Global) -> History {
+    history(rt, alloc, EMPTY, &two_seats(rt))
 }
 
 // Returns the history of a run that follows one in which a job failed once.
@@ -67,22 +62,15 @@ fn second_run(rt: &impl Abort, alloc: Global) -> History {
     history(rt, alloc, Some((&[second(rt)], NEXT_ID)), &next_run(rt))
 }
 
-fn is_read_again(rt: &impl Abort, alloc: Global, run: &History) {
-    let mut device = Device::new(alloc, 999, NEVER);
-    let ended = write_to(rt, alloc, run.opening(), run.events(), &mut device);
-    expect_written(rt, ended, Ok(()));
-    expect(rt, is_read_as(alloc, &device.bytes, run));
-}
-
 #[test]
 fn what_was_written_is_read(rt: HostRuntime) {
-    is_read_again(&rt, rt.alloc(), &second_run(&rt, rt.alloc()));
+    let device = Device::new(rt.alloc(), 999, NEVER);
+    expect_read_again(&rt, rt.alloc(), &second_run(&rt, rt.alloc()), device);
 }
 
 #[test]
 fn a_device_that_fails_has_the_first_part(rt: HostRuntime) {
     let alloc = rt.alloc();
-    let run = history(&rt, alloc, EMPTY, &two_seats(&rt));
     for (most, fails_at, count) in [
         (999, 0, 0),
         (40, 2, 80),
@@ -90,13 +78,7 @@ fn a_device_that_fails_has_the_first_part(rt: HostRuntime) {
         (0, 99, 0),
     ] {
         let text = TWO_SEATS.get(..count).unwrap_or_default();
-        written_as(
-            &rt,
-            alloc,
-            &run,
-            (most, fails_at),
-            Err(HistoryFault::Write),
-            text,
-        );
+        let (run, broken) = (first_run(&rt, alloc), Err(HistoryFault::Write));
+        written_as(&rt, alloc, run, (most, fails_at), broken, text);
     }
 }
