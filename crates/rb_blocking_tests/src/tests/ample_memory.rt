@@ -4,7 +4,7 @@
 ghost use Rattle.std.specs.Prelude.{◌≡◌};
 
 use crate::tests::fixtures::{
-    done, element, expect_call, expect_drained, expect_number, expect_opened, offer, offered,
+    done, element, expect_call, expect_drained, expect_opened, expect_same, offer, offered,
     payload, split_off,
 };
 use crate::tests::many_threads::{HeapPass, HeapShared};
@@ -101,7 +101,7 @@ fn answers_up_to_the_greatest_moment(rt: HostRuntime) {
     expect_moment(&rt, &shared, &mut pass, 4, (1 << 63, 1 << 63));
     expect_moment(&rt, &shared, &mut pass, 6, (u64::MAX - 1, u64::MAX - 1));
     expect_moment(&rt, &shared, &mut pass, 8, (u64::MAX, u64::MAX));
-    expect_number(&rt, pass.calls(), 15);
+    expect_same(&rt, pass.calls(), 15);
 }
 
 // Offers the element with id `id`, and drains it. The id is also its expiry and the moment of both
@@ -142,7 +142,7 @@ fn answers_after_thousands_of_calls(rt: HostRuntime) {
     let head = Reply::Head(element(&rt, ROUNDS, ROUNDS));
     expect_call(&rt, &shared, &mut pass, 0, Ask::Peek, done(head));
     expect_drain(&rt, &shared, &mut pass, 2 * ROUNDS);
-    expect_number(&rt, pass.calls(), 3 * ROUNDS + 2);
+    expect_same(&rt, pass.calls(), 3 * ROUNDS + 2);
 }
 
 // Splits off a pass with name `name`, makes a round with it, and folds it back into `first`.
@@ -168,5 +168,5 @@ fn expect_passes<R: Wait + Abort>(rt: &R, shared: &HeapShared, first: &mut HeapP
 fn answers_each_pass(rt: HostRuntime) {
     let (shared, mut first) = expect_opened(&rt, rt.alloc(), 2 * NAMES);
     expect_passes(&rt, &shared, &mut first);
-    expect_number(&rt, first.calls(), 2 * NAMES);
+    expect_same(&rt, first.calls(), 2 * NAMES);
 }

@@ -1,6 +1,6 @@
 ghost use Rattle.std.specs.Prelude.{◌≡◌};
 
-use crate::tests::fixtures::{ListPass, ListShared, draft, opened};
+use crate::tests::fixtures::{ListPass, ListShared, draft, expect_opened};
 use rb_blocking::{Bell, Clock, Gate, Rested, WaitFault, offer_ring, poll_for, take};
 use rb_delayed::Element;
 use rb_kept::{CallFault, Outcome};
@@ -11,7 +11,6 @@ use std::alloc::{AllocError, Global};
 use std::process::Abort;
 use std::sync::atomic::{AtomicU64, Ordering};
 use std::sync::{Mutex, Wait};
-use std::test::Fail;
 use std::thread::{Threads, map_indices};
 use std::time;
 
@@ -232,54 +231,58 @@ impl<'a> Caller<'a> {
 }
 
 /// Opens a shared queue with room for `capacity` calls, and has `work` done by its first caller.
-pub fn with_caller<T, F: FnOnce(&mut Caller<'_>) -> T>(
-    alloc: Global,
-    capacity: u64,
-    work: F,
-) -> Result<T, Fail>
-    requires { F.IsAlwaysCallable work }
-{
-    with_caller_at(alloc, capacity, &Bell::new(), &Counts::new(), work)
-}
-
-/// Does the same, with a caller that rests at `bell`.
-pub fn with_caller_at<T, F: FnOnce(&mut Caller<'_>) -> T>(
-    alloc: Global,
-    capacity: u64,
-    bell: &Bell,
-    counts: &Counts,
-    work: F,
-) -> Result<T, Fail>
-    requires { F.IsAlwaysCallable work }
-{
-    let (shared, pass) = opened(alloc, capacity)?;
-    let mut caller = Caller::new(&shared, bell, counts, pass);
-    Ok(work(&mut caller))
-}
-
-/// Has `count` threads do `work`, each with a caller of its own and with its number. Returns what
-/// each gave.
-pub fn in_threads<R: Threads + Wait + Abort + Sync, F: Fn(&mut Caller<'_>, usize) -> u64 + Sync>(
+pub fn with_caller<R: Abort, F: FnOnce(&R, &mut Caller<'_>)>(
     rt: &R,
     alloc: Global,
-    count: usize,
-    first: &mut Caller<'_>,
-    work: &F,
-) -> Result<Vec<u64>, AllocError>
-    requires { F.IsAlwaysCallable work.now }
+    capacity: u64,
+    work: F,
+)
+    requires { F.IsAlwaysCallable work }
 {
-    let first = &Mutex::new(first.another(rt));
+    let (shared, pass) = expect_opened(rt, alloc, capacity);
+    let (bell, counts) = (Bell::new(), Counts::new());
+    work(rt, &mut Caller::new(&shared, &bell, &counts, pass));
+}
+
+/// Opens a shared queue with room for `capacity` calls, and has `count` threads do `work`. Each has
+/// a caller of its own, `scene`, which they share, and its number. Returns what each gave.
+pub fn in_threads<
+    R: Threads + Wait + Abort + AllocGlobal + Sync,
+    S: Sync,
+    F: Fn(&R, &mut Caller<'_>, &S, usize) -> u64 + Sync,
+>(
+    rt: &R,
+    capacity: u64,
+    counts: &Counts,
+    count: usize,
+    scene: &S,
+    work: F,
+) -> Result<Vec<u64>, AllocError>
+    requires { F.IsAlwaysCallable work }
+{
+    let (shared, pass) = expect_opened(rt, rt.alloc(), capacity);
+    let bell = Bell::new();
+    let first = Mutex::new(Caller::new(&shared, &bell, counts, pass));
     map_indices(
         rt,
-        alloc,
+        rt.alloc(),
         count,
         &|number: usize| -> u64
-            requires { F.IsAlwaysCallable work.now }
-        { work(&mut another(rt, first), number) },
+            requires { F.IsAlwaysCallable work }
+        { in_thread(rt, &first, scene, &work, number) },
     )
 }
 
-// Makes a further caller, for another thread.
-fn another<'a, R: Wait + Abort>(rt: &R, first: &Mutex<Caller<'a>>) -> Caller<'a> {
-    first.lock(rt).another(rt)
+// Does the work of one thread, with a further caller.
+fn in_thread<R: Wait + Abort, S, F: Fn(&R, &mut Caller<'_>, &S, usize) -> u64>(
+    rt: &R,
+    first: &Mutex<Caller<'_>>,
+    scene: &S,
+    work: &F,
+    number: usize,
+) -> u64
+    requires { F.IsAlwaysCallable work.now }
+{
+    let mut caller = first.lock(rt).another(rt);
+    work(rt, &mut caller, scene, number)
 }

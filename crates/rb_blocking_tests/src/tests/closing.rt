@@ -4,8 +4,8 @@
 ghost use Rattle.std.specs.Prelude.{◌≡◌};
 
 use crate::tests::fixtures::{
-    ListPass, ListShared, all_given, done, element, expect_audit, expect_call, expect_number,
-    expect_opened, expect_totals, offer, offered, split_off, totals,
+    ListPass, ListShared, all_given, done, element, expect_call, expect_closed, expect_opened,
+    expect_same, offer, offered, split_off, totals,
 };
 use rb_kept::Kept;
 use rb_ledger::Tally;
@@ -33,11 +33,6 @@ fn call_and_meet<R: Wait + Abort>(
     shared.meet(first, second);
 }
 
-fn expect_refused(rt: &impl Abort, fault: CloseFault) {
-    let refused = CloseFault::NotAll(totals(1, 1, 0), totals(2, 1, 1));
-    assert_eq!(rt; fault, refused);
-}
-
 // Closes with `pass`, which is refused, since a pass with a call is outside. Returns the queue and
 // the pass that the closing hands back.
 fn handed_back<R: Wait + Abort>(
@@ -51,23 +46,15 @@ fn handed_back<R: Wait + Abort>(
 {
     let refused = shared.close(rt, pass).err();
     let (shared, pass, fault) = refused.expect(rt, "a pass is outside");
-    expect_refused(rt, fault);
+    let wanted = CloseFault::NotAll(totals(1, 1, 0), totals(2, 1, 1));
+    expect_same(rt, fault, wanted);
     (shared, pass)
 }
 
 fn expect_run(rt: &impl Abort, kept: &Kept<ListTimer>, tally: &Tally, audit: Audit) {
-    expect_audit(rt, audit, all_given(2, 1));
-    expect_totals(rt, tally.totals(), totals(2, 1, 1));
-    expect_audit(rt, kept.audit(), audit);
-}
-
-// Closes with the pass into which the other has been folded.
-fn expect_closed<R: Wait + Abort>(rt: &R, shared: ListShared, pass: ListPass)
-    requires { pass.table ≡ shared }
-{
-    let closed = shared.close(rt, pass).ok();
-    let (kept, tally, audit) = closed.expect(rt, "the other pass is folded in");
-    expect_run(rt, &kept, &tally, audit);
+    expect_same(rt, audit, all_given(2, 1));
+    expect_same(rt, tally.totals(), totals(2, 1, 1));
+    expect_same(rt, kept.audit(), audit);
 }
 
 // Closes while one of the two passes is outside, and again once it has been folded.
@@ -76,19 +63,20 @@ fn fold_both<R: Wait + Abort>(rt: &R, shared: ListShared, first: ListPass, secon
     requires second { second.table ≡ shared }
 {
     let (shared, mut first) = handed_back(rt, shared, first);
-    expect_number(rt, first.name(), 0);
-    expect_number(rt, first.calls(), 1);
-    expect_number(rt, second.calls(), 1);
+    expect_same(rt, first.name(), 0);
+    expect_same(rt, first.calls(), 1);
+    expect_same(rt, second.calls(), 1);
     shared.fold(&mut first, second);
-    expect_number(rt, first.calls(), 2);
-    expect_closed(rt, shared, first);
+    expect_same(rt, first.calls(), 2);
+    let (kept, tally, audit) = expect_closed(rt, shared, first);
+    expect_run(rt, &kept, &tally, audit);
 }
 
 #[test]
 fn closes_once_all_are_folded(rt: HostRuntime) {
     let (shared, mut first) = expect_opened(&rt, rt.alloc(), 10);
     let mut second = split_off(&rt, &shared, &mut first, 1);
-    expect_number(&rt, first.name(), 0);
+    expect_same(&rt, first.name(), 0);
     call_and_meet(&rt, &shared, &mut first, &mut second);
     fold_both(&rt, shared, first, second);
 }

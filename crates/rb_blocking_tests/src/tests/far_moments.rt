@@ -5,7 +5,6 @@ use crate::tests::fixtures::expect_same;
 use rb_blocking::WaitFault;
 use std::process::Abort;
 use std::sync::Wait;
-use std::test::Fail;
 use std::time;
 
 // Polls with a timeout of 9 nanoseconds from the greatest moment on: before that moment, and at it.
@@ -20,6 +19,6 @@ fn expect_polls<R: Wait + time::Clock + Abort>(rt: &R, caller: &mut Caller<'_>) 
 }
 
 #[test]
-fn waits_until_the_greatest_moment(rt: HostRuntime) -> Result<(), Fail> {
-    with_caller(rt.alloc(), 4, |caller| expect_polls(&rt, caller))
+fn waits_until_the_greatest_moment(rt: HostRuntime) {
+    with_caller(&rt, rt.alloc(), 4, expect_polls);
 }

@@ -1,4 +1,4 @@
-ghost use Rattle.std.specs.Prelude.{◌≡◌, [], IfOk};
+ghost use Rattle.std.specs.Prelude.{◌≡◌, []};
 ghost use Rattle.rb_ledger.specs.Totals.{nothing};
 
 use rb_delayed::{Element, Payload};
@@ -12,22 +12,14 @@ use std::fmt::Debug;
 use std::process::Abort;
 use std::sync::Wait;
 use std::sync::atomic::{AtomicU64, Ordering};
-use std::test::Fail;
 use std::thread::yield_now;
 
 pub type ListShared = Shared<ListTimer>;
 
 pub type ListPass = Pass<ListTimer>;
 
-/// Opens a shared queue with room for `capacity` calls, and returns it with its first pass.
-pub fn opened<T: Timer>(alloc: Global, capacity: u64) -> Result<(Shared<T>, Pass<T>), Fail>
-    ensures { IfOk result (λ opened. opened.1.table ≡ opened.0) }
-{
-    let (kept, tally) = Kept::new(alloc, capacity)?;
-    shared(alloc, kept, tally)
-}
-
-/// Does the same. Asserts that it was opened.
+/// Opens a shared queue with room for `capacity` calls, and returns it with its first pass. Asserts
+/// that there is memory for it.
 pub fn expect_opened<T: Timer>(
     rt: &impl Abort,
     alloc: Global,
@@ -38,26 +30,46 @@ pub fn expect_opened<T: Timer>(
     let Ok((kept, tally)) = Kept::new(alloc, capacity) else {
         rt.abort()
     };
+    expect_shared(rt, alloc, kept, tally)
+}
+
+/// Shares a kept queue that has had no calls. Asserts that there is memory for it.
+pub fn expect_shared<T: Timer>(
+    rt: &impl Abort,
+    alloc: Global,
+    kept: Kept<T>,
+    tally: Tally,
+) -> (Shared<T>, Pass<T>)
+    requires history { kept.history ≡ [] }
+    requires tally { tally ≡ nothing }
+    ensures { result.1.table ≡ result.0 }
+{
     let Ok(opened) = Shared::open(alloc, kept, tally) else {
         rt.abort()
     };
     opened
 }
 
-/// Shares a kept queue that has had no calls.
-pub fn shared<T: Timer>(
-    alloc: Global,
-    kept: Kept<T>,
-    tally: Tally,
-) -> Result<(Shared<T>, Pass<T>), Fail>
-    requires history { kept.history ≡ [] }
-    requires tally { tally ≡ nothing }
-    ensures { IfOk result (λ opened. opened.1.table ≡ opened.0) }
+/// Closes a queue with the pass into which all others are folded. Asserts that this is not refused.
+pub fn expect_closed<T: Timer, R: Wait + Abort>(
+    rt: &R,
+    shared: Shared<T>,
+    folded: Pass<T>,
+) -> (Kept<T>, Tally, Audit)
+    requires { folded.table ≡ shared }
 {
-    match Shared::open(alloc, kept, tally) {
-        Ok(opened) => Ok(opened),
-        Err((_, _, fault)) => Err(Fail::from(fault)),
-    }
+    let Ok(closed) = shared.close(rt, folded) else {
+        rt.abort()
+    };
+    closed
+}
+
+/// Does the same, and returns the audit of the run alone.
+pub fn expect_audit<T: Timer, R: Wait + Abort>(rt: &R, shared: Shared<T>, folded: Pass<T>) -> Audit
+    requires { folded.table ≡ shared }
+{
+    let (_, _, audit) = expect_closed(rt, shared, folded);
+    audit
 }
 
 /// Makes a call, and asserts how it ends.
@@ -73,7 +85,7 @@ pub fn expect_call<T: Timer, R: Wait + Abort>(
     ensures { pass.new.table ≡ pass.old.table }
 {
     let outcome = shared.call(rt, pass, asked, ask);
-    expect_outcome(rt, outcome, wanted);
+    expect_same(rt, outcome, wanted);
 }
 
 /// Splits off a new pass, and asserts that its name is `name`.
@@ -88,7 +100,7 @@ pub fn split_off<T: Timer, R: Wait + Abort>(
     ensures second { result.table ≡ pass.old.table }
 {
     let split = shared.split(rt, pass).ok().expect(rt, "a name is left");
-    expect_number(rt, split.name(), name);
+    expect_same(rt, split.name(), name);
     split
 }
 
@@ -108,28 +120,8 @@ pub fn expect_given(rt: &impl Abort, given: Result<Vec<u64>, AllocError>, wanted
     assert_eq!(rt; given.as_slice(), wanted);
 }
 
-pub fn expect_outcome(
-    rt: &impl Abort,
-    outcome: Result<Outcome, CallFault>,
-    wanted: Result<Outcome, CallFault>,
-) {
-    assert_eq!(rt; outcome, wanted);
-}
-
 pub fn expect_drained(rt: &impl Abort, outcome: Result<Outcome, CallFault>) {
     assert!(rt; matches!(outcome, Ok(Outcome::Done(Reply::Drained(_)))));
-}
-
-pub fn expect_number(rt: &impl Abort, number: u64, wanted: u64) {
-    assert_eq!(rt; number, wanted);
-}
-
-pub fn expect_totals(rt: &impl Abort, found: Totals, wanted: Totals) {
-    assert_eq!(rt; found, wanted);
-}
-
-pub fn expect_audit(rt: &impl Abort, audit: Audit, wanted: Audit) {
-    assert_eq!(rt; audit, wanted);
 }
 
 pub fn payload(rt: &impl Abort) -> Payload {

@@ -3,7 +3,7 @@
 ghost use Rattle.std.specs.Prelude.{◌≡◌};
 
 use crate::tests::fixtures::{
-    ListPass, ListShared, done, element, expect_call, expect_number, expect_opened, later, offer,
+    ListPass, ListShared, done, element, expect_call, expect_opened, expect_same, later, offer,
     offered,
 };
 use rb_kept::CallFault;
@@ -23,9 +23,9 @@ fn expect_answers<R: Wait + Abort>(rt: &R, shared: &ListShared, pass: &mut ListP
     let item = Reply::Item(element(rt, 0, 9));
     expect_call(rt, shared, pass, 9, Ask::Take, done(item));
     expect_call(rt, shared, pass, 0, Ask::Clear, done(Reply::Cleared));
-    expect_number(rt, pass.calls(), 4);
+    expect_same(rt, pass.calls(), 4);
     expect_call(rt, shared, pass, 0, Ask::Size, Err(CallFault::Full));
-    expect_number(rt, pass.calls(), 4);
+    expect_same(rt, pass.calls(), 4);
 }
 
 #[test]

@@ -6,7 +6,6 @@ use rb_blocking::WaitFault;
 use rb_kept::CallFault;
 use std::process::Abort;
 use std::sync::Wait;
-use std::test::Fail;
 use std::time;
 
 // Makes the two calls for which the history has room, and two more, which find the history full.
@@ -22,6 +21,6 @@ fn expect_answers<R: Wait + time::Clock + Abort>(rt: &R, caller: &mut Caller<'_>
 }
 
 #[test]
-fn answers_with_ample_memory(rt: HostRuntime) -> Result<(), Fail> {
-    with_caller(rt.alloc(), 2, |caller| expect_answers(&rt, caller))
+fn answers_with_ample_memory(rt: HostRuntime) {
+    with_caller(&rt, rt.alloc(), 2, expect_answers);
 }

@@ -7,7 +7,6 @@ use rb_lock::Pass;
 use rb_timer::Timer;
 use std::process::Abort;
 use std::sync::Wait;
-use std::test::Fail;
 use std::time;
 
 // More turns than a wait makes in a server that is started without `--turns`.
@@ -42,20 +41,18 @@ impl<'a, R: Wait> Gate for RingingGate<'a, R> {
     fn rested<T: Timer>(&mut self, _rested: Rested, _pass: &Pass<T>) {}
 }
 
-// Makes a take whose rests don't last. Returns the number of its turns, counted while each turn has
+// Makes a take whose rests don't last. Asserts the number of its turns, counted while each turn has
 // the next number.
-fn turns_of<R: Wait + time::Clock>(rt: &R, caller: &mut Caller<'_>) -> u64 {
+fn expect_turns<R: Wait + time::Clock + Abort>(rt: &R, caller: &mut Caller<'_>) {
     let bell = caller.bell;
     let mut gate = RingingGate { rt, bell, next: 0 };
     let _ = caller.take_by(rt, &FixedClock(7), &mut gate);
-    gate.next
+    expect_same(rt, gate.next, TURNS);
 }
 
 #[test]
-fn each_turn_is_counted(rt: HostRuntime) -> Result<(), Fail> {
-    let turns = with_caller(rt.alloc(), 1, |caller| turns_of(&rt, caller))?;
-    expect_same(&rt, turns, TURNS);
-    Ok(())
+fn each_turn_is_counted(rt: HostRuntime) {
+    with_caller(&rt, rt.alloc(), 1, expect_turns);
 }
 
 // Makes takes that find nothing, with gates of several limits. Asserts how often each take asked
@@ -73,8 +70,8 @@ fn expect_stops<R: Wait + time::Clock + Abort>(rt: &R, caller: &mut Caller<'_>) 
 }
 
 #[test]
-fn stops_after_so_many_turns(rt: HostRuntime) -> Result<(), Fail> {
-    with_caller(rt.alloc(), 1, |caller| expect_stops(&rt, caller))
+fn stops_after_so_many_turns(rt: HostRuntime) {
+    with_caller(&rt, rt.alloc(), 1, expect_stops);
 }
 
 // A gate that ends a wait after three turns, and counts the rests between its questions.
@@ -139,6 +136,6 @@ fn expect_three_rests<R: Wait + time::Clock + Abort>(rt: &R, caller: &mut Caller
 }
 
 #[test]
-fn a_timed_poll_rests_between_its_questions(rt: HostRuntime) -> Result<(), Fail> {
-    with_caller(rt.alloc(), 1, |caller| expect_three_rests(&rt, caller))
+fn a_timed_poll_rests_between_its_questions(rt: HostRuntime) {
+    with_caller(&rt, rt.alloc(), 1, expect_three_rests);
 }

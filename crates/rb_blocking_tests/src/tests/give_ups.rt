@@ -1,17 +1,15 @@
 // A waiting call that was woken and takes nothing wakes another in its place, however its wait ends.
 
-use crate::tests::callers::{Caller, Counts, FixedClock, with_caller_at};
-use crate::tests::fixtures::{expect, expect_same, offer};
+use crate::tests::callers::{Caller, Counts, FixedClock, in_threads};
+use crate::tests::fixtures::{expect_given, expect_opened, expect_same, offer};
 use rb_blocking::{Bell, Clock, Gate, Rested, WaitFault};
 use rb_lock::Pass;
 use rb_queue::Ask;
 use rb_timer::Timer;
-use std::alloc::Global;
 use std::process::Abort;
 use std::sync::Wait;
 use std::sync::atomic::{AtomicU64, Ordering};
-use std::test::Fail;
-use std::thread::{Threads, join, sleep};
+use std::thread::sleep;
 use std::time;
 use std::time::Duration;
 
@@ -29,43 +27,32 @@ enum End {
     Nothing,
 }
 
-// What the threads of a test share. `ends` rises once the first of them rests no more.
+// What the threads share: how the waits end, and `over`, which rises once the first thread rests no
+// more.
 #[derive(Drop)]
 struct Scene {
-    bell: Bell,
-    counts: Counts,
-    ends: AtomicU64,
+    end: End,
+    over: AtomicU64,
+}
+
+impl Scene {
+    fn is_over(&self) -> bool {
+        self.over.load(Ordering::SeqCst) > 0
+    }
 }
 
 // Rests like a call that looks again at moment 10, and returns whether it was woken. A rest during
 // which the bell has rung too often to know what for is followed by another.
-fn is_woken<R: Wait + time::Clock>(rt: &R, scene: &Scene) -> bool {
-    let (mut seen, mut woken) = (scene.bell.count(rt), false);
+fn is_woken<R: Wait + time::Clock>(rt: &R, bell: &Bell, scene: &Scene) -> bool {
+    let (mut seen, mut woken) = (bell.count(rt), false);
     for _ in 0..RESTS {
         if !woken {
-            let most = Duration::from_secs(MISSED);
-            let rested = scene.bell.rest_until(rt, seen, 10, most);
+            let rested = bell.rest_until(rt, seen, 10, Duration::from_secs(MISSED));
             (seen, woken) = (rested.count(), rested.is_woken());
         }
     }
-    scene.ends.fetch_add(1, Ordering::SeqCst);
+    scene.over.fetch_add(1, Ordering::SeqCst);
     woken
-}
-
-fn is_over(scene: &Scene) -> bool {
-    scene.ends.load(Ordering::SeqCst) > 0
-}
-
-// Announces what expires at 11, once a millisecond. That wakes the call that gives up, and not the
-// one that looks again at 10.
-fn announce_often<R: Wait + time::Clock>(rt: &R, scene: &Scene) {
-    for _ in rt.forever() {
-        if is_over(scene) {
-            return;
-        }
-        sleep(rt, Duration::from_millis(1));
-        scene.bell.announce(rt, 11);
-    }
 }
 
 // A clock that reads 5 twice, and then 9.
@@ -135,55 +122,52 @@ fn give_up<R: Wait + time::Clock + Abort>(rt: &R, caller: &mut Caller<'_>, end: 
     }
 }
 
-// Gives up again and again, each time at a queue of its own.
-fn give_up_often<R: Wait + time::Clock + Abort>(
+// Gives up at a queue of its own, and rests at the bell of `caller`.
+fn give_up_elsewhere<R: Wait + time::Clock + Abort + AllocGlobal>(
     rt: &R,
-    alloc: Global,
-    scene: &Scene,
+    caller: &Caller<'_>,
     end: End,
-) -> Result<(), Fail> {
+) {
+    let (shared, pass) = expect_opened(rt, rt.alloc(), 2);
+    give_up(
+        rt,
+        &mut Caller::new(&shared, caller.bell, caller.counts, pass),
+        end,
+    );
+}
+
+// The work of thread `number`. The first rests, and returns whether it was woken. Meanwhile the
+// second announces what expires at 11, once a millisecond, and the third gives up again and again.
+// An announcement wakes the call that gives up, and not the one that looks again at 10.
+fn rest_or_wake<R: Wait + time::Clock + Abort + AllocGlobal>(
+    rt: &R,
+    caller: &mut Caller<'_>,
+    scene: &Scene,
+    number: usize,
+) -> u64 {
+    if number == 0 {
+        return u64::from(is_woken(rt, caller.bell, scene));
+    }
     for _ in rt.forever() {
-        if is_over(scene) {
-            return Ok(());
+        if scene.is_over() {
+            return 0;
         }
-        let (bell, counts) = (&scene.bell, &scene.counts);
-        with_caller_at(alloc, 2, bell, counts, |caller| give_up(rt, caller, end))?;
+        if number == 1 {
+            sleep(rt, Duration::from_millis(1));
+            caller.bell.announce(rt, 11);
+        } else {
+            give_up_elsewhere(rt, caller, scene.end);
+        }
     }
     unreachable!()
 }
 
-// Rests in one thread, and announces in another.
-fn is_woken_among_announcements<R: Threads + Wait + time::Clock + Sync>(
-    rt: &R,
-    scene: &Scene,
-) -> bool {
-    let (woken, _) = join(rt, || is_woken(rt, scene), || announce_often(rt, scene));
-    woken
-}
-
-fn expect_handed_on<R: Threads + Wait + time::Clock + Abort + Sync>(
-    rt: &R,
-    alloc: Global,
-    end: End,
-) -> Result<(), Fail> {
-    let scene = &Scene {
-        bell: Bell::new(),
-        counts: Counts::new(),
-        ends: AtomicU64::new(0),
-    };
-    let (woken, given_up) = join(
-        rt,
-        || is_woken_among_announcements(rt, scene),
-        || give_up_often(rt, alloc, scene, end),
-    );
-    expect(rt, woken);
-    given_up
-}
-
 #[test]
-fn one_that_gives_up_wakes_another(rt: HostRuntime) -> Result<(), Fail> {
+fn one_that_gives_up_wakes_another(rt: HostRuntime) {
     for end in [End::Stopped, End::Full, End::Nothing] {
-        expect_handed_on(&rt, rt.alloc(), end)?;
+        let over = AtomicU64::new(0);
+        let scene = Scene { end, over };
+        let woken = in_threads(&rt, 1, &Counts::new(), 3, &scene, rest_or_wake);
+        expect_given(&rt, woken, &[1, 0, 0]);
     }
-    Ok(())
 }

@@ -5,7 +5,6 @@ use crate::tests::fixtures::{expect, expect_same};
 use rb_blocking::{Clock, MachineClock};
 use std::process::Abort;
 use std::sync::Wait;
-use std::test::Fail;
 use std::thread::sleep;
 use std::time;
 use std::time::Duration;
@@ -35,8 +34,8 @@ fn expect_all_on_time<R: Wait + time::Clock + Abort>(rt: &R, caller: &mut Caller
 }
 
 #[test]
-fn takes_what_expires_ahead(rt: HostRuntime) -> Result<(), Fail> {
-    with_caller(rt.alloc(), 20, |caller| expect_all_on_time(&rt, caller))
+fn takes_what_expires_ahead(rt: HostRuntime) {
+    with_caller(&rt, rt.alloc(), 20, expect_all_on_time);
 }
 
 fn expect_given_up<R: Wait + time::Clock + Abort>(rt: &R, caller: &mut Caller<'_>) {
@@ -50,8 +49,8 @@ fn expect_given_up<R: Wait + time::Clock + Abort>(rt: &R, caller: &mut Caller<'_
 }
 
 #[test]
-fn gives_up_at_the_deadline(rt: HostRuntime) -> Result<(), Fail> {
-    with_caller(rt.alloc(), 20, |caller| expect_given_up(&rt, caller))
+fn gives_up_at_the_deadline(rt: HostRuntime) {
+    with_caller(&rt, rt.alloc(), 20, expect_given_up);
 }
 
 // The clock is read twice, with a sleep in between, which nothing may end sooner. The sleep is

@@ -1,13 +1,14 @@
 // Threads that offer, and as many that take. Nothing is lost and nothing doubled, and each seat has
 // exactly the calls that its thread made.
 
-ghost use Rattle.std.specs.Prelude.{◌≡◌, IfSome};
+ghost use Rattle.std.specs.Prelude.{◌≡◌};
 
-use crate::tests::fixtures::{all_given, expect_audit, expect_number, expect_opened, offer};
+use crate::tests::fixtures::{all_given, expect_closed, expect_opened, expect_same, offer};
 use rb_binary::BinaryTimer;
 use rb_kept::Outcome;
 use rb_lock::{Pass, Shared};
 use rb_queue::{Ask, Audit, Event};
+use std::alloc::Global;
 use std::process::Abort;
 use std::sync::Wait;
 use std::thread::{Threads, join};
@@ -20,7 +21,7 @@ pub(super) type HeapPass = Pass<BinaryTimer>;
 const ELEMENTS: u64 = 100_000;
 
 // The room for the calls of a run: an offer and a take of each element.
-pub(super) const ROOM: u64 = 2 * ELEMENTS;
+const ROOM: u64 = 2 * ELEMENTS;
 
 // Offers an element that is expired at once.
 fn offer_one<R: Wait + Abort>(rt: &R, shared: &HeapShared, pass: &mut HeapPass)
@@ -31,7 +32,7 @@ fn offer_one<R: Wait + Abort>(rt: &R, shared: &HeapShared, pass: &mut HeapPass)
 }
 
 // Offers `count` such elements. Returns the pass.
-pub(super) fn offer_all<R: Wait + Abort>(
+fn offer_all<R: Wait + Abort>(
     rt: &R,
     shared: &HeapShared,
     mut pass: HeapPass,
@@ -56,12 +57,7 @@ fn has_taken(rt: &impl Wait, shared: &HeapShared, pass: &mut HeapPass) -> bool
 }
 
 // Takes `wanted` elements, and tries again whenever nothing is expired. Returns the pass.
-pub(super) fn take_all(
-    rt: &impl Wait,
-    shared: &HeapShared,
-    mut pass: HeapPass,
-    mut wanted: u64,
-) -> HeapPass
+fn take_all(rt: &impl Wait, shared: &HeapShared, mut pass: HeapPass, mut wanted: u64) -> HeapPass
     requires { pass.table ≡ shared.now }
     ensures { result.table ≡ pass.table }
 {
@@ -76,19 +72,28 @@ pub(super) fn take_all(
     pass
 }
 
-// Offers `count` elements in one thread and takes as many in another. Returns the pass that
-// offered, into which the one that took is folded, or `None` if no name is left.
+// Splits a further pass off, for another thread.
+fn another<R: Wait + Abort>(rt: &R, shared: &HeapShared, pass: &mut HeapPass) -> HeapPass
+    requires { pass.old.table ≡ shared.now }
+    ensures first { pass.new.table ≡ pass.old.table }
+    ensures second { result.table ≡ pass.old.table }
+{
+    shared.split(rt, pass).ok().expect(rt, "a name is left")
+}
+
+// Offers `count` elements in one thread and takes as many in another. Then the two passes meet, and
+// the taker's is folded into the giver's, which is returned.
 fn pair<R: Threads + Wait + Abort + Sync>(
     rt: &R,
     shared: &HeapShared,
     mut giver: HeapPass,
     count: u64,
-) -> Option<HeapPass>
+) -> HeapPass
     requires { giver.table ≡ shared.now }
-    ensures { IfSome result (λ folded. folded.table ≡ shared.now) }
+    ensures { result.table ≡ shared.now }
 {
-    let taker = shared.split(rt, &mut giver).ok()?;
-    let (mut giver, taker) = join(
+    let taker = another(rt, shared, &mut giver);
+    let (mut giver, mut taker) = join(
         rt,
         || -> HeapPass
             requires { giver.table ≡ shared.now }
@@ -99,8 +104,9 @@ fn pair<R: Threads + Wait + Abort + Sync>(
             ensures { result.table ≡ shared.entry.now }
         { take_all(rt, shared, taker, count) },
     );
+    shared.meet(&mut giver, &mut taker);
     shared.fold(&mut giver, taker);
-    Some(giver)
+    giver
 }
 
 // Runs two such pairs at once, each with `count` elements.
@@ -109,25 +115,24 @@ fn two_pairs<R: Threads + Wait + Abort + Sync>(
     shared: &HeapShared,
     mut first: HeapPass,
     count: u64,
-) -> Option<HeapPass>
+) -> HeapPass
     requires { first.table ≡ shared.now }
-    ensures { IfSome result (λ folded. folded.table ≡ shared.now) }
+    ensures { result.table ≡ shared.now }
 {
-    let second = shared.split(rt, &mut first).ok()?;
-    let (first, second) = join(
+    let second = another(rt, shared, &mut first);
+    let (mut first, second) = join(
         rt,
-        || -> Option<HeapPass>
+        || -> HeapPass
             requires { first.table ≡ shared.now }
-            ensures { IfSome result (λ folded. folded.table ≡ shared.entry.now) }
+            ensures { result.table ≡ shared.entry.now }
         { pair(rt, shared, first, count) },
-        || -> Option<HeapPass>
+        || -> HeapPass
             requires { second.table ≡ shared.now }
-            ensures { IfSome result (λ folded. folded.table ≡ shared.entry.now) }
+            ensures { result.table ≡ shared.entry.now }
         { pair(rt, shared, second, count) },
     );
-    let mut first = first?;
-    shared.fold(&mut first, second?);
-    Some(first)
+    shared.fold(&mut first, second);
+    first
 }
 
 // Runs four such pairs at once, each with `count` elements.
@@ -136,73 +141,76 @@ fn four_pairs<R: Threads + Wait + Abort + Sync>(
     shared: &HeapShared,
     mut first: HeapPass,
     count: u64,
-) -> Option<HeapPass>
+) -> HeapPass
     requires { first.table ≡ shared.now }
-    ensures { IfSome result (λ folded. folded.table ≡ shared.now) }
+    ensures { result.table ≡ shared.now }
 {
-    let second = shared.split(rt, &mut first).ok()?;
-    let (first, second) = join(
+    let second = another(rt, shared, &mut first);
+    let (mut first, second) = join(
         rt,
-        || -> Option<HeapPass>
+        || -> HeapPass
             requires { first.table ≡ shared.now }
-            ensures { IfSome result (λ folded. folded.table ≡ shared.entry.now) }
+            ensures { result.table ≡ shared.entry.now }
         { two_pairs(rt, shared, first, count) },
-        || -> Option<HeapPass>
+        || -> HeapPass
             requires { second.table ≡ shared.now }
-            ensures { IfSome result (λ folded. folded.table ≡ shared.entry.now) }
+            ensures { result.table ≡ shared.entry.now }
         { two_pairs(rt, shared, second, count) },
     );
-    let mut first = first?;
-    shared.fold(&mut first, second?);
-    Some(first)
+    shared.fold(&mut first, second);
+    first
 }
 
 // Returns the number of events that seat `seat` has.
-fn events_of(history: &[Event], seat: u64) -> usize {
-    history.iter().filter(|event| event.seat == seat).count()
+fn events_of(history: &[Event], seat: u64) -> u64 {
+    history.iter().filter(|event| event.seat == seat).count() as u64
 }
 
-// Asserts that seat `seat` made its share of the calls: one of `seats` equal shares.
-fn expect_share(rt: &impl Abort, history: &[Event], seat: u64, seats: u64) {
-    let count = events_of(history, seat) as u64;
-    expect_number(rt, count.saturating_mul(seats), ROOM);
-}
-
-fn expect_shares(rt: &impl Abort, history: &[Event], audit: Audit, seats: u64) {
-    expect_audit(rt, audit, all_given(ROOM, ELEMENTS));
+// Asserts that `seats` seats each made `count` calls, and that no element is left.
+fn expect_shares(rt: &impl Abort, history: &[Event], audit: Audit, seats: u64, count: u64) {
+    let calls = seats.saturating_mul(count);
+    expect_same(rt, audit, all_given(calls, calls / 2));
     for seat in 0..seats {
-        expect_share(rt, history, seat, seats);
+        expect_same(rt, events_of(history, seat), count);
     }
 }
 
-// Closes the queue with the pass into which all others are folded. Asserts that each of `seats`
-// seats has made its share of the calls.
-fn expect_calls<R: Wait + Abort>(rt: &R, shared: HeapShared, folded: Option<HeapPass>, seats: u64)
-    requires { IfSome folded (λ pass. pass.table ≡ shared) }
+// Closes the queue with the pass into which all others are folded. Asserts that `seats` seats each
+// made `count` calls, and that no element is left.
+fn expect_calls<R: Wait + Abort>(
+    rt: &R,
+    shared: HeapShared,
+    folded: HeapPass,
+    seats: u64,
+    count: u64,
+)
+    requires { folded.table ≡ shared }
 {
-    let pass = folded.expect(rt, "all passes are split off");
-    let closed = shared.close(rt, pass).ok();
-    let (kept, _, audit) = closed.expect(rt, "all passes are folded in");
-    expect_shares(rt, kept.history(), audit, seats);
+    let (kept, _, audit) = expect_closed(rt, shared, folded);
+    expect_shares(rt, kept.history(), audit, seats, count);
+}
+
+pub(super) fn expect_pair<R: Threads + Wait + Abort + Sync>(rt: &R, alloc: Global, count: u64) {
+    let (shared, first) = expect_opened(rt, alloc, ROOM);
+    let folded = pair(rt, &shared, first, count);
+    expect_calls(rt, shared, folded, 2, count);
 }
 
 #[test]
 fn one_pair_loses_nothing(rt: HostRuntime) {
-    let (shared, first) = expect_opened(&rt, rt.alloc(), ROOM);
-    let folded = pair(&rt, &shared, first, ELEMENTS);
-    expect_calls(&rt, shared, folded, 2);
+    expect_pair(&rt, rt.alloc(), ELEMENTS);
 }
 
 #[test]
 fn two_pairs_lose_nothing(rt: HostRuntime) {
     let (shared, first) = expect_opened(&rt, rt.alloc(), ROOM);
     let folded = two_pairs(&rt, &shared, first, ELEMENTS / 2);
-    expect_calls(&rt, shared, folded, 4);
+    expect_calls(&rt, shared, folded, 4, ELEMENTS / 2);
 }
 
 #[test]
 fn four_pairs_lose_nothing(rt: HostRuntime) {
     let (shared, first) = expect_opened(&rt, rt.alloc(), ROOM);
     let folded = four_pairs(&rt, &shared, first, ELEMENTS / 4);
-    expect_calls(&rt, shared, folded, 8);
+    expect_calls(&rt, shared, folded, 8, ELEMENTS / 4);
 }

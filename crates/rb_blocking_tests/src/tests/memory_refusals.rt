@@ -1,16 +1,16 @@
 // Each growth that a call may need, refused in turn.
 
-ghost use Rattle.std.specs.Prelude.{◌≡◌, [], IfOk};
+ghost use Rattle.std.specs.Prelude.{◌≡◌, []};
 ghost use Rattle.rb_ledger.specs.Totals.{nothing};
 
 use crate::tests::callers::{Caller, Counts, FixedClock};
 use crate::tests::fixtures::{
-    ListPass, ListShared, element, expect_drained, expect_number, expect_outcome, expect_same,
-    expect_totals, offer, offered, shared, split_off, totals,
+    ListPass, ListShared, element, expect, expect_audit, expect_drained, expect_same,
+    expect_shared, offer, offered, split_off, totals,
 };
 use rb_blocking::Bell;
 use rb_delayed::Element;
-use rb_kept::{CallFault, Kept, NewFault, Outcome};
+use rb_kept::{CallFault, Kept, Outcome};
 use rb_ledger::Tally;
 use rb_lock::Shared;
 use rb_queue::{Ask, Audit};
@@ -18,7 +18,6 @@ use rb_timer::ListTimer;
 use std::alloc::Global;
 use std::process::Abort;
 use std::sync::Wait;
-use std::test::Fail;
 use std::time;
 
 // The number of refusals that the test meets. `dev/refuse_allocations` sets 1 and refuses each
@@ -32,38 +31,34 @@ const MANY: u64 = 20;
 const CAPACITY: u64 = 2 * MANY;
 
 // Makes a kept queue, and tries once more if memory is refused.
-fn kept_at_last(alloc: Global) -> Result<(Kept<ListTimer>, Tally), NewFault>
-    ensures history { IfOk result (λ made. made.0.history ≡ []) }
-    ensures tally { IfOk result (λ made. made.1 ≡ nothing) }
+fn kept_at_last(rt: &impl Abort, alloc: Global) -> (Kept<ListTimer>, Tally)
+    ensures history { result.0.history ≡ [] }
+    ensures tally { result.1 ≡ nothing }
 {
     match Kept::new(alloc, CAPACITY) {
-        Ok(made) => Ok(made),
-        Err(_) => Kept::new(alloc, CAPACITY),
+        Ok(made) => made,
+        Err(_) => Kept::new(alloc, CAPACITY).ok().expect(rt, "a kept queue"),
     }
 }
 
 fn expect_untouched(rt: &impl Abort, kept: &Kept<ListTimer>, tally: &Tally) {
-    expect_number(rt, kept.history().len() as u64, 0);
-    expect_number(rt, kept.capacity(), CAPACITY);
-    expect_totals(rt, tally.totals(), totals(0, 0, 0));
+    expect_same(rt, kept.history().len() as u64, 0);
+    expect_same(rt, kept.capacity(), CAPACITY);
+    expect_same(rt, tally.totals(), totals(0, 0, 0));
 }
 
 // Opens a shared queue. If memory is refused, asserts that what was handed back is untouched, and
 // tries once more with it.
-fn opened_at_last(
-    rt: &impl Abort,
-    alloc: Global,
-    met: &mut u32,
-) -> Result<(ListShared, ListPass), Fail>
-    ensures { IfOk result (λ opened. opened.1.table ≡ opened.0) }
+fn opened_at_last(rt: &impl Abort, alloc: Global, met: &mut u32) -> (ListShared, ListPass)
+    ensures { result.1.table ≡ result.0 }
 {
-    let (kept, tally) = kept_at_last(alloc)?;
+    let (kept, tally) = kept_at_last(rt, alloc);
     match Shared::open(alloc, kept, tally) {
-        Ok(opened) => Ok(opened),
+        Ok(opened) => opened,
         Err((kept, tally, _)) => {
             *met = met.saturating_add(1);
             expect_untouched(rt, &kept, &tally);
-            shared(alloc, kept, tally)
+            expect_shared(rt, alloc, kept, tally)
         }
     }
 }
@@ -91,7 +86,7 @@ fn ended_at_last<R: Wait + Abort>(
         return outcome;
     }
     *met = met.saturating_add(1);
-    expect_number(rt, pass.calls(), calls);
+    expect_same(rt, pass.calls(), calls);
     shared.call(rt, pass, 9, again)
 }
 
@@ -106,7 +101,7 @@ fn expect_offer<R: Wait + Abort>(
     ensures { pass.new.table ≡ pass.old.table }
 {
     let outcome = ended_at_last(rt, shared, pass, offer(rt, 9), met);
-    expect_outcome(rt, outcome, offered(rt, id, 9));
+    expect_same(rt, outcome, offered(rt, id, 9));
 }
 
 // Makes each kind of call that may need memory.
@@ -121,16 +116,12 @@ fn expect_growths<R: Wait + Abort>(rt: &R, shared: &ListShared, pass: &mut ListP
     expect_drained(rt, drained);
 }
 
-fn expect_done(rt: &impl Abort, outcome: Result<Outcome, CallFault>) {
-    assert!(rt; matches!(outcome, Ok(Outcome::Done(_))));
-}
-
 fn expect_answer<R: Wait + Abort>(rt: &R, shared: &ListShared, pass: &mut ListPass, ask: Ask)
     requires { pass.old.table ≡ shared.now }
     ensures { pass.new.table ≡ pass.old.table }
 {
     let outcome = shared.call(rt, pass, 9, ask);
-    expect_done(rt, outcome);
+    expect(rt, matches!(outcome, Ok(Outcome::Done(_))));
 }
 
 // Makes each kind of call that takes no memory.
@@ -163,17 +154,8 @@ fn split_and_fold<R: Wait + Abort>(rt: &R, shared: &ListShared, pass: &mut ListP
 }
 
 fn expect_counts(rt: &impl Abort, audit: Audit) {
-    assert_eq!(rt;
-        (audit.calls, audit.offered, audit.given, audit.cleared),
-        (28, 20, 8, 12)
-    );
-}
-
-fn expect_closed<R: Wait + Abort>(rt: &R, shared: ListShared, pass: ListPass)
-    requires { pass.table ≡ shared }
-{
-    let (_, _, audit) = shared.close(rt, pass).ok().expect(rt, "it closes");
-    expect_counts(rt, audit);
+    let counts = (audit.calls, audit.offered, audit.given, audit.cleared);
+    expect_same(rt, counts, (28, 20, 8, 12));
 }
 
 // Makes an offer that rings, and tries once more if memory is refused. Asserts that a refused offer
@@ -213,26 +195,21 @@ fn taken_ids<R: Wait + Abort + time::Clock>(rt: &R, caller: &mut Caller<'_>, met
 }
 
 // Makes offers that ring, and waits for what was offered, at a queue of its own.
-fn expect_rung<R: Wait + Abort + time::Clock>(
-    rt: &R,
-    alloc: Global,
-    met: &mut u32,
-) -> Result<(), Fail> {
-    let (shared, pass) = opened_at_last(rt, alloc, met)?;
+fn expect_rung<R: Wait + Abort + time::Clock>(rt: &R, alloc: Global, met: &mut u32) {
+    let (shared, pass) = opened_at_last(rt, alloc, met);
     let (bell, counts) = (Bell::new(), Counts::new());
     let mut caller = Caller::new(&shared, &bell, &counts, pass);
     expect_same(rt, taken_ids(rt, &mut caller, met), 190);
-    Ok(())
 }
 
 #[test]
-fn refusals_change_nothing(rt: HostRuntime) -> Result<(), Fail> {
+fn refusals_change_nothing(rt: HostRuntime) {
     let mut met = 0;
-    let (shared, mut pass) = opened_at_last(&rt, rt.alloc(), &mut met)?;
+    let (shared, mut pass) = opened_at_last(&rt, rt.alloc(), &mut met);
     expect_growths(&rt, &shared, &mut pass, &mut met);
     split_and_fold(&rt, &shared, &mut pass);
-    expect_closed(&rt, shared, pass);
-    expect_rung(&rt, rt.alloc(), &mut met)?;
-    assert_eq!(rt; met, REFUSALS);
-    Ok(())
+    let audit = expect_audit(&rt, shared, pass);
+    expect_counts(&rt, audit);
+    expect_rung(&rt, rt.alloc(), &mut met);
+    expect_same(&rt, met, REFUSALS);
 }

@@ -2,7 +2,7 @@
 
 ghost use Rattle.std.specs.Prelude.{◌≡◌};
 
-use crate::tests::fixtures::{ListPass, ListShared, expect_number, expect_opened, split_off};
+use crate::tests::fixtures::{ListPass, ListShared, expect_opened, expect_same, split_off};
 use rb_lock::SplitFault;
 use std::process::Abort;
 use std::sync::Wait;
@@ -25,17 +25,13 @@ fn expect_names<R: Wait + Abort>(rt: &R, shared: &ListShared, first: &mut ListPa
     }
 }
 
-fn expect_fault(rt: &impl Abort, fault: Option<SplitFault>) {
-    assert_eq!(rt; fault, Some(SplitFault::Names));
-}
-
 fn expect_no_name<R: Wait + Abort>(rt: &R, shared: &ListShared, first: &mut ListPass)
     requires { first.old.table ≡ shared.now }
 {
     let refused = shared.split(rt, first).err();
-    expect_fault(rt, refused);
-    expect_number(rt, first.name(), 0);
-    expect_number(rt, first.calls(), 0);
+    expect_same(rt, refused, Some(SplitFault::Names));
+    expect_same(rt, first.name(), 0);
+    expect_same(rt, first.calls(), 0);
 }
 
 #[test]

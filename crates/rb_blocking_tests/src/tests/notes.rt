@@ -4,7 +4,7 @@ ghost use Rattle.std.specs.Prelude.{◌≡◌};
 
 use crate::tests::fixtures::{
     ListPass, ListShared, all_given, done, element, expect_audit, expect_call, expect_opened,
-    offer, offered, split_off,
+    expect_same, offer, offered, split_off,
 };
 use rb_queue::{Ask, Reply};
 use std::process::Abort;
@@ -31,18 +31,12 @@ fn call_and_tell<R: Wait + Abort>(
     shared.hear(first, answer);
 }
 
-fn expect_closed<R: Wait + Abort>(rt: &R, shared: ListShared, pass: ListPass)
-    requires { pass.table ≡ shared }
-{
-    let (_, _, audit) = shared.close(rt, pass).ok().expect(rt, "all are folded in");
-    expect_audit(rt, audit, all_given(2, 1));
-}
-
 #[test]
 fn a_note_is_no_call_and_no_pass(rt: HostRuntime) {
     let (shared, mut first) = expect_opened(&rt, rt.alloc(), 10);
     let mut second = split_off(&rt, &shared, &mut first, 1);
     call_and_tell(&rt, &shared, &mut first, &mut second);
     shared.fold(&mut first, second);
-    expect_closed(&rt, shared, first);
+    let audit = expect_audit(&rt, shared, first);
+    expect_same(&rt, audit, all_given(2, 1));
 }

@@ -8,7 +8,6 @@ use rb_delayed::{Element, GREATEST_ATTEMPT};
 use rb_queue::Draft;
 use std::process::Abort;
 use std::sync::Wait;
-use std::test::Fail;
 use std::time;
 
 // The number of rounds, each an offer and a take.
@@ -57,8 +56,8 @@ fn expect_moments<R: Wait + Abort>(rt: &R, caller: &mut Caller<'_>) {
 }
 
 #[test]
-fn offers_up_to_the_greatest_moment(rt: HostRuntime) -> Result<(), Fail> {
-    with_caller(rt.alloc(), 20, |caller| expect_moments(&rt, caller))
+fn offers_up_to_the_greatest_moment(rt: HostRuntime) {
+    with_caller(&rt, rt.alloc(), 20, expect_moments);
 }
 
 // Offers an element in each round, and takes it. The round is also its id, its expiry and the
@@ -73,8 +72,8 @@ fn expect_rounds<R: Wait + time::Clock + Abort>(rt: &R, caller: &mut Caller<'_>)
 }
 
 #[test]
-fn offers_after_thousands_of_calls(rt: HostRuntime) -> Result<(), Fail> {
-    with_caller(rt.alloc(), 2 * ROUNDS, |caller| expect_rounds(&rt, caller))
+fn offers_after_thousands_of_calls(rt: HostRuntime) {
+    with_caller(&rt, rt.alloc(), 2 * ROUNDS, expect_rounds);
 }
 
 // Makes such a round with a new pass, and folds it back.
@@ -97,6 +96,6 @@ fn expect_passes<R: Wait + time::Clock + Abort>(rt: &R, caller: &mut Caller<'_>)
 }
 
 #[test]
-fn offers_of_each_pass_are_answered(rt: HostRuntime) -> Result<(), Fail> {
-    with_caller(rt.alloc(), 2 * ROUNDS, |caller| expect_passes(&rt, caller))
+fn offers_of_each_pass_are_answered(rt: HostRuntime) {
+    with_caller(&rt, rt.alloc(), 2 * ROUNDS, expect_passes);
 }

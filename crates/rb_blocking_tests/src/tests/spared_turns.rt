@@ -1,15 +1,13 @@
 // Offers that wake no more calls than may take what is offered. The tests count the turns that the
 // waits make.
 
-use crate::tests::callers::{Caller, in_threads, with_caller};
+use crate::tests::callers::{Caller, Counts, in_threads};
 use crate::tests::fixtures::{await_more, expect_given};
 use rb_blocking::{Clock, MachineClock};
-use std::alloc::Global;
 use std::process::Abort;
 use std::sync::Wait;
 use std::sync::atomic::Ordering;
-use std::test::Fail;
-use std::thread::{Threads, sleep};
+use std::thread::sleep;
 use std::time;
 use std::time::Duration;
 
@@ -76,60 +74,44 @@ fn take_or_offer_due<R: Wait + time::Clock + Abort>(
     caller.pass.calls()
 }
 
-// Runs so many takers and a giver. Asserts the number of calls that each made, and that the waits
-// made at most `more` turns beside those that they may have made by themselves.
-fn expect_few_turns<R: Threads + Wait + time::Clock + Abort + Sync>(
+// Asserts that the waits of so many takers, which began when the clock was made, made at most
+// `more` turns beside those that they may have made by themselves.
+fn expect_few_turns<R: time::Clock + Abort>(
     rt: &R,
-    alloc: Global,
-    first: &mut Caller<'_>,
+    counts: &Counts,
+    clock: &MachineClock<'_, R>,
     takers: u64,
     more: u64,
-    wanted: &[u64],
 ) {
-    let (clock, counts) = (&MachineClock::new(rt), first.counts);
-    let calls = in_threads(
-        rt,
-        alloc,
-        wanted.len(),
-        first,
-        &|caller, number| if takers == 1 {
-            take_or_offer_far_ahead(rt, caller, clock, number)
-        } else {
-            take_or_offer_due(rt, caller, clock, number)
-        },
-    );
-    let rests = clock.now() / REST;
-    let unwoken = rests.saturating_add(2).saturating_mul(takers);
-    expect_at_most(
-        rt,
-        counts.turns.load(Ordering::SeqCst),
-        unwoken.saturating_add(more),
-    );
-    expect_given(rt, calls, wanted);
-}
-
-fn expect_at_most(rt: &impl Abort, turns: u64, most: u64) {
+    let (turns, rests) = (counts.turns.load(Ordering::SeqCst), clock.now() / REST);
+    let most = rests
+        .saturating_add(2)
+        .saturating_mul(takers)
+        .saturating_add(more);
     assert!(rt; turns <= most, "{turns} turns, and not {most} at most");
 }
 
 #[test]
-fn an_offer_of_what_expires_far_ahead_wakes_nobody(rt: HostRuntime) -> Result<(), Fail> {
-    let (more, wanted) = (ELEMENTS / RECENT, [1, ELEMENTS + 1]);
-    with_caller(
-        rt.alloc(),
+fn an_offer_of_what_expires_far_ahead_wakes_nobody(rt: HostRuntime) {
+    let (clock, counts) = (MachineClock::new(&rt), Counts::new());
+    let calls = in_threads(
+        &rt,
         ELEMENTS + 2,
-        |first| expect_few_turns(&rt, rt.alloc(), first, 1, more, &wanted),
-    )
+        &counts,
+        2,
+        &clock,
+        take_or_offer_far_ahead,
+    );
+    expect_few_turns(&rt, &counts, &clock, 1, ELEMENTS / RECENT);
+    expect_given(&rt, calls, &[1, ELEMENTS + 1]);
 }
 
 // Each take makes a turn when it finds nothing at first, and some make one more. If each offer woke
 // all four takers, three of them would make one more each time.
 #[test]
-fn an_offer_of_what_is_due_wakes_one(rt: HostRuntime) -> Result<(), Fail> {
-    let (more, wanted) = (2 * ELEMENTS, [250, 250, 250, 250, 1_000]);
-    with_caller(
-        rt.alloc(),
-        2 * ELEMENTS,
-        |first| expect_few_turns(&rt, rt.alloc(), first, TAKERS, more, &wanted),
-    )
+fn an_offer_of_what_is_due_wakes_one(rt: HostRuntime) {
+    let (clock, counts) = (MachineClock::new(&rt), Counts::new());
+    let calls = in_threads(&rt, 2 * ELEMENTS, &counts, 5, &clock, take_or_offer_due);
+    expect_few_turns(&rt, &counts, &clock, TAKERS, 2 * ELEMENTS);
+    expect_given(&rt, calls, &[250, 250, 250, 250, 1_000]);
 }

@@ -1,16 +1,13 @@
 // Two takers that wait for one element.
 
-use crate::tests::callers::{Caller, Counts, FixedClock, in_threads, with_caller};
+use crate::tests::callers::{Caller, Counts, FixedClock, in_threads};
 use crate::tests::fixtures::{await_more, expect, expect_same};
 use rb_blocking::{Gate, Rested, WaitFault};
 use rb_lock::Pass;
 use rb_timer::Timer;
-use std::alloc::Global;
 use std::process::Abort;
 use std::sync::Wait;
 use std::sync::atomic::Ordering;
-use std::test::Fail;
-use std::thread::Threads;
 use std::time::Clock;
 
 // A gate that ends a wait `left` turns after another taker was served. `left` counts those turns
@@ -46,9 +43,10 @@ impl<'a> Gate for LosersGate<'a> {
 fn take_or_offer<R: Wait + Clock + Abort>(
     rt: &R,
     caller: &mut Caller<'_>,
-    counts: &Counts,
+    _scene: &(),
     number: usize,
 ) -> u64 {
+    let counts = caller.counts;
     if number == 2 {
         await_more(rt, &counts.waits, 1);
         let _ = caller.offer(rt, 9, 9);
@@ -67,32 +65,14 @@ fn take_or_offer<R: Wait + Clock + Abort>(
     served
 }
 
-// Runs two takers and a giver, ten times, each with a pass of its own. Asserts that one taker is
+// Runs two takers and a giver, ten times, each at a queue of its own. Asserts that one taker is
 // served.
-fn expect_one_served<R: Threads + Wait + Clock + Abort + Sync>(
-    rt: &R,
-    alloc: Global,
-    first: &mut Caller<'_>,
-) {
-    for _ in 0..10 {
-        let counts = &Counts::new();
-        let served = in_threads(
-            rt,
-            alloc,
-            3,
-            first,
-            &|caller, number| take_or_offer(rt, caller, counts, number),
-        );
-        expect(rt, served.is_ok());
-        expect_same(rt, counts.taken.load(Ordering::SeqCst), 1);
-    }
-}
-
 #[test]
-fn one_of_two_takers_gets_it_and_the_other_waits_on(rt: HostRuntime) -> Result<(), Fail> {
-    with_caller(
-        rt.alloc(),
-        40,
-        |first| expect_one_served(&rt, rt.alloc(), first),
-    )
+fn one_of_two_takers_gets_it_and_the_other_waits_on(rt: HostRuntime) {
+    for _ in 0..10 {
+        let counts = Counts::new();
+        let served = in_threads(&rt, 4, &counts, 3, &(), take_or_offer);
+        expect(&rt, served.is_ok());
+        expect_same(&rt, counts.taken.load(Ordering::SeqCst), 1);
+    }
 }

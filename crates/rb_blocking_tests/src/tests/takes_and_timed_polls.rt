@@ -8,7 +8,6 @@ use rb_blocking::{Clock, WaitFault};
 use std::process::Abort;
 use std::sync::Wait;
 use std::sync::atomic::{AtomicU64, Ordering};
-use std::test::Fail;
 use std::time;
 
 // Takes at moment 0. The gate allows no turn.
@@ -23,8 +22,8 @@ fn expect_rung_and_taken<R: Wait + time::Clock + Abort>(rt: &R, caller: &mut Cal
 }
 
 #[test]
-fn takes_what_was_offered(rt: HostRuntime) -> Result<(), Fail> {
-    with_caller(rt.alloc(), 4, |caller| expect_rung_and_taken(&rt, caller))
+fn takes_what_was_offered(rt: HostRuntime) {
+    with_caller(&rt, rt.alloc(), 4, expect_rung_and_taken);
 }
 
 // A clock that always reads 7, and counts its readings.
@@ -60,12 +59,8 @@ fn expect_one_reading_a_try<R: Wait + time::Clock + Abort>(rt: &R, caller: &mut 
 }
 
 #[test]
-fn each_try_reads_the_clock_once(rt: HostRuntime) -> Result<(), Fail> {
-    with_caller(
-        rt.alloc(),
-        4,
-        |caller| expect_one_reading_a_try(&rt, caller),
-    )
+fn each_try_reads_the_clock_once(rt: HostRuntime) {
+    with_caller(&rt, rt.alloc(), 4, expect_one_reading_a_try);
 }
 
 // Polls at moment 7: with no timeout, and with one of 5 nanoseconds. The gate allows three turns.
@@ -81,6 +76,6 @@ fn expect_polls<R: Wait + time::Clock + Abort>(rt: &R, caller: &mut Caller<'_>) 
 }
 
 #[test]
-fn polls_until_the_deadline(rt: HostRuntime) -> Result<(), Fail> {
-    with_caller(rt.alloc(), 4, |caller| expect_polls(&rt, caller))
+fn polls_until_the_deadline(rt: HostRuntime) {
+    with_caller(&rt, rt.alloc(), 4, expect_polls);
 }

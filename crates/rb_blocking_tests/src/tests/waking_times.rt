@@ -1,11 +1,10 @@
 // How soon a resting call gets an element that was due when it was offered.
 
-use crate::tests::callers::{Caller, SOON, in_threads, with_caller};
+use crate::tests::callers::{Caller, Counts, SOON, in_threads};
 use crate::tests::fixtures::{await_more, expect, expect_given};
 use rb_blocking::MachineClock;
 use std::process::Abort;
 use std::sync::Wait;
-use std::test::Fail;
 use std::thread::sleep;
 use std::time;
 use std::time::Duration;
@@ -38,16 +37,8 @@ fn take_or_offer<R: Wait + time::Clock + Abort>(
 
 // A take that nobody wakes would get nearly every element about 19 ms late.
 #[test]
-fn a_resting_take_is_woken(rt: HostRuntime) -> Result<(), Fail> {
-    with_caller(rt.alloc(), 2 * ELEMENTS, |first| {
-        let clock = &MachineClock::new(&rt);
-        let calls = in_threads(
-            &rt,
-            rt.alloc(),
-            2,
-            first,
-            &|caller, number| take_or_offer(&rt, caller, clock, number),
-        );
-        expect_given(&rt, calls, &[ELEMENTS; 2]);
-    })
+fn a_resting_take_is_woken(rt: HostRuntime) {
+    let clock = MachineClock::new(&rt);
+    let calls = in_threads(&rt, 2 * ELEMENTS, &Counts::new(), 2, &clock, take_or_offer);
+    expect_given(&rt, calls, &[ELEMENTS; 2]);
 }
