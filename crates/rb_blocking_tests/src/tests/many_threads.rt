@@ -1,7 +1,8 @@
 // Threads that offer, and as many that take. Nothing is lost and nothing doubled, and each seat has
 // exactly the calls that its thread made.
 
-ghost use Rattle.std.specs.Prelude.{◌≡◌};
+ghost use Rattle.std.specs.Prelude.{◌≡◌, ◌<◌};
+ghost use Rattle.std.specs.Thread.{IsSync};
 
 use crate::tests::fixtures::{all_given, expect_closed, expect_opened, expect_same, offer};
 use rb_binary::BinaryTimer;
@@ -81,84 +82,57 @@ fn another<R: Wait + Abort>(rt: &R, shared: &HeapShared, pass: &mut HeapPass) ->
     shared.split(rt, pass).ok().expect(rt, "a name is left")
 }
 
-// Offers `count` elements in one thread and takes as many in another. Then the two passes meet, and
-// the taker's is folded into the giver's, which is returned.
-fn pair<R: Threads + Wait + Abort + Sync>(
+// Runs so many threads, a power of two. By its number, which counts from `number` on, each second
+// one offers `count` elements, and the others take as many. Then their passes meet, and are folded
+// into the first one, which is returned.
+#[cycle(threads)]
+fn run<R: Threads + Wait + Abort + Sync>(
     rt: &R,
     shared: &HeapShared,
-    mut giver: HeapPass,
+    mut pass: HeapPass,
+    number: u64,
+    threads: u64,
     count: u64,
 ) -> HeapPass
-    requires { giver.table ≡ shared.now }
+    requires { pass.table ≡ shared.now }
     ensures { result.table ≡ shared.now }
 {
-    let taker = another(rt, shared, &mut giver);
-    let (mut giver, mut taker) = join(
-        rt,
-        || -> HeapPass
-            requires { giver.table ≡ shared.now }
-            ensures { result.table ≡ shared.entry.now }
-        { offer_all(rt, shared, giver, count) },
-        || -> HeapPass
-            requires { taker.table ≡ shared.now }
-            ensures { result.table ≡ shared.entry.now }
-        { take_all(rt, shared, taker, count) },
-    );
-    shared.meet(&mut giver, &mut taker);
-    shared.fold(&mut giver, taker);
-    giver
+    let half = threads / 2;
+    if half == 0 {
+        return offer_or_take(rt, shared, pass, number, count);
+    }
+    let other = another(rt, shared, &mut pass);
+    let next = number.saturating_add(half);
+    let front = move || -> HeapPass
+        requires { IsSync R.row × (0 < half) × (pass.table ≡ shared.now) }
+        ensures { result.table ≡ shared.entry.now }
+    { run(rt, shared, pass, number, half, count) };
+    let back = move || -> HeapPass
+        requires { IsSync R.row × (0 < half) × (other.table ≡ shared.now) }
+        ensures { result.table ≡ shared.entry.now }
+    { run(rt, shared, other, next, half, count) };
+    let (mut pass, mut other) = join(rt, front, back);
+    shared.meet(&mut pass, &mut other);
+    shared.fold(&mut pass, other);
+    pass
 }
 
-// Runs two such pairs at once, each with `count` elements.
-fn two_pairs<R: Threads + Wait + Abort + Sync>(
+// The work of thread `number`.
+fn offer_or_take<R: Wait + Abort>(
     rt: &R,
     shared: &HeapShared,
-    mut first: HeapPass,
+    pass: HeapPass,
+    number: u64,
     count: u64,
 ) -> HeapPass
-    requires { first.table ≡ shared.now }
-    ensures { result.table ≡ shared.now }
+    requires { pass.table ≡ shared.now }
+    ensures { result.table ≡ pass.table }
 {
-    let second = another(rt, shared, &mut first);
-    let (mut first, second) = join(
-        rt,
-        || -> HeapPass
-            requires { first.table ≡ shared.now }
-            ensures { result.table ≡ shared.entry.now }
-        { pair(rt, shared, first, count) },
-        || -> HeapPass
-            requires { second.table ≡ shared.now }
-            ensures { result.table ≡ shared.entry.now }
-        { pair(rt, shared, second, count) },
-    );
-    shared.fold(&mut first, second);
-    first
-}
-
-// Runs four such pairs at once, each with `count` elements.
-fn four_pairs<R: Threads + Wait + Abort + Sync>(
-    rt: &R,
-    shared: &HeapShared,
-    mut first: HeapPass,
-    count: u64,
-) -> HeapPass
-    requires { first.table ≡ shared.now }
-    ensures { result.table ≡ shared.now }
-{
-    let second = another(rt, shared, &mut first);
-    let (mut first, second) = join(
-        rt,
-        || -> HeapPass
-            requires { first.table ≡ shared.now }
-            ensures { result.table ≡ shared.entry.now }
-        { two_pairs(rt, shared, first, count) },
-        || -> HeapPass
-            requires { second.table ≡ shared.now }
-            ensures { result.table ≡ shared.entry.now }
-        { two_pairs(rt, shared, second, count) },
-    );
-    shared.fold(&mut first, second);
-    first
+    if number % 2 == 0 {
+        offer_all(rt, shared, pass, count)
+    } else {
+        take_all(rt, shared, pass, count)
+    }
 }
 
 // Returns the number of events that seat `seat` has.
@@ -190,27 +164,29 @@ fn expect_calls<R: Wait + Abort>(
     expect_shares(rt, kept.history(), audit, seats, count);
 }
 
-pub(super) fn expect_pair<R: Threads + Wait + Abort + Sync>(rt: &R, alloc: Global, count: u64) {
+// Has so many threads, a power of two, offer and take `count` elements each.
+pub(super) fn expect_run<R: Threads + Wait + Abort + Sync>(
+    rt: &R,
+    alloc: Global,
+    threads: u64,
+    count: u64,
+) {
     let (shared, first) = expect_opened(rt, alloc, ROOM);
-    let folded = pair(rt, &shared, first, count);
-    expect_calls(rt, shared, folded, 2, count);
+    let folded = run(rt, &shared, first, 0, threads, count);
+    expect_calls(rt, shared, folded, threads, count);
 }
 
 #[test]
 fn one_pair_loses_nothing(rt: HostRuntime) {
-    expect_pair(&rt, rt.alloc(), ELEMENTS);
+    expect_run(&rt, rt.alloc(), 2, ELEMENTS);
 }
 
 #[test]
 fn two_pairs_lose_nothing(rt: HostRuntime) {
-    let (shared, first) = expect_opened(&rt, rt.alloc(), ROOM);
-    let folded = two_pairs(&rt, &shared, first, ELEMENTS / 2);
-    expect_calls(&rt, shared, folded, 4, ELEMENTS / 2);
+    expect_run(&rt, rt.alloc(), 4, ELEMENTS / 2);
 }
 
 #[test]
 fn four_pairs_lose_nothing(rt: HostRuntime) {
-    let (shared, first) = expect_opened(&rt, rt.alloc(), ROOM);
-    let folded = four_pairs(&rt, &shared, first, ELEMENTS / 4);
-    expect_calls(&rt, shared, folded, 8, ELEMENTS / 4);
+    expect_run(&rt, rt.alloc(), 8, ELEMENTS / 4);
 }

@@ -2,14 +2,14 @@
 
 use crate::tests::callers::{Caller, Counts, in_threads};
 use crate::tests::fixtures::expect_given;
-use crate::tests::many_threads::expect_pair;
+use crate::tests::many_threads::expect_run;
 use rb_queue::Ask;
 use std::sync::Wait;
 
 #[test]
 fn one_offers_and_one_takes(rt: HostRuntime) {
-    expect_pair(&rt, rt.alloc(), 1);
-    expect_pair(&rt, rt.alloc(), 999);
+    expect_run(&rt, rt.alloc(), 2, 1);
+    expect_run(&rt, rt.alloc(), 2, 999);
 }
 
 // The work of each thread: takes that would wait, so that no event is made, and the lock is taken
