@@ -5,7 +5,7 @@
 ghost use Rattle.std.specs.Prelude.{◌≡◌};
 
 use crate::tests::devices::{FixedClock, ListPass, ListShared, expect_same};
-use crate::tests::fixtures::{kept, offer, opened};
+use crate::tests::fixtures::{kept, offer, opened, split};
 use rb_blocking::{Bell, Clock, MachineClock, TurnGate, WaitFault};
 use rb_kept::Kept;
 use rb_ledger::Tally;
@@ -38,59 +38,60 @@ fn each_of_the_calls(rt: HostRuntime) {
     expect_answers(&rt, rt.alloc(), ROUNDS);
 }
 
-// Makes the calls, in groups, and asserts that all were answered as they have to be. The things of a group are made
-// before its first call. Each round of a group counts the right answers.
+// The calls of a round at a shared queue: at a desk, by two passes, waits that are answered at
+// once, and waits that are stopped.
+#[derive(Clone, Copy)]
+enum Calls {
+    Desk,
+    Passes,
+    Waits,
+    Stops,
+}
+
+// Makes the calls, in groups, and asserts that all were answered as they have to be. The things of
+// a group are made before its first call. Each round of a group counts the right answers.
 fn expect_answers<R: Wait + Abort + time::Clock>(rt: &R, alloc: Global, rounds: u64) {
     expect_same(rt, policies(rounds), rounds.saturating_mul(3));
-    let at_desks = rounds.saturating_mul(11).saturating_add(rounds.min(1));
-    expect_same(rt, at_kept(rt, alloc, rounds), at_desks);
-    expect_same(rt, at_shared(rt, alloc, rounds), at_desks);
-    let through_passes = through_passes(rt, alloc, rounds);
-    expect_same(rt, through_passes, rounds.saturating_mul(10));
-    let waited = waited(rt, alloc, rounds);
-    expect_same(rt, waited, rounds.saturating_mul(4));
-    let stopped = stopped(rt, alloc, rounds);
-    expect_same(rt, stopped, rounds.saturating_mul(3));
+    expect_same(rt, at_kept(rt, alloc, rounds), rights(rounds, 11));
+    for (calls, count) in [
+        (Calls::Desk, 11),
+        (Calls::Passes, 10),
+        (Calls::Waits, 4),
+        (Calls::Stops, 3),
+    ] {
+        expect_same(
+            rt,
+            at_shared(rt, alloc, calls, rounds),
+            rights(rounds, count),
+        );
+    }
     let (shared, pass) = opened(rt, alloc, 10);
     expect_same(rt, closed(rt, shared, pass, rounds), rounds.min(1));
 }
 
+// Returns the number of right answers at a queue: so many in each round, and that of a last clear.
+fn rights(rounds: u64, count: u64) -> u64 {
+    rounds.saturating_mul(count).saturating_add(rounds.min(1))
+}
+
+// Makes the rounds at a kept queue with elements.
 fn at_kept<R: Abort>(rt: &R, alloc: Global, rounds: u64) -> u64 {
     let (mut kept, mut tally) = kept::<ListTimer>(rt, alloc, 10_000);
-    offer_all(rt, &mut KeptDesk::new(&mut kept, &mut tally));
-    kept_desks(rt, &mut kept, &mut tally, rounds)
+    kept_rounds(rt, &mut kept, &mut tally, rounds)
 }
 
-fn at_shared<R: Wait + Abort + time::Clock>(rt: &R, alloc: Global, rounds: u64) -> u64 {
-    let (shared, mut pass) = opened_with_elements(rt, alloc);
-    shared_desks(rt, &shared, &mut pass, rounds)
-}
-
-fn through_passes<R: Wait + Abort + time::Clock>(rt: &R, alloc: Global, rounds: u64) -> u64 {
-    let (shared, mut pass) = opened_with_elements(rt, alloc);
-    pass_rounds(rt, &shared, &mut pass, rounds)
-}
-
-fn waited<R: Wait + Abort + time::Clock>(rt: &R, alloc: Global, rounds: u64) -> u64 {
-    let (shared, mut pass) = opened_with_elements(rt, alloc);
-    wait_rounds(rt, &shared, &mut pass, rounds)
-}
-
-fn stopped<R: Wait + Abort + time::Clock>(rt: &R, alloc: Global, rounds: u64) -> u64 {
-    let (shared, mut pass) = opened(rt, alloc, 10);
-    stop_rounds(rt, &shared, &mut pass, rounds)
-}
-
-// Opens a shared queue, offers the elements, and returns the queue with its first pass.
-fn opened_with_elements<R: Wait + Abort + time::Clock>(
+// Makes the rounds at a shared queue with elements, or without any for waits that are stopped.
+fn at_shared<R: Wait + Abort + time::Clock>(
     rt: &R,
     alloc: Global,
-) -> (ListShared, ListPass)
-    ensures { result.1.table ≡ result.0 }
-{
+    calls: Calls,
+    rounds: u64,
+) -> u64 {
     let (shared, mut pass) = opened(rt, alloc, 10_000);
-    offer_through(rt, &shared, &mut pass);
-    (shared, pass)
+    if !matches!(calls, Calls::Stops) {
+        does_shared(rt, &shared, &mut pass, Deed::Offer);
+    }
+    shared_rounds(rt, &shared, &mut pass, calls, rounds)
 }
 
 fn count(answers: &[bool]) -> u64 {
@@ -121,77 +122,99 @@ fn offer_all<D: Desk>(rt: &impl Abort, desk: &mut D)
     }
 }
 
-// Makes the calls of a desk over a kept queue, with a new desk in each round. Returns the number of
-// right answers.
-fn kept_desks(rt: &impl Abort, kept: &mut Kept<ListTimer>, tally: &mut Tally, rounds: u64) -> u64 {
-    let mut right = 0_u64;
-    for round in 0..rounds {
-        let mut desk = KeptDesk::new(kept, tally);
-        desk.set(LATE);
-        right = right.saturating_add(desk_round(rt, &mut desk, round));
-    }
-    right.saturating_add(clears(&mut KeptDesk::new(kept, tally), rounds))
+// What is done at a new desk: all elements are offered, or the calls of a round are made, or what
+// they have left is cleared.
+#[derive(Clone, Copy)]
+enum Deed {
+    Offer,
+    Round(u64),
+    Clear,
 }
 
-// Makes the calls of a desk over a shared queue, with a new desk in each round. Returns the number
-// of right answers.
-fn shared_desks<R: Wait + Abort + time::Clock>(
+// Does it at a desk, and returns the number of right answers.
+fn does<D: Desk>(rt: &impl Abort, desk: &mut D, deed: Deed) -> u64
+    ensures name { D.name (D.state desk.new) ≡ D.name (D.state desk.old) }
+{
+    match deed {
+        Deed::Offer => {
+            offer_all(rt, desk);
+            0
+        }
+        Deed::Round(round) => desk_round(rt, desk, round),
+        Deed::Clear => u64::from(answers(desk, Ask::Clear)),
+    }
+}
+
+fn does_kept(rt: &impl Abort, kept: &mut Kept<ListTimer>, tally: &mut Tally, deed: Deed) -> u64 {
+    let mut desk = KeptDesk::new(kept, tally);
+    desk.set(LATE);
+    does(rt, &mut desk, deed)
+}
+
+fn does_shared<R: Wait + Abort + time::Clock>(
     rt: &R,
     shared: &ListShared,
     pass: &mut ListPass,
-    rounds: u64,
+    deed: Deed,
 ) -> u64
-    requires { pass.old.table ≡ shared.now }
-{
-    let mut right = 0_u64;
-    for round in 0..rounds {
-        right = right.saturating_add(shared_round(rt, shared, pass, round));
-    }
-    right.saturating_add(shared_clears(rt, shared, pass, rounds))
-}
-
-// Clears what the rounds have left, if there were any. Returns the number of right answers, 1 or 0.
-fn clears<D: Desk>(desk: &mut D, rounds: u64) -> u64 {
-    if rounds == 0 {
-        return 0;
-    }
-    count(&[desk.call(LATE, Ask::Clear).is_ok()])
-}
-
-fn shared_clears<R: Wait + Abort + time::Clock>(
-    rt: &R,
-    shared: &ListShared,
-    pass: &mut ListPass,
-    rounds: u64,
-) -> u64
-    requires { pass.old.table ≡ shared.now }
-{
-    let (clock, mut gate, bell) = (FixedClock(LATE), TurnGate { limit: 0 }, Bell::new());
-    let mut desk = SharedDesk::new(rt, shared, pass, &clock, &mut gate, &bell);
-    clears(&mut desk, rounds)
-}
-
-fn offer_through<R: Wait + Abort + time::Clock>(rt: &R, shared: &ListShared, pass: &mut ListPass)
     requires { pass.old.table ≡ shared.now }
     ensures { pass.new.table ≡ pass.old.table }
 {
     let (clock, mut gate, bell) = (FixedClock(LATE), TurnGate { limit: 0 }, Bell::new());
     let mut desk = SharedDesk::new(rt, shared, pass, &clock, &mut gate, &bell);
-    offer_all(rt, &mut desk);
+    does(rt, &mut desk, deed)
+}
+
+// Makes the calls of each round at a kept queue, and clears it. Returns the number of right
+// answers.
+fn kept_rounds(rt: &impl Abort, kept: &mut Kept<ListTimer>, tally: &mut Tally, rounds: u64) -> u64 {
+    let mut right = does_kept(rt, kept, tally, Deed::Offer);
+    for round in 0..rounds {
+        right = right.saturating_add(does_kept(rt, kept, tally, Deed::Round(round)));
+    }
+    if rounds == 0 {
+        return right;
+    }
+    right.saturating_add(does_kept(rt, kept, tally, Deed::Clear))
+}
+
+// Makes the calls of each round at a shared queue, and clears it. Returns the number of right
+// answers.
+fn shared_rounds<R: Wait + Abort + time::Clock>(
+    rt: &R,
+    shared: &ListShared,
+    pass: &mut ListPass,
+    calls: Calls,
+    rounds: u64,
+) -> u64
+    requires { pass.old.table ≡ shared.now }
+{
+    let mut right = 0_u64;
+    for round in 0..rounds {
+        right = right.saturating_add(shared_round(rt, shared, pass, calls, round));
+    }
+    if rounds == 0 {
+        return right;
+    }
+    right.saturating_add(does_shared(rt, shared, pass, Deed::Clear))
 }
 
 fn shared_round<R: Wait + Abort + time::Clock>(
     rt: &R,
     shared: &ListShared,
     pass: &mut ListPass,
+    calls: Calls,
     round: u64,
 ) -> u64
     requires { pass.old.table ≡ shared.now }
     ensures { pass.new.table ≡ pass.old.table }
 {
-    let (clock, mut gate, bell) = (FixedClock(LATE), TurnGate { limit: 0 }, Bell::new());
-    let mut desk = SharedDesk::new(rt, shared, pass, &clock, &mut gate, &bell);
-    desk_round(rt, &mut desk, round)
+    match calls {
+        Calls::Desk => does_shared(rt, shared, pass, Deed::Round(round)),
+        Calls::Passes => pass_calls(rt, shared, pass, round),
+        Calls::Waits => wait_calls(rt, shared, pass),
+        Calls::Stops => stop_calls(rt, shared, pass),
+    }
 }
 
 // Makes the calls of one round, and returns the number of right answers. Seven elements leave by
@@ -208,14 +231,20 @@ fn desk_round<D: Desk>(rt: &impl Abort, desk: &mut D, round: u64) -> u64
         ends(take(desk).map(Some)),
         ends(poll_for(desk, start, timeout)),
         dies(desk, &policy),
-        desk.call(LATE, Ask::Poll).is_ok(),
-        desk.call(LATE, Ask::Take).is_ok(),
-        desk.call(LATE, Ask::PollFor { start, timeout }).is_ok(),
-        desk.call(LATE, Ask::Peek).is_ok(),
-        desk.call(LATE, Ask::Remove(last)).is_ok(),
-        desk.call(LATE, Ask::Size).is_ok(),
+        answers(desk, Ask::Poll),
+        answers(desk, Ask::Take),
+        answers(desk, Ask::PollFor { start, timeout }),
+        answers(desk, Ask::Peek),
+        answers(desk, Ask::Remove(last)),
+        answers(desk, Ask::Size),
     ];
     count(&answers)
+}
+
+fn answers<D: Desk>(desk: &mut D, ask: Ask) -> bool
+    ensures name { D.name (D.state desk.new) ≡ D.name (D.state desk.old) }
+{
+    desk.call(LATE, ask).is_ok()
 }
 
 // Returns whether a job was fetched. If so, the job is done.
@@ -243,42 +272,29 @@ fn is_dead(failed: &Result<Verdict, (Job, rb_kept::CallFault)>) -> bool {
     matches!(failed, Ok(Verdict::Dead(_)))
 }
 
-// Makes the calls of a pass that is split in two and folded together again in each round. Returns
-// the number of right answers.
-fn pass_rounds<R: Wait + Abort>(
-    rt: &R,
-    shared: &ListShared,
-    pass: &mut ListPass,
-    rounds: u64,
-) -> u64
-    requires { pass.old.table ≡ shared.now }
-{
-    let mut right = 0_u64;
-    for round in 0..rounds {
-        right = right.saturating_add(pass_round(rt, shared, pass, round));
-    }
-    right
-}
-
-fn pass_round<R: Wait + Abort>(rt: &R, shared: &ListShared, pass: &mut ListPass, round: u64) -> u64
+fn is_answered<R: Wait>(rt: &R, shared: &ListShared, pass: &mut ListPass, ask: Ask) -> bool
     requires { pass.old.table ≡ shared.now }
     ensures { pass.new.table ≡ pass.old.table }
 {
-    let Ok(mut other) = shared.split(rt, pass) else {
-        rt.abort()
-    };
+    shared.call(rt, pass, LATE, ask).is_ok()
+}
+
+// Makes the calls of a pass that is split in two and folded together again.
+fn pass_calls<R: Wait + Abort>(rt: &R, shared: &ListShared, pass: &mut ListPass, round: u64) -> u64
+    requires { pass.old.table ≡ shared.now }
+    ensures { pass.new.table ≡ pass.old.table }
+{
+    let mut other = split(rt, shared, pass);
     let (start, timeout) = (0, 5);
     let last = ELEMENTS.saturating_sub(1).saturating_sub(round);
     let calls = pass.calls();
     let answers = [
-        shared.call(rt, &mut other, LATE, Ask::Poll).is_ok(),
-        shared.call(rt, pass, LATE, Ask::Take).is_ok(),
-        shared
-            .call(rt, pass, LATE, Ask::PollFor { start, timeout })
-            .is_ok(),
-        shared.call(rt, pass, LATE, Ask::Peek).is_ok(),
-        shared.call(rt, pass, LATE, Ask::Remove(last)).is_ok(),
-        shared.call(rt, pass, LATE, Ask::Size).is_ok(),
+        is_answered(rt, shared, &mut other, Ask::Poll),
+        is_answered(rt, shared, pass, Ask::Take),
+        is_answered(rt, shared, pass, Ask::PollFor { start, timeout }),
+        is_answered(rt, shared, pass, Ask::Peek),
+        is_answered(rt, shared, pass, Ask::Remove(last)),
+        is_answered(rt, shared, pass, Ask::Size),
         pass.name() == 0 && other.name() > 0,
         other.calls() == 1,
         pass.calls() == calls.saturating_add(5),
@@ -288,24 +304,8 @@ fn pass_round<R: Wait + Abort>(rt: &R, shared: &ListShared, pass: &mut ListPass,
     count(&[pass.calls() == calls.saturating_add(6)]).saturating_add(count(&answers))
 }
 
-// Makes waits that are answered at once, and calls of a bell and of the machine's clock. Returns
-// the number of right answers.
-fn wait_rounds<R: Wait + Abort + time::Clock>(
-    rt: &R,
-    shared: &ListShared,
-    pass: &mut ListPass,
-    rounds: u64,
-) -> u64
-    requires { pass.old.table ≡ shared.now }
-{
-    let mut right = 0_u64;
-    for _ in 0..rounds {
-        right = right.saturating_add(wait_round(rt, shared, pass));
-    }
-    right
-}
-
-fn wait_round<R: Wait + Abort + time::Clock>(
+// Makes waits that are answered at once, and calls of a bell and of the machine's clock.
+fn wait_calls<R: Wait + Abort + time::Clock>(
     rt: &R,
     shared: &ListShared,
     pass: &mut ListPass,
@@ -326,23 +326,8 @@ fn wait_round<R: Wait + Abort + time::Clock>(
     count(&answers)
 }
 
-// Makes waits that are stopped, and a rest that no ring ends. Returns the number of right answers.
-fn stop_rounds<R: Wait + Abort + time::Clock>(
-    rt: &R,
-    shared: &ListShared,
-    pass: &mut ListPass,
-    rounds: u64,
-) -> u64
-    requires { pass.old.table ≡ shared.now }
-{
-    let mut right = 0_u64;
-    for _ in 0..rounds {
-        right = right.saturating_add(stop_round(rt, shared, pass));
-    }
-    right
-}
-
-fn stop_round<R: Wait + Abort + time::Clock>(
+// Makes waits that are stopped, and a rest that no ring ends.
+fn stop_calls<R: Wait + Abort + time::Clock>(
     rt: &R,
     shared: &ListShared,
     pass: &mut ListPass,
@@ -362,19 +347,43 @@ fn stop_round<R: Wait + Abort + time::Clock>(
 
 // Makes a closing that is refused, since a pass with a call is not folded in, and one that is not
 // refused, if there are any rounds. Returns 1 if both were answered so, and otherwise 0.
-fn closed<R: Wait + Abort>(rt: &R, shared: ListShared, mut pass: ListPass, rounds: u64) -> u64
+fn closed<R: Wait + Abort>(rt: &R, shared: ListShared, pass: ListPass, rounds: u64) -> u64
     requires { pass.table ≡ shared }
 {
     if rounds == 0 {
         return 0;
     }
-    let Ok(mut other) = shared.split(rt, &mut pass) else {
-        rt.abort()
-    };
-    let answered = shared.call(rt, &mut other, 0, Ask::Size).is_ok();
-    let Err((shared, mut pass, CloseFault::NotAll(..))) = shared.close(rt, pass) else {
-        rt.abort()
-    };
+    u64::from(closes_at_last(rt, shared, pass))
+}
+
+fn closes_at_last<R: Wait + Abort>(rt: &R, shared: ListShared, mut pass: ListPass) -> bool
+    requires { pass.table ≡ shared }
+{
+    let mut other = split(rt, &shared, &mut pass);
+    let answered = is_answered(rt, &shared, &mut other, Ask::Size);
+    let (shared, mut pass) = handed_back(rt, shared, pass);
     shared.fold(&mut pass, other);
-    count(&[answered && shared.close(rt, pass).is_ok()])
+    answered && closes(rt, shared, pass)
+}
+
+// Makes a closing that is refused, and returns what it hands back.
+fn handed_back<R: Wait + Abort>(
+    rt: &R,
+    shared: ListShared,
+    pass: ListPass,
+) -> (ListShared, ListPass)
+    requires { pass.table ≡ shared }
+    ensures shared { result.0 ≡ shared }
+    ensures pass { result.1.table ≡ shared }
+{
+    match shared.close(rt, pass) {
+        Err((shared, pass, CloseFault::NotAll(..))) => (shared, pass),
+        _ => rt.abort(),
+    }
+}
+
+fn closes(rt: &impl Wait, shared: ListShared, pass: ListPass) -> bool
+    requires { pass.table ≡ shared }
+{
+    shared.close(rt, pass).is_ok()
 }

@@ -3,7 +3,7 @@ use crate::tests::fixtures::{expect, expect_set, kept, offer};
 use rb_binary::BinaryTimer;
 use rb_kept::Kept;
 use rb_ledger::Tally;
-use rb_queue::{Ask, Event};
+use rb_queue::Ask;
 use rb_retry::{Desk, DeskFault, KeptDesk};
 use rb_timer::{ListTimer, Timer};
 use std::alloc::Global;
@@ -32,15 +32,11 @@ fn expect_calls<D: Desk>(rt: &impl Abort, desk: &mut D) {
     expect(rt, desk, 12, Ask::Clear, Err(DeskFault::Full));
 }
 
-fn expect_event(rt: &impl Abort, event: &Event, moments: (u64, u64)) {
-    expect_same(rt, (event.asked, event.at), moments);
-}
-
 fn expect_history<T: Timer>(rt: &impl Abort, kept: &Kept<T>, tally: &Tally) {
     let moments = [(3, 3), (10, 10), (10, 10), (11, 11)];
     expect_same(rt, kept.history().len(), 4);
     for (event, moments) in kept.history().iter().zip(moments) {
-        expect_event(rt, event, moments);
+        expect_same(rt, (event.asked, event.at), moments);
     }
     expect_same(rt, tally.calls(), 4);
 }

@@ -1,7 +1,7 @@
 ghost use Rattle.std.specs.Prelude.{◌≡◌, []};
 ghost use Rattle.rb_ledger.specs.Totals.{nothing};
 
-use crate::tests::devices::{ListPass, ListShared, expect_same};
+use crate::tests::devices::{ListPass, ListShared, expect_holds, expect_same};
 use rb_delayed::Payload;
 use rb_kept::Kept;
 use rb_ledger::Tally;
@@ -11,6 +11,7 @@ use rb_retry::{Desk, DeskFault};
 use rb_timer::Timer;
 use std::alloc::Global;
 use std::process::Abort;
+use std::sync::Wait;
 
 // Each queue is made once more if memory is refused, since `dev/refuse_allocations` refuses the
 // allocations of fixtures too.
@@ -40,6 +41,18 @@ pub fn opened(rt: &impl Abort, alloc: Global, calls: u64) -> (ListShared, ListPa
     }
 }
 
+/// Splits a further pass off.
+pub fn split<R: Wait + Abort>(rt: &R, shared: &ListShared, pass: &mut ListPass) -> ListPass
+    requires { pass.old.table ≡ shared.now }
+    ensures first { pass.new.table ≡ pass.old.table }
+    ensures second { result.table ≡ pass.old.table }
+{
+    let Ok(other) = shared.split(rt, pass) else {
+        rt.abort()
+    };
+    other
+}
+
 /// Returns the payload that each element carries.
 pub fn payload(rt: &impl Abort) -> Payload {
     Payload::new(b"a").ok().expect(rt, "a payload")
@@ -50,11 +63,7 @@ pub fn offer<D: Desk>(rt: &impl Abort, desk: &mut D, asked: u64, expiry: u64)
     ensures name { D.name (D.state desk.new) ≡ D.name (D.state desk.old) }
 {
     let offered = desk.call(asked, Ask::Offer(Draft::first(expiry, payload(rt))));
-    expect_offered(rt, offered);
-}
-
-fn expect_offered(rt: &impl Abort, offered: Result<Reply, DeskFault>) {
-    assert!(rt; offered.is_ok());
+    expect_holds(rt, offered.is_ok());
 }
 
 /// Returns the outcome of a call in short: the id of an element that was taken, a count, `None` for
@@ -79,14 +88,6 @@ pub fn expect<D: Desk>(
     ensures name { D.name (D.state desk.new) ≡ D.name (D.state desk.old) }
 {
     let reply = desk.call(asked, ask);
-    expect_number_of(rt, reply, number);
-}
-
-fn expect_number_of(
-    rt: &impl Abort,
-    reply: Result<Reply, DeskFault>,
-    number: Result<Option<u64>, DeskFault>,
-) {
     expect_same(rt, number_of(&reply), number);
 }
 

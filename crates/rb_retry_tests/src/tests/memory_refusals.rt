@@ -6,13 +6,13 @@
 ghost use Rattle.std.specs.Prelude.{◌≡◌};
 
 use crate::tests::devices::{FixedClock, ListPass, ListShared, expect_holds, expect_same};
-use crate::tests::fixtures::{kept, opened, payload};
+use crate::tests::fixtures::{kept, opened, payload, split};
 use rb_binary::BinaryTimer;
 use rb_blocking::{Bell, TurnGate};
 use rb_delayed::Element;
 use rb_kept::Kept;
 use rb_ledger::{Tally, Totals};
-use rb_lock::{CloseFault, SplitFault};
+use rb_lock::CloseFault;
 use rb_queue::{Act, Ask, Audit, Draft, Event, Reply};
 use rb_retry::{
     Desk, DeskFault, Job, KeptDesk, Policy, Verdict, Work, WorkReport, drain, fail, poll,
@@ -25,7 +25,6 @@ use std::iter::Rev;
 use std::ops::Range;
 use std::process::Abort;
 use std::sync::Wait;
-use std::test::Fail;
 use std::time;
 
 // The number of refusals that the test meets. `dev/refuse_allocations` sets 1 and refuses each
@@ -386,7 +385,10 @@ fn closed<R: Wait + time::Clock + Abort>(
         pass,
         bell: _,
     } = caller;
-    shared.close(rt, pass).map_err(|(_, _, fault)| fault)
+    match shared.close(rt, pass) {
+        Ok(closed) => Ok(closed),
+        Err((_, _, fault)) => Err(fault),
+    }
 }
 
 // Does a row's deed, and once more if it was refused. Returns the number of refusals.
@@ -443,13 +445,15 @@ fn refused_at_kept<T: Timer>(rt: &impl Abort, alloc: Global) -> u32 {
     met
 }
 
-fn refused_at_shared<R: Wait + time::Clock + Abort>(rt: &R, alloc: Global) -> Result<u32, Fail> {
+fn refused_at_shared<R: Wait + time::Clock + Abort>(rt: &R, alloc: Global) -> u32 {
     let mut caller = shared_caller(rt, alloc);
     let met = does_all(rt, &mut caller, 0..ROWS, &mut room(rt, alloc));
     expect_same(rt, caller.bell.count(rt), 90);
-    let (kept, tally, audit) = closed(caller)?;
+    let Ok((kept, tally, audit)) = closed(caller) else {
+        rt.abort()
+    };
     expect_all(rt, kept.history(), audit, tally.totals());
-    Ok(met)
+    met
 }
 
 // Work that lets each job fail, and counts how often each was run. Before that it offers a filler,
@@ -558,28 +562,28 @@ fn works_at_kept<T: Timer>(rt: &impl Abort, alloc: Global) -> u32 {
 fn worked_off_shared<R: Wait + time::Clock + Abort>(
     rt: &R,
     caller: &mut SharedCaller<'_, R>,
-) -> Result<WorkReport, SplitFault> {
+) -> WorkReport {
     let (shared, bell) = (&caller.shared, &caller.bell);
-    let mut second = shared.split(rt, &mut caller.pass)?;
+    let mut second = split(rt, shared, &mut caller.pass);
     let clock = FixedClock(100);
     let (mut gate, mut other) = (TurnGate { limit: 0 }, TurnGate { limit: 0 });
     let crowd = SharedDesk::new(rt, shared, &mut second, &clock, &mut other, bell);
     let mut desk = SharedDesk::new(rt, shared, &mut caller.pass, &clock, &mut gate, bell);
-    Ok(works_off(rt, &mut desk, Some(crowd)))
+    works_off(rt, &mut desk, Some(crowd))
 }
 
 // Works the jobs off at a desk over a shared queue, and returns the number of refusals. A refused
 // attempt loses its job. The totals of both passes, and those of the first, are those of the
 // report.
-fn works_at_shared<R: Wait + time::Clock + Abort>(rt: &R, alloc: Global) -> Result<u32, Fail> {
+fn works_at_shared<R: Wait + time::Clock + Abort>(rt: &R, alloc: Global) -> u32 {
     let mut caller = shared_caller(rt, alloc);
     let met = offers_jobs(rt, alloc, &mut caller);
-    let report = worked_off_shared(rt, &mut caller)?;
+    let report = worked_off_shared(rt, &mut caller);
     let (counted, booked) = (totals_of(report, 0), totals_of(report, report.runs));
     let fault = CloseFault::NotAll(counted, booked);
     expect_same(rt, closed(caller).err(), Some(fault));
     expect_holds(rt, report.lost <= 1);
-    Ok(met.saturating_add(u32::from(report.lost == 1)))
+    met.saturating_add(u32::from(report.lost == 1))
 }
 
 // Offers the jobs of a worker. Returns how often an offer was refused.
@@ -589,19 +593,18 @@ fn offers_jobs<C: Caller>(rt: &impl Abort, alloc: Global, caller: &mut C) -> u32
 }
 
 #[test]
-fn a_refusal_changes_nothing(rt: HostRuntime) -> Result<(), Fail> {
+fn a_refusal_changes_nothing(rt: HostRuntime) {
     let alloc = rt.alloc();
     // The workers come first: the tool ends after several runs in a row that meet no refusal, and a
     // refused filler is not counted.
     let kept_worker = works_at_kept::<BinaryTimer>(&rt, alloc);
-    let shared_worker = works_at_shared(&rt, alloc)?;
+    let shared_worker = works_at_shared(&rt, alloc);
     let kept = refused_at_kept::<BinaryTimer>(&rt, alloc);
-    let shared = refused_at_shared(&rt, alloc)?;
+    let shared = refused_at_shared(&rt, alloc);
     let workers = kept_worker.saturating_add(shared_worker);
     expect_same(
         &rt,
         workers.saturating_add(kept).saturating_add(shared),
         REFUSALS,
     );
-    Ok(())
 }

@@ -3,7 +3,7 @@
 ghost use Rattle.std.specs.Prelude.{◌≡◌};
 
 use crate::tests::devices::{FixedClock, ListPass, ListShared, expect_holds, expect_same};
-use crate::tests::fixtures::{expect, expect_set, offer, opened};
+use crate::tests::fixtures::{expect, expect_set, offer, opened, split};
 use rb_blocking::{Bell, Gate, Rested, TurnGate};
 use rb_kept::{CallFault, Kept};
 use rb_lock::Pass;
@@ -15,7 +15,6 @@ use std::alloc::Global;
 use std::process::Abort;
 use std::sync::Wait;
 use std::sync::atomic::{AtomicBool, Ordering};
-use std::test::Fail;
 use std::thread::{Threads, join};
 use std::time;
 
@@ -59,20 +58,12 @@ fn expect_calls<D: Desk>(rt: &impl Abort, desk: &mut D)
     expect(rt, desk, 12, Ask::Clear, Err(DeskFault::Full));
 }
 
-fn expect_event(rt: &impl Abort, event: &Event, moment: (u64, u64)) {
-    expect_same(
-        rt,
-        (event.seat, event.asked, event.at),
-        (0, moment.0, moment.1),
-    );
-}
-
 // Asserts that the history has four events of seat 0, with their moments.
 fn expect_history(rt: &impl Abort, history: &[Event]) {
-    let moments = [(3, 3), (7, 7), (7, 7), (11, 11)];
+    let wanted = [(0, 3, 3), (0, 7, 7), (0, 7, 7), (0, 11, 11)];
     expect_same(rt, history.len(), 4);
-    for (event, moment) in history.iter().zip(moments) {
-        expect_event(rt, event, moment);
+    for (event, wanted) in history.iter().zip(wanted) {
+        expect_same(rt, (event.seat, event.asked, event.at), wanted);
     }
 }
 
@@ -194,10 +185,6 @@ fn end_of(ended: Result<Verdict, (Job, CallFault)>) -> End {
     }
 }
 
-fn expect_end_of(rt: &impl Abort, ended: Result<Verdict, (Job, CallFault)>, wanted: End) {
-    expect_same(rt, end_of(ended), wanted);
-}
-
 fn two_attempts(rt: &impl Abort) -> Policy {
     Policy::fixed(10, 2).expect(rt, "a policy")
 }
@@ -210,112 +197,101 @@ fn taken(rt: &impl Abort, job: Result<Job, DeskFault>) -> Job {
 fn expect_end<D: Desk>(rt: &impl Abort, desk: &mut D, now: u64, wanted: End) {
     let job = taken(rt, take(desk));
     let ended = fail(desk, &two_attempts(rt), job, now);
-    expect_end_of(rt, ended, wanted);
+    expect_same(rt, end_of(ended), wanted);
 }
 
-fn fails_once<D: Desk>(rt: &impl Abort, desk: &mut D) {
-    offer(rt, desk, 0, 0);
-    expect_end(rt, desk, 7, End::Again(1, 17));
-    expect(rt, desk, 0, Ask::Take, Err(DeskFault::Stopped));
+// What a thread or a pass does at its desk.
+#[derive(Clone, Copy)]
+enum Deed {
+    // Offers an element that is expired at moment 7.
+    Offer,
+    // Takes a job, which is done then.
+    Take,
+    // Offers a job and lets it fail once.
+    Fail,
+    // Takes the next attempt of that job, and lets it fail, so that the job is dead.
+    FailAgain,
 }
 
-// Offers a job and lets it fail once, at a desk over `pass`.
-fn fails_at<R: Wait + time::Clock + Abort>(
+fn does<D: Desk>(rt: &impl Abort, desk: &mut D, deed: Deed) {
+    match deed {
+        Deed::Offer => offer(rt, desk, 7, 7),
+        Deed::Take => {
+            done(taken(rt, take(desk)));
+        }
+        Deed::Fail => {
+            offer(rt, desk, 0, 0);
+            expect_end(rt, desk, 7, End::Again(1, 17));
+            expect(rt, desk, 0, Ask::Take, Err(DeskFault::Stopped));
+        }
+        Deed::FailAgain => expect_end(rt, desk, 17, End::Dead(1)),
+    }
+}
+
+// Does it at a desk over `pass`, which is returned.
+fn does_at<R: Wait + time::Clock + Abort>(
     rt: &R,
     shared: &ListShared,
-    pass: &mut ListPass,
+    mut pass: ListPass,
+    clock: FixedClock,
+    mut gate: TurnGate,
     bell: &Bell,
-)
-    requires { pass.old.table ≡ shared.now }
+    deed: Deed,
+) -> ListPass
+    requires { pass.table ≡ shared.now }
 {
-    let (clock, mut gate) = (FixedClock(7), TurnGate { limit: 0 });
-    let mut desk = SharedDesk::new(rt, shared, pass, &clock, &mut gate, bell);
-    fails_once(rt, &mut desk);
-}
-
-// Takes the next attempt at a desk over `pass`, and lets it fail, so that the job is dead.
-fn dies_at<R: Wait + time::Clock + Abort>(
-    rt: &R,
-    shared: &ListShared,
-    pass: &mut ListPass,
-    bell: &Bell,
-)
-    requires { pass.old.table ≡ shared.now }
-{
-    let (clock, mut gate) = (FixedClock(17), TurnGate { limit: 0 });
-    let mut desk = SharedDesk::new(rt, shared, pass, &clock, &mut gate, bell);
-    expect_end(rt, &mut desk, 17, End::Dead(1));
+    let mut desk = SharedDesk::new(rt, shared, &mut pass, &clock, &mut gate, bell);
+    does(rt, &mut desk, deed);
+    drop(desk);
+    pass
 }
 
 // What one desk offers again, another takes.
 #[test]
-fn desks_share_their_jobs(rt: HostRuntime) -> Result<(), Fail> {
+fn desks_share_their_jobs(rt: HostRuntime) {
     let (shared, mut first) = opened(&rt, rt.alloc(), 4);
-    let mut second = shared.split(&rt, &mut first)?;
+    let second = split(&rt, &shared, &mut first);
     let bell = Bell::new();
-    fails_at(&rt, &shared, &mut first, &bell);
-    dies_at(&rt, &shared, &mut second, &bell);
+    let first = does_at(
+        &rt,
+        &shared,
+        first,
+        FixedClock(7),
+        TurnGate { limit: 0 },
+        &bell,
+        Deed::Fail,
+    );
+    let second = does_at(
+        &rt,
+        &shared,
+        second,
+        FixedClock(17),
+        TurnGate { limit: 0 },
+        &bell,
+        Deed::FailAgain,
+    );
     let counts = (first.calls(), second.calls(), bell.count(&rt));
     expect_same(&rt, counts, (3, 1, 2));
-    Ok(())
 }
 
-fn is_taken(job: Result<Job, DeskFault>) -> bool {
-    job.is_ok()
-}
-
-// Returns whether a take at a desk gets an element before its gate ends the wait.
-fn gets_one<R: Wait + time::Clock>(
-    rt: &R,
-    shared: &ListShared,
-    mut pass: ListPass,
-    bell: &Bell,
-) -> bool
-    requires { pass.table ≡ shared.now }
-{
-    let clock = FixedClock(7);
-    let mut gate = TurnGate { limit: 1_000 };
-    let mut desk = SharedDesk::new(rt, shared, &mut pass, &clock, &mut gate, bell);
-    is_taken(take(&mut desk))
-}
-
-// Offers an element that is expired at once.
-fn offer_one<R: Wait + time::Clock + Abort>(
-    rt: &R,
-    shared: &ListShared,
-    mut pass: ListPass,
-    bell: &Bell,
-)
-    requires { pass.table ≡ shared.now }
-{
-    let clock = FixedClock(7);
-    let mut gate = TurnGate { limit: 0 };
-    let mut desk = SharedDesk::new(rt, shared, &mut pass, &clock, &mut gate, bell);
-    offer(rt, &mut desk, 7, 7);
-}
-
-fn one_gets_what_another_offers<R: Threads + Wait + time::Clock + Abort + Sync>(
-    rt: &R,
-    alloc: Global,
-) -> Result<bool, Fail> {
+// One thread offers, and the other gets what it offers before its gate ends the wait.
+fn expect_handed_over<R: Threads + Wait + time::Clock + Abort + Sync>(rt: &R, alloc: Global) {
     let (shared, mut first) = opened(rt, alloc, 2);
-    let second = shared.split(rt, &mut first)?;
-    let lock = &shared;
-    let bell = &Bell::new();
-    let (got, _) = join(
+    let second = split(rt, &shared, &mut first);
+    let (shared, bell) = (&shared, &Bell::new());
+    let (clock, gate) = (FixedClock(7), TurnGate { limit: 1_000 });
+    join(
         rt,
-        || -> bool
-            requires { second.table ≡ lock.now }
-        { gets_one(rt, lock, second, bell) },
-        || -> ()
-            requires { first.table ≡ lock.now }
-        { offer_one(rt, lock, first, bell) },
+        || -> ListPass
+            requires { second.table ≡ shared.now }
+        { does_at(rt, shared, second, clock, gate, bell, Deed::Take) },
+        || -> ListPass
+            requires { first.table ≡ shared.now }
+        { does_at(rt, shared, first, clock, gate, bell, Deed::Offer) },
     );
-    Ok(got)
 }
 
 #[test]
-fn a_wait_at_a_desk_gets_what_another_offers(rt: HostRuntime) -> Result<(), Fail> {
-    expect_holds(&rt, one_gets_what_another_offers(&rt, rt.alloc())?);
-    Ok(())
+fn a_wait_at_a_desk_gets_what_another_offers(rt: HostRuntime) {
+    expect_handed_over(&rt, rt.alloc());
 }
