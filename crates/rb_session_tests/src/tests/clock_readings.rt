@@ -151,6 +151,7 @@ fn expect_readings(
     expect_end(rt, outcome.ended, Ok(ended), 0);
     expect_bytes(rt, &outcome.text, replies, 0);
     expect_number(rt, outcome.readings, readings, 0);
+    drop(outcome);
 }
 
 // A script with each kind of request.

@@ -106,7 +106,9 @@ pub fn with_kept<T, F: FnOnce(&mut Kept<BinaryTimer>, &mut Tally) -> T>(
     requires { F.IsAlwaysCallable work }
 {
     let (mut kept, mut tally) = kept(rt, alloc, calls);
-    work(&mut kept, &mut tally)
+    let done = work(&mut kept, &mut tally);
+    drop(kept);
+    done
 }
 
 // Makes a kept queue, and tries once more if memory is refused: `dev/refuse_allocations` refuses these allocations too.
@@ -167,6 +169,7 @@ pub fn ran<T: Timer>(
         Sheet::new(alloc, write_fails_at),
     );
     let ended = run(rt, alloc, &mut kept, &mut tally, &mut reader, &mut writer);
+    drop(kept);
     Outcome {
         ended,
         bytes: writer.bytes,
@@ -230,7 +233,8 @@ pub fn expect_made<T, E: Drop>(rt: &impl Abort, made: Result<T, E>) -> T {
     made.ok().expect(rt, "what is made")
 }
 
-// Comparisons are functions without clauses, so tests that call them have nothing to prove.
+// Comparisons are functions without clauses, so tests that call them have nothing to prove. What a
+// function hands over by value, if only to `drop`, has no fields to be dropped in its own proof.
 
 /// Asserts that two values are equal. Each comparison is made here, since each function that asserts
 /// it by itself costs its proof.

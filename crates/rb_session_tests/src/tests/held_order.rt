@@ -46,10 +46,12 @@ fn ran<T: Timer>(rt: &impl Abort, alloc: Global, script: &[u8], held: usize) -> 
         &mut writer,
         &policy,
     );
+    let origins = last_origins(rt, alloc, kept.history(), held);
+    drop(kept);
     Outcome {
         ended,
         text: writer.bytes,
-        origins: last_origins(rt, alloc, kept.history(), held),
+        origins,
     }
 }
 
@@ -58,11 +60,13 @@ fn expect_origins(rt: &impl Abort, origins: &[u64], wanted: &[u64]) {
 }
 
 // Asserts that the jobs that are held at the end fail in the order of their fetches, `held`.
-fn expect_order<T: Timer>(rt: &impl Abort, alloc: Global, dialogue: &Dialogue, held: &[u64]) {
+fn expect_order<T: Timer>(rt: &impl Abort, alloc: Global, dialogue: Dialogue, held: &[u64]) {
     let outcome = ran::<T>(rt, alloc, &dialogue.script, held.len());
     expect_end(rt, outcome.ended, Ok(Ended::EndOfInput { lost: 0 }), 0);
     expect_bytes(rt, &outcome.text, &dialogue.replies, 0);
     expect_origins(rt, &outcome.origins, held);
+    drop(outcome);
+    drop(dialogue);
 }
 
 // Appends the offer of element `id`. It expires at moment `id`, and so is expired: the clock is at
@@ -128,8 +132,8 @@ fn held_on(rt: &impl Abort, alloc: Global) -> Vec<u64> {
 #[test]
 fn jobs_stay_in_order_while_hundreds_end(rt: HostRuntime) {
     let alloc = rt.alloc();
-    let (dialogue, held) = (pairs(&rt, alloc), held_on(&rt, alloc));
-    expect_order::<BinaryTimer>(&rt, alloc, &dialogue, &held);
+    let held = held_on(&rt, alloc);
+    expect_order::<BinaryTimer>(&rt, alloc, pairs(&rt, alloc), &held);
 }
 
 // Appends 54 jobs that are offered, fetched by one request, and done, the last of them first.
@@ -168,8 +172,8 @@ fn drains(rt: &impl Abort, alloc: Global) -> Dialogue {
 #[test]
 fn jobs_stay_in_order_beside_drains(rt: HostRuntime) {
     let alloc = rt.alloc();
-    let dialogue = drains(&rt, alloc);
-    expect_order::<BinaryTimer>(&rt, alloc, &dialogue, &[0, 1, 2, 3, 4, 5, 6, 7, 8, 9]);
+    let held = [0, 1, 2, 3, 4, 5, 6, 7, 8, 9];
+    expect_order::<BinaryTimer>(&rt, alloc, drains(&rt, alloc), &held);
 }
 
 // Returns a dialogue in which one of three held jobs fails while eight elements stand. The timer
@@ -191,5 +195,5 @@ fn refusals(rt: &impl Abort, alloc: Global) -> Dialogue {
 fn a_job_whose_failure_was_refused_keeps_its_place(rt: HostRuntime) {
     let alloc = rt.alloc();
     let dialogue = refusals(&rt, alloc);
-    expect_order::<RefusingTimer<BinaryTimer, 8>>(&rt, alloc, &dialogue, &[0, 1, 2]);
+    expect_order::<RefusingTimer<BinaryTimer, 8>>(&rt, alloc, dialogue, &[0, 1, 2]);
 }

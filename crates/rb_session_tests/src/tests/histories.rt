@@ -30,12 +30,11 @@ fn expect_event(rt: &impl Abort, event: &Event, wanted: u8, moment: (u64, u64)) 
     expect_number(rt, event.seat, 0, 0);
 }
 
-// Asserts what the events did, and for each the moment asked for and the moment at which it took
+// Asserts what the events did. All have the same moment asked for, and the same at which they took
 // place.
-fn expect_events(rt: &impl Abort, events: &[Event], letters: &[u8], moments: &[(u64, u64)]) {
+fn expect_events(rt: &impl Abort, events: &[Event], letters: &[u8], moment: (u64, u64)) {
     expect_count(rt, events.len(), letters.len(), 0);
-    expect_count(rt, events.len(), moments.len(), 0);
-    for (event, (&wanted, &moment)) in events.iter().zip(letters.iter().zip(moments)) {
+    for (event, &wanted) in events.iter().zip(letters) {
         expect_event(rt, event, wanted, moment);
     }
 }
@@ -49,8 +48,9 @@ fn expect_calls<T: Timer>(rt: &impl Abort, alloc: Global) {
     let ended = run(rt, alloc, &mut kept, &mut tally, &mut reader, &mut writer);
     expect_end(rt, ended, Ok(Ended::EndOfInput { lost: 0 }), 0);
     expect_bytes(rt, &writer.bytes, replies, 0);
-    expect_events(rt, kept.history(), b"osnk", &[(100, 100); 4]);
+    expect_events(rt, kept.history(), b"osnk", (100, 100));
     expect_number(rt, tally.calls(), 4, 0);
+    drop(kept);
 }
 
 // What asks nothing of the queue makes no event: `AT`, a line that is no request, and a request
@@ -64,7 +64,7 @@ fn each_call_is_one_event(rt: HostRuntime) {
 // Asserts that the job that is held at the end fails then: the last event offers its second
 // attempt, which expires at `expiry`.
 fn expect_retry(rt: &impl Abort, events: &[Event], expiry: u64) {
-    expect_events(rt, events, b"opo", &[(0, 0); 3]);
+    expect_events(rt, events, b"opo", (0, 0));
     match events.last() {
         Some(
             Event {
@@ -121,12 +121,13 @@ fn expect_read_fault(rt: &impl Abort, alloc: Global, script: &[u8], calls: u64, 
     expect_end(rt, ended, Err(SessionFault::Read { lost }), 0);
     expect_bytes(rt, &writer.bytes, b"OFFERED 0 0\nITEM 0 0 1 a\n", 0);
     expect_failed(rt, kept.history(), lost);
+    drop(kept);
 }
 
 fn expect_failed(rt: &impl Abort, events: &[Event], lost: u64) {
     if lost == 0 {
         expect_retry(rt, events, 1_000);
     } else {
-        expect_events(rt, events, b"op", &[(0, 0); 2]);
+        expect_events(rt, events, b"op", (0, 0));
     }
 }

@@ -27,29 +27,26 @@ fn ran_by<R: Read>(rt: &impl Abort, alloc: Global, reader: &mut R) -> Outcome {
     let mut writer = Sheet::new(alloc, NEVER);
     let policy = Policy::fixed(1_000, 3).expect(rt, "a policy");
     let ended = run_by(alloc, &mut kept, &mut tally, reader, &mut writer, &policy);
+    drop(kept);
     Outcome {
         ended,
         text: writer.bytes,
     }
 }
 
-// Asserts the outcome of a dialogue that is read in pieces of 64 KiB.
-fn expect_dialogue(rt: &impl Abort, alloc: Global, dialogue: &Dialogue) {
-    let mut reader = dialogue.script.as_slice();
-    let outcome = ran_by(rt, alloc, &mut reader);
-    expect_outcome(rt, &outcome, &dialogue.replies);
+// Asserts the outcome of a dialogue, first read in pieces of 64 KiB, and then byte by byte.
+fn expect_dialogue(rt: &impl Abort, alloc: Global, dialogue: Dialogue) {
+    let mut pieces = dialogue.script.as_slice();
+    expect_outcome(rt, ran_by(rt, alloc, &mut pieces), &dialogue.replies);
+    let mut bytes = Bytes::of(&dialogue.script, NEVER);
+    expect_outcome(rt, ran_by(rt, alloc, &mut bytes), &dialogue.replies);
+    drop(dialogue);
 }
 
-// Asserts the outcome of a dialogue that is read byte by byte.
-fn expect_bytewise(rt: &impl Abort, alloc: Global, dialogue: &Dialogue) {
-    let mut reader = Bytes::of(&dialogue.script, NEVER);
-    let outcome = ran_by(rt, alloc, &mut reader);
-    expect_outcome(rt, &outcome, &dialogue.replies);
-}
-
-fn expect_outcome(rt: &impl Abort, outcome: &Outcome, replies: &[u8]) {
+fn expect_outcome(rt: &impl Abort, outcome: Outcome, replies: &[u8]) {
     expect_end(rt, outcome.ended, Ok(Ended::EndOfInput { lost: 0 }), 0);
     expect_bytes(rt, &outcome.text, replies, 0);
+    drop(outcome);
 }
 
 // Appends a line of `count` letters, which is no request. A line of at most 256 bytes is read, and
@@ -77,10 +74,7 @@ fn lines_of_letters(rt: &impl Abort, alloc: Global) -> Dialogue {
 
 #[test]
 fn a_line_of_any_length_is_answered(rt: HostRuntime) {
-    let alloc = rt.alloc();
-    let dialogue = lines_of_letters(&rt, alloc);
-    expect_dialogue(&rt, alloc, &dialogue);
-    expect_bytewise(&rt, alloc, &dialogue);
+    expect_dialogue(&rt, rt.alloc(), lines_of_letters(&rt, rt.alloc()));
 }
 
 // Returns the payload of job `id`, which has 1 to 64 bytes.
@@ -136,10 +130,7 @@ fn rounds(rt: &impl Abort, alloc: Global) -> Dialogue {
 
 #[test]
 fn thousands_of_jobs_are_served(rt: HostRuntime) {
-    let alloc = rt.alloc();
-    let dialogue = rounds(&rt, alloc);
-    expect_dialogue(&rt, alloc, &dialogue);
-    expect_bytewise(&rt, alloc, &dialogue);
+    expect_dialogue(&rt, rt.alloc(), rounds(&rt, rt.alloc()));
 }
 
 // Appends the offers of all jobs while none is expired, so that 2,048 stand. Then sets the clock to
@@ -202,8 +193,5 @@ fn holds(rt: &impl Abort, alloc: Global) -> Dialogue {
 
 #[test]
 fn sixty_four_jobs_are_held_again_and_again(rt: HostRuntime) {
-    let alloc = rt.alloc();
-    let dialogue = holds(&rt, alloc);
-    expect_dialogue(&rt, alloc, &dialogue);
-    expect_bytewise(&rt, alloc, &dialogue);
+    expect_dialogue(&rt, rt.alloc(), holds(&rt, rt.alloc()));
 }

@@ -52,12 +52,13 @@ fn ran_both(
 
 // Asserts that both sessions reach the end of their input, and that the text is `replies` followed
 // by `wanted`.
-fn expect_outcome(rt: &impl Abort, outcome: &Outcome, replies: &[u8], wanted: &[u8], at: usize) {
+fn expect_outcome(rt: &impl Abort, outcome: Outcome, replies: &[u8], wanted: &[u8], at: usize) {
     expect_end(rt, outcome.ended, Ok(Ended::EndOfInput { lost: 0 }), at);
     expect_end(rt, outcome.after, Ok(Ended::EndOfInput { lost: 0 }), at);
     let text = outcome.text.as_slice();
     expect_bytes(rt, text.get(..replies.len()).unwrap_or(text), replies, at);
     expect_bytes(rt, text.get(replies.len()..).unwrap_or(text), wanted, at);
+    drop(outcome);
 }
 
 fn expect_failures(
@@ -69,7 +70,7 @@ fn expect_failures(
 ) {
     let policy = policy.expect(rt, "a policy");
     let outcome = ran_twice(rt, alloc, SCRIPT, &policy);
-    expect_outcome(rt, &outcome, FETCHED, wanted, at);
+    expect_outcome(rt, outcome, FETCHED, wanted, at);
 }
 
 // A delay counts from the failure, and a rate from the first expiry. Neither leads past 2^64 - 1.
@@ -184,7 +185,8 @@ fn expect_one_more(rt: &impl Abort, alloc: Global, policy: &Policy, chain: Chain
     let mut left = Vec::new(alloc);
     chain.push_attempt(rt, &mut left, b"HEAD ", 999);
     push(rt, &mut left, b"SIZE 1\n");
-    expect_outcome(rt, &outcome, &dialogue.replies, &left, at);
+    expect_outcome(rt, outcome, &dialogue.replies, &left, at);
+    drop(dialogue);
 }
 
 // Asserts that nothing follows the 1,000th attempt, which is held at the end or fails by its line.
@@ -201,7 +203,8 @@ fn expect_no_more(
     chain.push_failures(rt, &mut dialogue, 999);
     push(rt, &mut dialogue.script, last.0);
     let outcome = ran_twice(rt, alloc, &dialogue.script, policy);
-    expect_outcome(rt, &outcome, &dialogue.replies, last.1, at);
+    expect_outcome(rt, outcome, &dialogue.replies, last.1, at);
+    drop(dialogue);
 }
 
 fn expect_attempts(

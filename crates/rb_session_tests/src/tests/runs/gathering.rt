@@ -148,11 +148,13 @@ fn cut_off(rt: &impl Abort, alloc: Global, script: &[u8], hands_on: HandsOn) -> 
     let mut sink = Sink::bounded(alloc, 5, true);
     let delivery = Delivery::Gathered(hands_on);
     let ended = session_of(alloc, &mut source, &mut sink, &mut desk, &policy, delivery);
+    let (events, left) = (kept.history().len(), kept.audit().left);
+    drop(kept);
     Cut {
         ended,
         bytes: sink.bytes,
-        events: kept.history().len(),
-        left: kept.audit().left,
+        events,
+        left,
     }
 }
 
