@@ -163,11 +163,11 @@ impl<T: Timer> ReadyScript<T> {
             mut kept,
             mut tally,
             policy,
-            session,
+            mut session,
             text,
         } = self;
         let mut desk = KeptDesk::new(&mut kept, &mut tally);
-        let (writer, session) = run_in(session, reader, writer, &mut desk, &policy);
+        let (writer, session) = run_in(&mut session, reader, writer, &mut desk, &policy);
         (writer, session, kept, text)
     }
 }

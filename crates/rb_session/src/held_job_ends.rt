@@ -1,4 +1,4 @@
-ghost use Rattle.std.specs.Prelude.{◌≡◌, MatchOption, remove};
+ghost use Rattle.std.specs.Prelude.{◌≡◌, [], MatchOption, remove};
 ghost use Rattle.rb_retry.specs.DeskRules.{desk_rules};
 ghost use Rattle.rb_session.specs.Held.{place_of};
 ghost use Rattle.rb_session.specs.Turn.{point, AnswersAlone, IsFailure};
@@ -54,16 +54,16 @@ pub(crate) fn fail_job<D: Desk>(
 
 /// Lets every job that is held fail at the desk's moment, in the order in which they were fetched.
 /// Returns how many are lost, since their next attempt was refused.
-pub(crate) fn fail_all<D: Desk>(desk: &mut D, policy: &Policy, held: HeldJobs) -> u64
-    ensures { Closes (desk_rules D.Desk policy.now) (D.state desk.old) held result (D.state desk.new) }
+pub(crate) fn fail_all<D: Desk>(desk: &mut D, policy: &Policy, held: &mut HeldJobs) -> u64
+    ensures closes { Closes (desk_rules D.Desk policy.now) (D.state desk.old) held.old result (D.state desk.new) }
+    ensures none { held.new ≡ [] }
 {
+    let _ = held.free(); // For the proof: there are few, so the count does not overflow.
     let mut lost = 0;
-    for job in held.into_values() {
-        if let Some(job) = job {
-            let now = desk.now();
-            if fail(desk, policy, job, now).is_err() {
-                lost += 1;
-            }
+    while let Some(job) = held.take_first() {
+        let now = desk.now();
+        if fail(desk, policy, job, now).is_err() {
+            lost += 1;
         }
     }
     lost

@@ -1,11 +1,10 @@
-ghost use Rattle.std.specs.Prelude.{◌≡◌, ◌+◌, ◌-◌, ◌<◌, ◌≤◌, ◌∷◌, ◌++◌, [], List, None, Some, length, map, drop, insert, remove, slice_get, IfOk, MatchResult};
+ghost use Rattle.std.specs.Prelude.{◌≡◌, ◌+◌, ◌-◌, ◌<◌, ◌≤◌, ◌∷◌, ◌++◌, [], List, None, Some, length, map, drop, insert, remove, slice_get, IfOk, IsTrue, MatchOption, MatchResult, ◌↔◌};
 ghost use Rattle.rb_delayed.specs.declared.element.Element.{Element};
 ghost use Rattle.rb_session.specs.Held.{place_of, AreGiven};
 ghost use Rattle.rb_session.specs.JobMap.{present};
 
 use crate::job_map::{find, put, put_all, take};
 use indexmap::IndexMap;
-use indexmap::map::IntoValues;
 use rb_queue::{Ask, Reply};
 use rb_retry::{Desk, DeskFault, Job, drain};
 use std::alloc::{AllocError, Global};
@@ -65,7 +64,9 @@ impl HeldJobs {
     }
 
     /// Whether no job is held.
-    pub(crate) fn is_empty(&self) -> bool {
+    pub(crate) fn is_empty(&self) -> bool
+        ensures { IsTrue result ↔ (length self.now ≡ 0) }
+    {
         self.count == 0
     }
 
@@ -151,17 +152,13 @@ impl HeldJobs {
         Ok(())
     }
 
-    /// The jobs by value, in the order of their fetches.
-    pub(crate) fn into_values(self) -> IntoValues<u64, Option<Job>>
-        ensures jobs { result ≡ map Some self }
-        ensures few { length self ≤ MOST_HELD }
+    /// Takes out the job that was fetched before the others, if one is held.
+    pub(crate) fn take_first(&mut self) -> Option<Job>
+        ensures { MatchOption result ((self.old ≡ []) × (self.new ≡ [])) (λ job. self.old ≡ job ∷ self.new) }
     {
-        let HeldJobs {
-            mut jobs,
-            count,
-            ..
-        } = self;
-        jobs.truncate(count);
-        jobs.into_values()
+        if self.is_empty() {
+            return None;
+        }
+        Some(self.take_out(0))
     }
 }

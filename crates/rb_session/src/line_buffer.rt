@@ -52,6 +52,16 @@ impl LineBuffer {
         })
     }
 
+    /// Drops what is not served.
+    pub(crate) fn clear(&mut self)
+        ensures short { self.new.is_long ≡ false }
+        ensures unread { self.new.start ≡ self.new.end }
+    {
+        self.start = 0;
+        self.end = 0;
+        self.is_long = false;
+    }
+
     /// Takes out the first whole line and reads it. `None` exactly if there is no line feed.
     pub(crate) fn next_request(&mut self) -> Option<Result<Request, LineFault>>
         ensures line { (bytes : List ℕ) → IsUnserved self.old bytes → TakesLine bytes result self.new }

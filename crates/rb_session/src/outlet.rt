@@ -44,12 +44,18 @@ impl<'a, W> Outlet<'a, W> {
         }
     }
 
-    /// The writer. What is still held back is dropped.
-    pub(crate) fn into_writer(self) -> LimitedWriter<'a, W>
-        ensures { result ≡ self.entry.writer }
+    /// The writer, and the room for what is gathered. What is still held back is dropped.
+    pub(crate) fn into_parts(self) -> (LimitedWriter<'a, W>, Vec<u8>)
+        ensures writer { result.0 ≡ self.entry.writer }
+        ensures empty { result.1.items ≡ [] }
     {
-        let Outlet { writer, .. } = self;
-        writer
+        let Outlet {
+            writer,
+            mut gathered,
+            ..
+        } = self;
+        gathered.clear();
+        (writer, gathered)
     }
 
     /// Sends a reply's line in one piece: gathers it or, if there is no room for it behind what is handed on

@@ -20,6 +20,7 @@ use rb_protocol::{LimitedReader, LimitedWriter, Recipient, WriteFault, WriterSta
 use rb_retry::{Desk, Policy};
 use std::alloc::Global;
 use std::io::{Read, Write};
+use std::mem;
 
 /// Serves the lines of a reader until one of them is `QUIT`, or there are no more.
 ///
@@ -92,31 +93,33 @@ pub fn run_limited<'a, R: Read, W: Recipient<D::Witness>, D: Desk>(
     ensures same_reference { reader.new.inner.ghost_name ≡ reader.old.inner.ghost_name }
     ensures name { D.name (D.state desk.new) ≡ D.name (D.state desk.old) }
 {
-    let Ok(room) = SessionRoom::new(alloc, delivery) else {
+    let Ok(mut room) = SessionRoom::new(alloc, delivery) else {
         return (writer, Err(SessionFault::Memory));
     };
-    run_in(room, reader, writer, desk, policy)
+    run_in(&mut room, reader, writer, desk, policy)
 }
 
-/// Runs a session like `run_limited`, in memory that was taken before. So it is never answered by `Memory`.
+/// Runs a session like `run_limited`, in memory that was taken before, and leaves it for the next session. So it is never
+/// answered by `Memory`.
 pub fn run_in<'a, R: Read, W: Recipient<D::Witness>, D: Desk>(
-    room: SessionRoom,
+    room: &mut SessionRoom,
     reader: &mut LimitedReader<'_, R>,
     writer: LimitedWriter<'a, W>,
     desk: &mut D,
     policy: &Policy,
 ) -> (LimitedWriter<'a, W>, Result<Ended, SessionFault>)
     requires { DemandsOnlyAnswers
-        (session_rules (desk_rules D.Desk policy.now) room.delivery (HadGotBehind W.contents (W.contents writer.inner.now)))
+        (session_rules (desk_rules D.Desk policy.now) room.old.delivery (HadGotBehind W.contents (W.contents writer.inner.now)))
         (point (D.state desk.old) []) D.shows R.remaining reader.old.inner.now W.contents W.demands writer.inner.now }
     ensures ran { Exchanges
         (R.remaining reader.old.inner.now) (R.remaining reader.new.inner.now)
         (W.contents writer.entry.inner.now) (W.contents result.0.inner.now)
         (λ came sent. Ran
-        (session_rules (desk_rules D.Desk policy.now) room.delivery (HadGotBehind W.contents (W.contents writer.entry.inner.now)))
+        (session_rules (desk_rules D.Desk policy.now) room.old.delivery (HadGotBehind W.contents (W.contents writer.entry.inner.now)))
         (IsAtEnd (R.remaining reader.new.inner.now))
         (D.state desk.old) (record { came = came; sent = sent; ended = result.1 }) (D.state desk.new)) }
     ensures begun { result.1 ≢ Err SessionFault.Memory }
+    ensures delivery { room.new.delivery ≡ room.old.delivery }
     ensures reason { IsReason reader.old.state reader.new result.1 }
     ensures write_reason { IsWriteReason writer.entry.status.now.state result.0.status.now result.1 }
     ensures on { WritesOn writer.entry result.0 }
@@ -124,15 +127,14 @@ pub fn run_in<'a, R: Read, W: Recipient<D::Witness>, D: Desk>(
     ensures same_reference { reader.new.inner.ghost_name ≡ reader.old.inner.ghost_name }
     ensures name { D.name (D.state desk.new) ≡ D.name (D.state desk.old) }
 {
-    let SessionRoom {
-        gathered,
-        mut session,
-        delivery,
-    } = room;
-    let mut outlet = Outlet::new(writer, gathered, delivery);
-    let stopped = session.serve(reader, &mut outlet, desk, policy);
-    let lost = fail_all(desk, policy, session.held);
-    (outlet.into_writer(), end_of(stopped, lost))
+    let gathered = mem::replace(&mut room.gathered, Vec::new(room.alloc));
+    let mut outlet = Outlet::new(writer, gathered, room.delivery);
+    let stopped = room.session.serve(reader, &mut outlet, desk, policy);
+    let lost = fail_all(desk, policy, &mut room.session.held);
+    room.session.buffer.clear();
+    let (writer, gathered) = outlet.into_parts();
+    room.gathered = gathered;
+    (writer, end_of(stopped, lost))
 }
 
 // How the session ended, with the number of jobs that were lost at its end.

@@ -7,9 +7,10 @@ use std::alloc::{AllocError, Global};
 /// The memory of a session, which it needs before its first read: for the bytes that come, for replies that
 /// are gathered, and for 64 jobs.
 ///
-/// A session that runs in it takes no other memory, except for what is offered and drained.
+/// A session that runs in it takes no other memory, except for what is offered and drained. Then it is there for the next.
 #[derive(Drop)]
 pub struct SessionRoom {
+    pub(crate) alloc: Global,
     pub(crate) gathered: Vec<u8>,
     pub(crate) session: Session,
     pub(crate) delivery: Delivery,
@@ -26,6 +27,7 @@ impl SessionRoom {
         ensures { IfOk result (λ room. room.delivery ≡ delivery) }
     {
         Ok(SessionRoom {
+            alloc,
             gathered: Vec::with_capacity(alloc, delivery.most_held_back())?,
             session: Session::new(alloc)?,
             delivery,

@@ -1,15 +1,18 @@
--- The jobs that were taken out so far have failed, and the lost among them are counted.
-use Rattle.std.proofs.Common.{◌≡◌, ◌≤◌, ◌++◌, Some, length, map}
+-- Those that were taken out so far have failed: once those that are still held have too, all have, and the lost among
+-- both are counted.
+use Rattle.std.proofs.Common.{ℕ, ◌+◌, ◌≤◌, length}
 use Rattle.rb_retry.specs.DeskRules.{desk_rules}
 use Rattle.rb_session.specs.Closing.{Closes}
-use Rattle.rb_session.specs.JobMap.{present}
+use Rattle.rb_session.specs.declared.held_jobs.TheConstants.{MOST_HELD}
 use Rattle.rb_session.proofs.held_job_ends.fail_all.Given as goal
 
 abbrev pub invariant-loop-job : goal.invariant-loop-job
 invariant-loop-job g l = record {
-  can : (goal.iterator-loop-job g).can_next l.job-iterator;
-  ends : (goal.iterator-loop-job g).is_finite l.job-iterator;
-  closes : Closes (desk_rules g.D.Desk l.policy) (g.D.Desk.state l.fn.desk) (present l.yielded) l.lost (g.D.Desk.state l.desk);
-  counted : l.lost ≤ length l.yielded;
-  all : l.yielded ++ l.job-iterator ≡ map (λ element. Some element) l.fn.held;
+  closes : (more : ℕ) (new : g.D.Desk.State)
+      → Closes (desk_rules g.D.Desk l.policy) (g.D.Desk.state l.desk) l.held more new
+      → Closes (desk_rules g.D.Desk l.policy) (g.D.Desk.state l.fn.desk) l.fn.held (l.lost + more) new;
+  few : l.lost + length l.held ≤ MOST_HELD;
 }
+
+abbrev pub decreases-loop-job : goal.decreases-loop-job
+decreases-loop-job g l = length l.held

@@ -95,7 +95,7 @@ whole : (g : Over) (c : After-end_of g)
     → Exchanges (g.R.Read.remaining c.args.reader.now.inner.now)
     (g.R.Read.remaining c.serve-stopped.new.reader.inner.now) (g.W.Recipient.contents c.args.writer.inner.now)
     (g.W.Recipient.contents c.serve-stopped.new.outlet.writer.inner.now) (λ came sent. RanUntil
-    (session_rules (desk_rules g.D.Desk c.args.policy.now) c.args.room.delivery
+    (session_rules (desk_rules g.D.Desk c.args.policy.now) c.args.room.now.delivery
     (HadGotBehind g.W.Recipient.contents (g.W.Recipient.contents c.args.writer.inner.now)))
     (IsAtEnd (g.R.Read.remaining c.serve-stopped.new.reader.inner.now)) (g.D.Desk.state c.args.desk.now)
     (record { came = came; sent = sent; ended = c.end_of.result }) c.end_of.result
@@ -110,7 +110,7 @@ whole g c =
     let over = IsAtEnd (g.R.Read.remaining stop.new.reader.inner.now) in
     let from = g.D.Desk.state c.args.desk.now in
     let desk = desk_rules g.D.Desk c.args.policy.now in
-    let own_rules = session_rules desk c.args.room.delivery (HadGotBehind g.W.Recipient.contents old) in
+    let own_rules = session_rules desk c.args.room.now.delivery (HadGotBehind g.W.Recipient.contents old) in
     let fresh = ap (λ (writer : LimitedWriter g.row.W.Denot). g.W.Recipient.contents writer.inner.now) made.same in
     let got = known_at_first _ old c.new-outlet.result.gathered.items made.empty fresh in
     let grows = subst (λ (first : Option (List ℕ)). KeepsFront first new) fresh stop.ensures.becomes.grows in
@@ -121,14 +121,14 @@ whole g c =
     (stop.ensures.becomes.delivery ∙ made.delivery) (omega (arith, last.few, last.gathered.ok.0)) in
     let stopped =
     stops_by desk g.W.Recipient.contents over from (point (g.D.Desk.state stop.new.desk) stop.new.self.held) did.came did.sent
-    stop.result c.new-outlet.result.delivery c.args.room.delivery made.delivery _ old got _ c.args.room.unheld
+    stop.result c.new-outlet.result.delivery c.args.room.now.delivery made.delivery _ old got _ c.args.room.now.unheld
     did.holds in
     let to = g.D.Desk.state c.fail_all-lost.new.desk in
     subst (λ (ended : Result Ended SessionFault). Exchanges (g.R.Read.remaining c.args.reader.now.inner.now)
     (g.R.Read.remaining stop.new.reader.inner.now) old new (λ came sent. RanUntil own_rules over
     from (record { came = came; sent = sent; ended = ended }) ended to)) (sym c.end_of.ensures)
     (ran own_rules over from (g.D.Desk.state stop.new.desk) to
-    stop.new.self.held c.fail_all-lost.result c.fail_all-lost.ensures _ _ old new did.came did.sent
+    stop.new.self.held c.fail_all-lost.result c.fail_all-lost.ensures.closes _ _ old new did.came did.sent
     c.new-outlet.result.gathered.items last.gathered.items did.consumed made.empty few grows sent stop.result
     stop.ensures.clear stopped)
 
@@ -142,7 +142,7 @@ returns-clause-ran g c =
 pub returns-clause-name : goal.returns-clause-name
 returns-clause-name g c =
     let ran = whole g (goal.at.returns-clause-name g c).After-end_of in
-    stays (session_rules (desk_rules g.D.Desk c.args.policy.now) c.args.room.delivery
+    stays (session_rules (desk_rules g.D.Desk c.args.policy.now) c.args.room.now.delivery
     (HadGotBehind g.W.Recipient.contents (g.W.Recipient.contents c.args.writer.inner.now)))
     g.D.Desk.name g.met.D.Desk.keeps_name g.met.D.Desk.sets_no_name g.met.D.Desk.misses_no_name
     (IsAtEnd (g.R.Read.remaining c.serve-stopped.new.reader.inner.now)) (g.D.Desk.state c.args.desk.now)
@@ -168,18 +168,18 @@ serve-stopped-requires-clause-fair g c =
     let fresh = ap (λ (writer : LimitedWriter g.row.W.Denot). writer.inner.now) made.same in
     let got = known_at_first _ old outlet.gathered.items made.empty (ap g.W.Recipient.contents fresh) in
     subst (λ (delivery : Delivery). DemandsOnlyAnswers (session_rules desk delivery
-    (HadGotBehind g.W.Recipient.contents (sent_to g.W.Recipient outlet))) (point from c.args.room.session.held)
+    (HadGotBehind g.W.Recipient.contents (sent_to g.W.Recipient outlet))) (point from c.args.room.now.session.held)
     g.D.Desk.shows g.R.Read.remaining reader g.W.Recipient.contents g.W.Recipient.demands outlet.writer.inner.now)
     (sym made.delivery)
-    (subst (λ (known : Option (List ℕ)). DemandsOnlyAnswers (session_rules desk c.args.room.delivery
-    (HadGotBehind g.W.Recipient.contents known)) (point from c.args.room.session.held)
+    (subst (λ (known : Option (List ℕ)). DemandsOnlyAnswers (session_rules desk c.args.room.now.delivery
+    (HadGotBehind g.W.Recipient.contents known)) (point from c.args.room.now.session.held)
     g.D.Desk.shows g.R.Read.remaining reader g.W.Recipient.contents g.W.Recipient.demands outlet.writer.inner.now)
     (sym got)
-    (subst (λ (held : List Element). DemandsOnlyAnswers (session_rules desk c.args.room.delivery
+    (subst (λ (held : List Element). DemandsOnlyAnswers (session_rules desk c.args.room.now.delivery
     (HadGotBehind g.W.Recipient.contents old)) (point from held)
     g.D.Desk.shows g.R.Read.remaining reader g.W.Recipient.contents g.W.Recipient.demands outlet.writer.inner.now)
-    (sym c.args.room.unheld)
-    (subst (λ (w : g.row.W.Denot). DemandsOnlyAnswers (session_rules desk c.args.room.delivery
+    (sym c.args.room.now.unheld)
+    (subst (λ (w : g.row.W.Denot). DemandsOnlyAnswers (session_rules desk c.args.room.now.delivery
     (HadGotBehind g.W.Recipient.contents old)) (point from [])
     g.D.Desk.shows g.R.Read.remaining reader g.W.Recipient.contents g.W.Recipient.demands w)
     (sym fresh) c.requires)))
