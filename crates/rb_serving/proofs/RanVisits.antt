@@ -1,5 +1,5 @@
 -- The session of a visit, which was run at a new desk over the pass.
-use Rattle.std.proofs.Common.{◌≡◌, ◌∙◌, sym, ap, subst, ℕ, length, refl, List, Result}
+use Rattle.std.proofs.Common.{◌≡◌, ◌≢◌, ◌∙◌, sym, ap, subst, ℕ, length, refl, List, Result, Err}
 use Rattle.std.specs.Io.KnownBytes.{Appends, Consumes, IsAtEnd}
 use Rattle.rb_protocol.specs.Writes.{WritesOn}
 use Rattle.rb_protocol.specs.declared.streams.limited_reader.LimitedReader.{LimitedReader}
@@ -16,10 +16,13 @@ use Rattle.rb_session.specs.Ran.{Ran}
 use Rattle.rb_session.specs.Reasons.{IsReason, IsWriteReason}
 use Rattle.rb_session.specs.Served.{Served}
 use Rattle.rb_session.specs.declared.ended.Ended.{Ended}
+use Rattle.rb_session.specs.declared.delivery.Delivery.{Delivery}
 use Rattle.rb_session.specs.declared.session_fault.SessionFault.{SessionFault}
+use Rattle.rb_session.specs.declared.session_fault.SessionFault.TheVariants.{Memory}
+use Rattle.rb_session.specs.Rules.{session_rules, HadGotBehind}
 use Rattle.rb_serving.specs.DoorSteps.{DoorStep, Sees, Left}
 use Rattle.rb_serving.specs.Terms.{Terms}
-use Rattle.rb_serving.specs.Visits.{IsDeskOf, LeftVisit, RanVisit, visit_rules}
+use Rattle.rb_serving.specs.Visits.{IsDeskOf, LeftVisit, RanVisit, shared_rules, visit_rules, visit_waits}
 use Rattle.rb_serving.specs.declared.visit.Visit.{Visit}
 
 -- a new desk of the pass
@@ -64,24 +67,30 @@ module _ {I O G C : Type 0} (terms : Terms I O G C) (visit : Visit I O G) (old n
   HasRan = (served : Served) × (served.ended ≡ ended) × RanVisit terms visit reader status writer old served new
 
   -- The session read the visit's reader, which nobody had read yet, and wrote to its writer, to which `made` is the status
-  -- before and `status` after. It was run at a desk of the pass.
+  -- before and `status` after. It was run at a desk of the pass, in memory for replies that are delivered by the terms.
   pub has_ran : (unread : LimitedReader I) (begun left : LimitedWriter O) (made : WriterStatus O) (from to : SharedState C G)
-      → old.table ≡ terms.table → unread.inner.now ≡ visit.reader → unread.state ≡ Open → begun.inner.now ≡ visit.writer
+      (delivery : Delivery) → delivery ≡ terms.delivery → ended ≢ Err Memory → old.table ≡ terms.table → unread.inner.now ≡ visit.reader → unread.state ≡ Open → begun.inner.now ≡ visit.writer
       → begun.status.now ≡ made → made.state ≡ WriterOpen → made.first.value ≡ visit.writer → made.last.value ≡ visit.writer
       → WritesOn begun left → left.inner.now ≡ writer → left.status.now ≡ status
       → IsDeskOf terms.clock visit.gate old from
       → Exchanges (terms.remaining unread.inner.now) (terms.remaining reader.inner.now)
       (terms.contents begun.inner.now) (terms.contents left.inner.now)
-      (λ came sent. Ran (visit_rules terms begun.inner.now) (IsAtEnd (terms.remaining reader.inner.now)) from
+      (λ came sent. Ran (session_rules (shared_rules (visit_waits terms) terms.policy) delivery
+      (HadGotBehind terms.contents (terms.contents begun.inner.now))) (IsAtEnd (terms.remaining reader.inner.now)) from
       (record { came = came; sent = sent; ended = ended }) to)
       → IsReason unread.state reader ended → IsWriteReason begun.status.now.state left.status.now ended
       → to.pass ≡ new → HasRan
-  has_ran unread begun left made from to table reads is_unread writes lends is_open first last on writer_is status_is desk
-      ran reason write_reason seen =
+  has_ran unread begun left made from to delivery delivers had_memory table reads is_unread writes lends is_open first last on
+      writer_is status_is desk ran reason write_reason seen =
+      let as_told = subst (λ (delivery : Delivery). Exchanges (terms.remaining unread.inner.now) (terms.remaining reader.inner.now)
+      (terms.contents begun.inner.now) (terms.contents left.inner.now)
+      (λ came sent. Ran (session_rules (shared_rules (visit_waits terms) terms.policy) delivery
+      (HadGotBehind terms.contents (terms.contents begun.inner.now))) (IsAtEnd (terms.remaining reader.inner.now)) from
+      (record { came = came; sent = sent; ended = ended }) to)) delivers ran in
       let behind = subst (λ (first : O). Exchanges (terms.remaining unread.inner.now) (terms.remaining reader.inner.now)
       (terms.contents first) (terms.contents left.inner.now)
       (λ came sent. Ran (visit_rules terms first) (IsAtEnd (terms.remaining reader.inner.now)) from
-      (record { came = came; sent = sent; ended = ended }) to)) writes ran in (
+      (record { came = came; sent = sent; ended = ended }) to)) writes as_told in (
         record { came = behind.came; sent = behind.sent; ended = ended },
         refl,
         record {
@@ -95,6 +104,7 @@ module _ {I O G C : Type 0} (terms : Terms I O G C) (visit : Visit I O G) (old n
           to = to;
           ran = behind.holds;
           seen = seen;
+          had_memory = had_memory;
           reason = subst (λ (state : ReaderState). IsReason state reader ended) is_unread reason;
           written_first = of_first begun left made status visit.writer writer on lends writes status_is writer_is first;
           written_last = of_last begun left made status visit.writer writer on lends writes status_is writer_is last;

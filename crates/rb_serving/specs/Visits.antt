@@ -1,5 +1,5 @@
 -- What became of those who came to a door, and of the pass of the worker that served them.
-use Rattle.std.specs.Prelude.{◌≡◌, ℕ, min, List, [], ◌∷◌, ◌++◌, length, sum_by, Option, None, Some}
+use Rattle.std.specs.Prelude.{◌≡◌, ◌≢◌, ℕ, min, List, [], ◌∷◌, ◌++◌, length, sum_by, Option, None, Some, Err}
 use Rattle.std.specs.List.{flat_map}
 use Rattle.std.specs.Io.KnownBytes.{Appends, Consumes, IsAtEnd}
 use Rattle.rb_protocol.specs.declared.streams.limited_reader.LimitedReader.{LimitedReader}
@@ -20,6 +20,7 @@ use Rattle.rb_session.specs.Served.{Served}
 use Rattle.rb_session.specs.Ran.{Ran, DemandsOnlyAnswers}
 use Rattle.rb_session.specs.Turn.{point}
 use Rattle.rb_session.specs.Reasons.{IsReason, IsWriteReason}
+use Rattle.rb_session.specs.declared.session_fault.SessionFault.TheVariants.{Memory}
 use Rattle.rb_serving.specs.DoorSteps.{DoorStep, Sees, LetIn, TurnedAway, NoMore, Left}
 use Rattle.rb_serving.specs.Terms.{Terms}
 use Rattle.rb_serving.specs.VisitCounts.{ended_visit, refused_visit}
@@ -82,7 +83,7 @@ module _ {I O G C : Type 0} (terms : Terms I O G C) where
   -- was sent went to its writer, and its gate could end the waits. `reader` and `writer` are what is left of the two,
   -- and `status` is of all that was written to the writer in between.
   -- The input ended only if the last read met its end, a read failed exactly if the session says so, and it gave
-  -- reading up only when all reads had been made. It could not write exactly if it says so.
+  -- reading up only when all reads had been made. It could not write exactly if it says so. Want of memory did not end it.
   pub record RanVisit (visit : Visit I O G) (reader : LimitedReader I) (status : WriterStatus O) (writer : O)
       (old : PassState) (served : Served) (new : PassState) : Type 0 where
     pub table : old.table ≡ terms.table
@@ -93,6 +94,7 @@ module _ {I O G C : Type 0} (terms : Terms I O G C) where
     pub to : SharedState C G
     pub ran : Ran (visit_rules visit.writer) (IsAtEnd (terms.remaining reader.inner.now)) from served to
     pub seen : to.pass ≡ new
+    pub had_memory : served.ended ≢ Err Memory
     pub reason : IsReason Open reader served.ended
     pub written_first : status.first.value ≡ visit.writer
     pub written_last : status.last.value ≡ writer

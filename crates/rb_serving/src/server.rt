@@ -34,8 +34,8 @@ use std::time;
 /// All waits read the same clock. Each reply is written when its request is served; after a write
 /// that failed, no further line of that visit is served. The history that comes back is legal and
 /// has exactly the workers' calls, which are the calls of the sessions that each served until the
-/// door had no more; the counts are those of their visits, none counted twice. Memory is taken for
-/// each session as it begins, and for what is offered and drained.
+/// door had no more; the counts are those of their visits, none counted twice. Each worker takes the
+/// memory of its sessions before anybody is let in; later only offers and drains take memory.
 pub fn serve_door<
     T: Timer + Send,
     D: Door + Drop + Send,

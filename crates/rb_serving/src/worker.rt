@@ -13,7 +13,7 @@ use crate::visit_counts::VisitCounts;
 use rb_blocking::Clock;
 use rb_lock::Pass;
 use rb_protocol::{LimitedReader, LimitedWriter, Recipient, WriterStatus};
-use rb_session::{Ended, SessionFault, run_limited};
+use rb_session::{Ended, SessionFault, SessionRoom, run_in};
 use rb_shared_desk::SharedDesk;
 use rb_timer::Timer;
 use std::sync::{OnceToken, Wait};
@@ -24,11 +24,13 @@ use std::time;
 pub(crate) fn work_with_all<'a, T: Timer, D: Door, C: Clock, V: Decision, R: Wait + time::Clock>(
     rt: &R,
     service: &Service<'a, T, C, V>,
+    room: SessionRoom,
     door: D,
     pass: Pass<T>,
 ) -> (Pass<T>, VisitCounts, D, OnceToken<'a, V>)
 where
     D::Writer: Recipient<Pass<T>>,
+    requires room { room.delivery ≡ service.now.delivery }
     requires pass { pass.table ≡ service.now.shared.now }
     requires unused { IsUnused pass }
     requires unseen { D.has_seen door [] }
@@ -46,24 +48,26 @@ where
 {
     let token = wait_for_decision(rt, service.serves);
     if service.serves.value(&token).serves() {
-        let (pass, counts, door) = work(rt, service, door, pass);
+        let (pass, counts, door) = work(rt, service, room, door, pass);
         (pass, counts, door, token)
     } else {
         (pass, VisitCounts::default(), door, token)
     }
 }
 
-/// Serves one visit after the other at this entrance, until the door has no more.
+/// Serves one visit after the other at this entrance, until the door has no more, each in the same memory.
 ///
 /// The pass makes all their calls and no others. It waits for visits, and while another pass calls.
 pub(crate) fn work<T: Timer, D: Door, C: Clock, V, R: Wait + time::Clock>(
     rt: &R,
     service: &Service<'_, T, C, V>,
+    mut room: SessionRoom,
     mut door: D,
     mut pass: Pass<T>,
 ) -> (Pass<T>, VisitCounts, D)
 where
     D::Writer: Recipient<Pass<T>>,
+    requires room { room.delivery ≡ service.now.delivery }
     requires pass { pass.table ≡ service.now.shared.now }
     requires unused { IsUnused pass }
     requires unseen { D.has_seen door [] }
@@ -82,7 +86,7 @@ where
             None => break,
             Some(Err(DoorFault)) => VisitCounts::of_refusal(),
             Some(Ok(visit)) => {
-                let ended = serve_visit(rt, service, &mut pass, &mut door, visit);
+                let ended = serve_visit(rt, service, &mut room, &mut pass, &mut door, visit);
                 VisitCounts::of_session(&ended)
             }
         };
@@ -97,18 +101,21 @@ where
 fn serve_visit<T: Timer, D: Door, C: Clock, V, R: Wait + time::Clock>(
     rt: &R,
     service: &Service<'_, T, C, V>,
+    room: &mut SessionRoom,
     pass: &mut Pass<T>,
     door: &mut D,
     visit: Visit<D::Reader, D::Writer, D::Gate>,
 ) -> Result<Ended, SessionFault>
 where
     D::Writer: Recipient<Pass<T>>,
+    requires room { room.old.delivery ≡ service.now.delivery }
     requires pass { pass.old.table ≡ service.now.shared.now }
     requires awaited { D.awaits door.old visit pass.old }
     requires honest { Satisfies
         (service_terms D.Reader.Read D.Writer.Recipient D.Gate.Gate C.Clock service.now) D.awaits D.demands }
     ensures ready { D.is_ready door.new pass.new }
     ensures worked { IsWorked pass.old pass.new }
+    ensures room { room.new.delivery ≡ service.now.delivery }
     ensures ran { (served : Served) × (served.ended ≡ result) × LeftVisit
         (service_terms D.Reader.Read D.Writer.Recipient D.Gate.Gate C.Clock service.now) D.has_seen
         door.old visit pass.old served pass.new door.new }
@@ -129,14 +136,7 @@ where
     );
     let mut status = WriterStatus::of(&writer);
     let outlet = LimitedWriter::new(&mut writer, &mut status);
-    let (_, ended) = run_limited(
-        service.alloc,
-        &mut limited,
-        outlet,
-        &mut desk,
-        service.policy,
-        service.delivery,
-    );
+    let (_, ended) = run_in(room, &mut limited, outlet, &mut desk, service.policy);
     drop(desk);
     door.leave(&limited, &status, writer, pass);
     ended

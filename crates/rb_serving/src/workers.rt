@@ -14,6 +14,7 @@ use rb_blocking::Clock;
 use rb_ending::BrokerFault;
 use rb_lock::Pass;
 use rb_protocol::Recipient;
+use rb_session::SessionRoom;
 use rb_timer::Timer;
 use std::snapshot::Snapshot;
 use std::sync::{OnceToken, Wait};
@@ -175,7 +176,8 @@ where
     (door, rest, Ok((pass, more.with(counts))), token)
 }
 
-// Starts a worker for this pass at this entrance. If it can't be started, all leave, and the entrance is given back.
+// Starts a worker for this pass at this entrance, with the memory for its sessions. If it can't be started, all leave,
+// and the entrance is given back.
 fn start_worker<
     's,
     E,
@@ -216,6 +218,10 @@ where
     ensures token { IfErr result (λ left. left.2.of ≡ service.now.serves.now.id) }
     ensures leave { IfErr result (λ left. V.serves left.2.value ≡ false) }
 {
+    let Ok(room) = SessionRoom::new(service.alloc, service.delivery) else {
+        let (token, rest) = start.give_up(rt, service.serves);
+        return Err((entrance, rest, token));
+    };
     let promise = OfWorker {
         service,
         start: Snapshot::of(&child),
@@ -223,8 +229,8 @@ where
     match scope.spawn_with(
         promise,
         move || -> (Pass<T>, VisitCounts, D, OnceToken<'_, V>)
-            requires { (child.table ≡ service.now.shared.now) × IsUnused child × D.has_seen entrance []
-                × D.is_ready entrance child × Satisfies
+            requires { (room.delivery ≡ service.now.delivery) × (child.table ≡ service.now.shared.now) × IsUnused child
+                × D.has_seen entrance [] × D.is_ready entrance child × Satisfies
                 (service_terms D.Reader.Read D.Writer.Recipient D.Gate.Gate C.Clock service.now) D.awaits D.demands }
             ensures { (result.0.table ≡ service.entry.now.shared.now) × (result.0.parts ≡ child.parts)
                 × (result.3.of ≡ service.entry.now.serves.now.id)
@@ -233,7 +239,7 @@ where
                 (service_terms D.Reader.Read D.Writer.Recipient D.Gate.Gate C.Clock service.entry.now)
                 child.capacity child.opening log result.0 result.1)
                 × (V.serves result.3.value ≡ false → (result.0 ≡ child) × D.has_seen result.2 []) }
-        { work_with_all(rt, service, entrance, child) },
+        { work_with_all(rt, service, room, entrance, child) },
     ) {
         Ok(started) => Ok((started, start)),
         Err(refused) => {

@@ -156,13 +156,12 @@ fn served_into<R: Threads + Wait + time::Clock + Abort + Sync>(
     Served { outcome, sent }
 }
 
-// Asserts that a server that ended well has served each visitor except those that were sent
-// nothing, which are its faults, and has the calls of those that were sent an id.
+// Asserts that a server that ended well has served each visitor, and has the calls of those that were
+// sent an id.
 fn expect_report(rt: &impl Abort, counts: Counts, events: usize, sent: Sent, visitors: u64) {
-    expect_counts(rt, counts, visitors, sent.nothing, 0);
+    expect_counts(rt, counts, visitors, 0, 0);
     let (audit, offered) = (counts.audit, sent.offered());
-    let served = offered.saturating_add(sent.refused);
-    expect_number(rt, served.saturating_add(sent.nothing), visitors);
+    expect_number(rt, offered.saturating_add(sent.refused), visitors);
     expect(rt, sent.first <= 1 && sent.second <= sent.first);
     expect_number(rt, audit.calls, offered);
     expect_number(rt, audit.offered, offered);

@@ -9,7 +9,7 @@ pub returns-clause-ran : goal.returns-clause-ran
 returns-clause-ran g c =
     let terms = service_terms g.D.Reader.Read g.D.Writer.Recipient g.D.Gate.Gate g.C.Clock c.args.service.now in
     let limited = c.new-limited.ensures in
-    let session = c.run_limited-ended in
+    let session = c.run_in-ended in
     let outlet = c.new-outlet.ensures in
     let made = c.of-status.ensures in
     let on = session.ensures.on in
@@ -20,7 +20,7 @@ returns-clause-ran g c =
     let status = c.status-2-1.given.0 in
     has_left terms c.args.visit c.args.pass.now _ session.new.reader status writer session.result.1 g.D.Door.has_seen _ _
     (has_ran terms c.args.visit c.args.pass.now _ session.new.reader status writer session.result.1 c.new-limited.result
-    c.new-outlet.result session.result.0 c.of-status.result _ _ c.requires.pass limited.same limited.unread outlet.same
+    c.new-outlet.result session.result.0 c.of-status.result _ _ _ c.requires.room session.ensures.begun c.requires.pass limited.same limited.unread outlet.same
     outlet.status made.«open» made.first made.last on (sym (search (rules, name))) (sym (search (rules, status_name)))
     (is_desk c.args.service.now.clock.now c.args.visit.gate _ c.args.pass.now _ c.new-desk.ensures.state)
     session.ensures.ran session.ensures.reason session.ensures.write_reason (search (rules, desk_name)))
@@ -31,7 +31,7 @@ leave-requires g c =
     let terms = service_terms g.D.Reader.Read g.D.Writer.Recipient g.D.Gate.Gate g.C.Clock c.args.service.now in
     let visit = c.args.visit in
     let limited = c.new-limited.ensures in
-    let session = c.run_limited-ended in
+    let session = c.run_in-ended in
     let outlet = c.new-outlet.ensures in
     let made = c.of-status.ensures in
     let on = session.ensures.on in
@@ -47,7 +47,7 @@ leave-requires g c =
         c.requires.awaited,
         demanded terms visit c.args.pass.now _ session.new.reader status writer session.result.1
             (has_ran terms visit c.args.pass.now _ session.new.reader status writer session.result.1 c.new-limited.result
-            c.new-outlet.result session.result.0 c.of-status.result _ _ c.requires.pass limited.same limited.unread outlet.same
+            c.new-outlet.result session.result.0 c.of-status.result _ _ _ c.requires.room session.ensures.begun c.requires.pass limited.same limited.unread outlet.same
             outlet.status made.«open» made.first made.last on (sym (search (rules, name))) (sym (search (rules, status_name)))
             (is_desk c.args.service.now.clock.now visit.gate _ c.args.pass.now _ c.new-desk.ensures.state)
             session.ensures.ran session.ensures.reason session.ensures.write_reason (search (rules, desk_name)))
@@ -56,9 +56,9 @@ leave-requires g c =
     }
 
 -- while it runs, the visit's writer gets what it demands
-pub run_limited-ended-requires : goal.run_limited-ended-requires
-run_limited-ended-requires g c =
+pub run_in-ended-requires : goal.run_in-ended-requires
+run_in-ended-requires g c =
     let visit = c.args.visit in
     let from = is_desk c.args.service.now.clock.now visit.gate _ c.args.pass.now _ c.new-desk.ensures.state in
     let fair = c.requires.honest.meanwhile c.args.door.now visit c.args.pass.now _ c.requires.awaited c.requires.pass from in
-    rw (sym c.new-limited.ensures.same, sym c.new-outlet.ensures.same) at fair
+    rw (sym c.requires.room, sym c.new-limited.ensures.same, sym c.new-outlet.ensures.same) at fair

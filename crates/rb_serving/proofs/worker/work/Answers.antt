@@ -11,7 +11,8 @@ loop-preserved g c =
     let terms =
     service_terms g.D.Reader.Read g.D.Writer.Recipient g.D.Gate.Gate g.C.Clock c.args.service.now in
     let before = c.loop.invariant in elim c.match-this.branch [
-      | in-Some-Err w ↦ rw (w.pass-is, w.door-is) (record {
+      | in-Some-Err w ↦ rw (w.room-is, w.pass-is, w.door-is) (record {
+        room = before.room;
         worked = before.worked;
         ready = (let ready = c.next-in-loop.ensures.still_ready in search rules);
         visits = works_more terms g.D.Door.has_seen c.loop.door c.next-in-loop.new.self c.args.pass c.loop.pass c.loop.pass
@@ -23,7 +24,8 @@ loop-preserved g c =
           let done = w.serve_visit-ended in
           let ran = done.ensures.ran in
           let left = ran.2 in
-          rw (w.pass-is, w.door-is) (record {
+          rw (w.room-is, w.pass-is, w.door-is) (record {
+            room = done.ensures.room;
             worked = worked_on c.args.pass c.loop.pass done.new.pass before.worked done.ensures.worked;
             ready = done.ensures.ready;
             visits = works_more terms g.D.Door.has_seen c.loop.door done.new.door c.args.pass c.loop.pass done.new.pass
