@@ -1,5 +1,6 @@
-ghost use Rattle.std.specs.Prelude.{ℕ, List, IfOk, IfSome, OnErr};
+ghost use Rattle.std.specs.Prelude.{ℕ, Bool, IfOk, IfSome, OnErr};
 ghost use Rattle.rb_serving.specs.declared.connection.Connection.{Connection};
+ghost use Rattle.rb_serving.specs.declared.connection.ConnectionNeeds.{ConnectionNeeds};
 
 use crate::connection::{Connection, ConnectionNeeds};
 use crate::incoming::Incoming;
@@ -14,11 +15,11 @@ use std::time::Duration;
 
 /// Where a door's clients come from.
 ///
-/// `counts` tells how often a client was asked for, `brings` of the greeting and the connection of one that came, `fails`
-/// that one could not be had, and `closes` that a writer was closed. Code over any listener learns them from these methods
-/// alone: so it can neither put the ends of two connections together, nor say before it failed that somebody could not be
-/// had, nor that a connection was closed that is open. Of what a writer becomes by a write of its own it learns nothing,
-/// so it hands on each as it was.
+/// `counts` tells how often a client was asked for, `brings` of the connection of one that came and what it was to
+/// have, `fails` that one could not be had, and `closes` that a writer was closed, and whether its client was told so.
+/// Code over any listener learns them from these methods alone: so it can neither put the ends of two connections
+/// together, nor say before it failed that somebody could not be had, nor that a connection was closed that is open. Of
+/// what a writer becomes by a write of its own it learns nothing, so it hands on each as it was.
 pub trait Listener {
     /// What a client's requests are read from.
     type Reader: Incoming + Drop;
@@ -28,11 +29,11 @@ pub trait Listener {
 
     ghost counts: { Self → ℕ → Type 0 };
 
-    ghost brings: { Self → List ℕ → Connection Self.Reader Self.Writer → Type 0 };
+    ghost brings: { Self → ConnectionNeeds → Connection Self.Reader Self.Writer → Type 0 };
 
     ghost fails: { Self → Type 0 };
 
-    ghost closes: { Self → Self.Writer → Type 0 };
+    ghost closes: { Self → Self.Writer → Bool → Type 0 };
 
     /// How often a client was asked for before.
     fn ask(&self) -> u64
@@ -45,13 +46,13 @@ pub trait Listener {
         alloc: Global,
         needs: ConnectionNeeds<'_>,
     ) -> io::Result<Option<Connection<Self::Reader, Self::Writer>>>
-        ensures brings { IfOk result (λ came. IfSome came (brings self.now needs.entry.greeting.now)) }
+        ensures brings { IfOk result (λ came. IfSome came (brings self.now needs.entry)) }
         ensures fails { OnErr result (fails self.now) };
 
     /// Closes a writer. The client may first be told that it gets nothing more, so that it reads an end behind all
     /// replies even if it has sent more than was read.
     fn close(&self, writer: Self::Writer, tells_end: bool)
-        ensures { closes self.now writer };
+        ensures { closes self.now writer tells_end };
 }
 
 /// A TCP listener that counts how often a client was asked for.
@@ -91,11 +92,11 @@ impl Listener for CountedListener {
 
     ghost counts = { λ listener asked. Unit {0} };
 
-    ghost brings = { λ listener greeting connection. Unit {0} };
+    ghost brings = { λ listener needs connection. Unit {0} };
 
     ghost fails = { λ listener. Unit {0} };
 
-    ghost closes = { λ listener writer. Unit {0} };
+    ghost closes = { λ listener writer tells_end. Unit {0} };
 
     fn ask(&self) -> u64 {
         self.asked.fetch_add(1, Ordering::SeqCst)

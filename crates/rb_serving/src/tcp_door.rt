@@ -1,7 +1,7 @@
 ghost use Rattle.std.specs.Prelude.{◌≡◌, ◌<◌, OnErr, OnOk, IfErr, IfOk};
 ghost use Rattle.rb_ending.specs.declared.broker_fault.BrokerFault.TheVariants.{Listen};
 ghost use Rattle.rb_serving.specs.TcpReasons.{IsNoMore, ShowsDrain};
-ghost use Rattle.rb_serving.specs.TcpSteps.{IsClient, IsAsked};
+ghost use Rattle.rb_serving.specs.TcpSteps.{AreNeeds, IsBrought, IsPatience, IsClient, IsAsked};
 
 use crate::connection::{Connection, ConnectionNeeds};
 use crate::door::DoorFault;
@@ -110,7 +110,7 @@ impl<'a, L: Listener> TcpDoor<'a, L> {
 
     // What the connection of a client is to have.
     fn needs(&self) -> ConnectionNeeds<'a>
-        ensures { result.greeting ≡ self.now.manners.greeting }
+        ensures { AreNeeds L.Listener self.now result }
     {
         let TcpManners {
             greeting,
@@ -127,12 +127,12 @@ impl<'a, L: Listener> TcpDoor<'a, L> {
         }
     }
 
-    // Lets in a client that was greeted, if it could be.
+    // Lets in a client whose connection has what it was to have.
     fn let_in(
         &self,
         connection: Connection<L::Reader, L::Writer>,
     ) -> TcpVisit<'a, L::Reader, L::Writer>
-        requires brought { L.brings self.now.listener self.now.manners.greeting.now connection }
+        requires brought { IsBrought L.Listener self.now connection }
         ensures { IsClient L.Listener self.now result }
     {
         let patience = self.patience();
@@ -157,7 +157,9 @@ impl<'a, L: Listener> TcpDoor<'a, L> {
     }
 
     // How long its sessions wait for their clients, if not for as long as it takes.
-    fn patience(&self) -> Option<Patience<'a>> {
+    fn patience(&self) -> Option<Patience<'a>>
+        ensures { IsPatience L.Listener self.now result }
+    {
         let TcpManners { silent, ending, .. } = self.manners;
         if silent.is_none() && ending.is_none() {
             return None;
