@@ -108,6 +108,13 @@ class Comers:
         self._is_over.set()
         self._thread.join()
 
+    def await_more(self, count: int) -> None:
+        """Waits until so many more of them were greeted, which a busy machine may take long for."""
+        wanted, end = len(self.greetings) + count, time.monotonic() + PATIENCE
+        while len(self.greetings) < wanted and time.monotonic() < end:
+            time.sleep(0.05)
+        assert len(self.greetings) >= wanted, (self.greetings, self.faults)
+
     def _run(self) -> None:
         while not self._is_over.wait(0.005):
             try:
@@ -123,7 +130,9 @@ def test_restarts(service: Service) -> None:
     service is started again."""
     with service.running(), Comers(service) as comers:
         for _ in range(2):
+            comers.await_more(10)
             assert service.machine.run("systemctl", "restart", service.name) == DONE
+        comers.await_more(10)
         with Client(service.port) as client:
             run = client.greeted().greeting.split(" ")[1]
             id = client.ask("OFFER 0 held") and client.ask("TAKE").split(" ")[1]
@@ -137,7 +146,8 @@ def test_restarts(service: Service) -> None:
         while told.said != "active\n" and time.monotonic() < end:
             told = service.machine.run("systemctl", "is-active", service.name)
         assert told.said == "active\n", told
-    assert not comers.faults and len(comers.greetings) > 100
+    runs = {greeting.split(" ")[1] for greeting in comers.greetings}
+    assert not comers.faults and len(runs) == 3, (comers.faults, runs)
     assert " event=lost-run " not in journal + service.journal()
 
 
